@@ -1,0 +1,4 @@
+pub mod CountingLaws
+mod LimitLaws
+mod PlaceLaws
+pub mod VerdictLaws

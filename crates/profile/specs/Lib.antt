@@ -1,0 +1,10 @@
+pub mod Counting
+pub mod Limits
+pub mod Relations
+pub mod Rules
+pub mod Verdict
+pub mod FirstBroken
+pub mod Judged
+pub mod Build
+pub mod Cases
+pub mod RuleCases

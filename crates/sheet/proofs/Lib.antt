@@ -1,0 +1,2 @@
+pub mod WordLaws
+mod IndexLaws

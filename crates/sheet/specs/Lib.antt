@@ -1,0 +1,3 @@
+pub mod Words
+pub mod Layout
+pub mod Fields

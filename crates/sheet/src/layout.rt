@@ -1,0 +1,98 @@
+// Sections, records and lists.
+use crate::words::word;
+ghost use Prim.Native.Nat.{_*_, _+_, _<_, _≤_};
+ghost use mathlib.Core.Path.{_≡_};
+ghost use Rattle.sheet.specs.Layout.{count, edition, end, entry, field, level, number, offset, reference, size, start};
+ghost use Rattle.sheet.specs.Words.{sheetOf};
+
+// Words of a record, by section.
+const SIZES: [u8; 8] = [16, 8, 5, 16, 3, 2, 1, 7];
+
+pub fn edition(s: &[u8]) -> u16
+    ensures { λ r. ⌜ r ≡ edition (sheetOf (now (s .entry))) ⌝ }
+{
+    word(s, 0)
+}
+
+pub fn level(s: &[u8]) -> u16
+    ensures { λ r. ⌜ r ≡ level (sheetOf (now (s .entry))) ⌝ }
+{
+    word(s, 1)
+}
+
+// How many records a section has.
+pub fn count(s: &[u8], section: u8) -> u16
+    ensures { λ r. ⌜ r ≡ count (sheetOf (now (s .entry))) section ⌝ }
+{
+    word(s, 2 * (section as usize))
+}
+
+pub fn offset(s: &[u8], section: u8) -> u16
+    ensures { λ r. ⌜ r ≡ offset (sheetOf (now (s .entry))) section ⌝ }
+{
+    word(s, 2 * (section as usize) + 1)
+}
+
+// Words of a record of a section, 0 for a number that is no section.
+pub fn size(section: u8) -> u8
+    ensures { λ r. ⌜ r ≡ size section ⌝ }
+{
+    if section < 8 {
+        SIZES[section as usize]
+    } else {
+        0
+    }
+}
+
+// The index of record k, where records of `size` words begin at `from`.
+fn record_index(from: u16, k: u16, size: u8) -> usize
+    ensures { λ r. ⌜ (r ≡ from + k * size) × (r < 33554432) ⌝ }
+{
+    from as usize + (k as usize) * (size as usize)
+}
+
+// The index of a record's first word.
+pub fn start(s: &[u8], section: u8, k: u16) -> usize
+    ensures { λ r. ⌜ (r ≡ start (sheetOf (now (s .entry))) section k) × (r < 33554432) ⌝ }
+{
+    record_index(offset(s, section), k, size(section))
+}
+
+// The end of a section in words, exact; the header ends at 16.
+pub fn end(s: &[u8], section: u8) -> usize
+    ensures { λ r. ⌜ r ≡ end (sheetOf (now (s .entry))) section ⌝ }
+{
+    if section == 0 {
+        16
+    } else {
+        start(s, section, count(s, section))
+    }
+}
+
+// The word at position `at` of a record.
+pub fn field(s: &[u8], section: u8, k: u16, at: u8) -> u16
+    ensures { λ r. ⌜ r ≡ field (sheetOf (now (s .entry))) section k at ⌝ }
+{
+    word(s, start(s, section, k) + at as usize)
+}
+
+// How many entries the list or span at position `at` of a record has.
+pub fn number(s: &[u8], section: u8, k: u16, at: u8) -> u16
+    ensures { λ r. ⌜ r ≡ number (sheetOf (now (s .entry))) section k at ⌝ }
+{
+    word(s, start(s, section, k) + (at as usize + 1))
+}
+
+// The entry at an index of section 6.
+pub fn reference(s: &[u8], i: u32) -> u16
+    ensures { λ r. ⌜ r ≡ reference (sheetOf (now (s .entry))) i ⌝ }
+{
+    word(s, offset(s, 6) as usize + i as usize)
+}
+
+// Entry i of the list at position `at` of a record.
+pub fn entry(s: &[u8], section: u8, k: u16, at: u8, i: u16) -> u16
+    ensures { λ r. ⌜ r ≡ entry (sheetOf (now (s .entry))) section k at i ⌝ }
+{
+    reference(s, field(s, section, k, at) as u32 + i as u32)
+}

@@ -1,0 +1,5 @@
+pub mod Signed
+pub mod Gain
+pub mod Offset
+pub mod Language
+pub mod Values
