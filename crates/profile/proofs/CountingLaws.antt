@@ -1,13 +1,13 @@
 -- Laws of the counting definitions, for any test. Assumes nothing.
 use Prim.Native.Nat.{ℕ, zero, suc, _+_, _<_, _≤_}
 use mathlib.Core.Path.{_≡_, refl, sym, ap, _∙_}
-use mathlib.Core.Bool.{Bool, true, false, true≢false, _||_}
+use mathlib.Core.Bool.{Bool, true, false, true≢false, cond, not, _||_}
 use mathlib.Core.Logic.{⊎-elim}
 use native.Mathlib.Omega.{arith}
-use native.Mathlib.Nat.{eq-or-lt-of-le, le-of-suc-le-suc}
-use lib.Dec.{ltb}
-use borrow.Author.Tests.{ltb-true, ltb-false, lt-ltb}
-use Rattle.profile.specs.Counting.{any, lowest, lowestFrom}
+use native.Mathlib.Nat.{eq-or-lt-of-le, le-of-suc-le-suc, add-zero}
+use lib.Dec.{ltb, eqb}
+use borrow.Author.Tests.{ltb-true, ltb-false, ne-eqb}
+use Rattle.profile.specs.Counting.{any, howMany, lowest, lowestFrom}
 
 module _ (p : ℕ → Bool) where
   -- where the test holds at i the search from i ends there, else it goes on
@@ -89,3 +89,50 @@ any-none p (suc n) e k l = go (any p n) refl (any-none p n)
         ⊎-elim (λ z. let y : k ≡ n = z in rw y (sym (ap (λ (b : Bool). b || p n) q) ∙ e))
         (λ m. h q k m)
         (eq-or-lt-of-le (le-of-suc-le-suc l))
+
+module _ (p : ℕ → Bool) (n : ℕ) where
+  -- what a loop that stops at the first gives
+  pub lowest-at : (i : ℕ) → i < n → ((k : ℕ) → k < i → p k ≡ false) → p i ≡ true → lowest p n ≡ i
+  lowest-at i l before e =
+      (elim (ltb (lowest p n) i) as (λ t. ltb (lowest p n) i ≡ t → lowest p n ≡ i) [
+        | true ↦ λ f.
+            let m : lowest p n < i = ltb-true (lowest p n) i f in
+            absurd (true≢false (sym (lowest-holds p n (omega arith)) ∙ before (lowest p n) m))
+        | false ↦ λ f.
+            ⊎-elim (λ q. sym q) (λ h. absurd (true≢false (sym e ∙ lowest-before p n i h))) (eq-or-lt-of-le (ltb-false (lowest p n) i f))
+      ]) refl
+
+  -- and what one gives that does not stop
+  pub lowest-none : ((k : ℕ) → k < n → p k ≡ false) → lowest p n ≡ n
+  lowest-none none =
+      ⊎-elim (λ q. let z : lowest p n ≡ n = q in z)
+      (λ h. absurd (true≢false (sym (lowest-holds p n h) ∙ none (lowest p n) h)))
+      (eq-or-lt-of-le (lowest-le p n))
+
+or-true : (b : Bool) → (b || true) ≡ true
+or-true true = refl
+or-true false = refl
+
+or-false : (b : Bool) → (b || false) ≡ b
+or-false true = refl
+or-false false = refl
+
+-- some number has the test where not none has
+pub any-howMany : (p : ℕ → Bool) (n : ℕ) → any p n ≡ not (eqb (howMany p n) 0)
+unfolding any howMany
+any-howMany p zero = refl
+any-howMany p (suc n) = go (p n) refl (any-howMany p n)
+  where
+    go : (b : Bool) → p n ≡ b → any p n ≡ not (eqb (howMany p n) 0) → (any p n || p n) ≡ not (eqb (howMany p n + cond (p n) 1 0) 0)
+    go true e h = rw (e, or-true (any p n), ne-eqb (howMany p n + 1) 0 (λ q. let z : howMany p n + 1 ≡ 0 = q in omega arith))
+    go false e h = rw (e, or-false (any p n), h, add-zero)
+
+-- how many is at most all
+pub howMany-le : (p : ℕ → Bool) (n : ℕ) → howMany p n ≤ n
+unfolding howMany
+howMany-le p zero = omega arith
+howMany-le p (suc n) = go (p n) refl (howMany-le p n)
+  where
+    go : (b : Bool) → p n ≡ b → howMany p n ≤ n → howMany p n + cond (p n) 1 0 ≤ suc n
+    go true e h = rw e (omega arith)
+    go false e h = rw e (omega arith)

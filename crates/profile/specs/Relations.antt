@@ -103,28 +103,28 @@ unfoldable pub setFor : Sheet → ℕ → ℕ → ℕ
 setFor s p o = namedSet s p (lowest (λ i. hasSet s o (namedSet s p i)) (number s programmes p setList))
 
 -- where an object has the value of a sort, and the range's minimum and maximum
-unfoldable pub objectValue : Sort → ℕ
+abbrev pub objectValue : Sort → ℕ
 objectValue Gains = objectGain
 objectValue Offsets = objectOffset
 
-unfoldable pub objectMinimum : Sort → ℕ
+abbrev pub objectMinimum : Sort → ℕ
 objectMinimum Gains = objectGainMinimum
 objectMinimum Offsets = objectOffsetMinimum
 
-unfoldable pub objectMaximum : Sort → ℕ
+abbrev pub objectMaximum : Sort → ℕ
 objectMaximum Gains = objectGainMaximum
 objectMaximum Offsets = objectOffsetMaximum
 
 -- the same for a value set
-unfoldable pub setValue : Sort → ℕ
+abbrev pub setValue : Sort → ℕ
 setValue Gains = setGain
 setValue Offsets = setOffset
 
-unfoldable pub setMinimum : Sort → ℕ
+abbrev pub setMinimum : Sort → ℕ
 setMinimum Gains = setGainMinimum
 setMinimum Offsets = setOffsetMinimum
 
-unfoldable pub setMaximum : Sort → ℕ
+abbrev pub setMaximum : Sort → ℕ
 setMaximum Gains = setGainMaximum
 setMaximum Offsets = setOffsetMaximum
 
