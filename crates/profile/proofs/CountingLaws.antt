@@ -7,6 +7,7 @@ use native.Mathlib.Omega.{arith}
 use native.Mathlib.Nat.{eq-or-lt-of-le, le-of-suc-le-suc, add-zero}
 use lib.Dec.{ltb, eqb}
 use borrow.Author.Tests.{ltb-true, ltb-false, ne-eqb}
+use Rattle.profile.proofs.BoolLaws.{or-true, or-false}
 use Rattle.profile.specs.Counting.{any, howMany, lowest, lowestFrom}
 
 module _ (p : ℕ → Bool) where
@@ -108,14 +109,6 @@ module _ (p : ℕ → Bool) (n : ℕ) where
       ⊎-elim (λ q. let z : lowest p n ≡ n = q in z)
       (λ h. absurd (true≢false (sym (lowest-holds p n h) ∙ none (lowest p n) h)))
       (eq-or-lt-of-le (lowest-le p n))
-
-or-true : (b : Bool) → (b || true) ≡ true
-or-true true = refl
-or-true false = refl
-
-or-false : (b : Bool) → (b || false) ≡ b
-or-false true = refl
-or-false false = refl
 
 -- some number has the test where not none has
 pub any-howMany : (p : ℕ → Bool) (n : ℕ) → any p n ≡ not (eqb (howMany p n) 0)

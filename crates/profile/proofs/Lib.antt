@@ -1,3 +1,4 @@
+pub mod BoolLaws
 pub mod CountingLaws
 mod LimitLaws
 mod PlaceLaws

@@ -2,11 +2,11 @@
 -- the section breaks rule N; where the header or a section is the subject, k is 0 and is not read. What a rule says of a sheet that
 -- breaks an earlier one does not matter. Assumes nothing.
 use Prim.Native.Nat.{ℕ, zero, suc, _+_, _-_, _%_}
-use mathlib.Core.Bool.{Bool, true, false, cond, not, xor, _&&_, _||_}
+use mathlib.Core.Bool.{Bool, true, false, cond, not, _&&_, _||_}
 use lib.Dec.{eqb, leb, ltb}
 use Rattle.sheet.specs.Words.{Sheet, wordCount}
 use Rattle.sheet.specs.Layout.{edition, level, count, offset, end, field, first, number, entry}
-use Rattle.sheet.specs.Fields.{programmes, contents, objects, packs, tracks, references, valueSets, programmeLanguage, contentList, setList, programmeLabels, programmeLoudness, contentLanguage, contentObject, contentLabels, contentLoudness, trackList, childList, complementList, interact, setSpan, packKind, packChannels, packFront, trackPack, trackOrdinal, setOwn}
+use Rattle.sheet.specs.Fields.{programmes, contents, objects, packs, tracks, references, valueSets, programmeLanguage, contentList, setList, programmeLabels, programmeLoudness, contentLanguage, contentObject, contentLabels, contentLoudness, trackList, childList, complementList, interact, setSpan, packKind, packChannels, packFront, trackPack, trackOrdinal, setGain, setOwn}
 use Rattle.values.specs.declared.Sort.{Sort}
 use Rattle.values.specs.declared.Sort.the-variants.{Gains, Offsets}
 use Rattle.values.specs.Language.{language, loudness}
@@ -70,7 +70,7 @@ badWords t value minimum maximum =
     not (isAbsent value || isValue t value)
     || not (isAbsent minimum || isMinimum t minimum)
     || not (isAbsent maximum || isMaximum t maximum)
-    || xor (isAbsent minimum) (isAbsent maximum)
+    || (isAbsent minimum && not (isAbsent maximum) || not (isAbsent minimum) && isAbsent maximum)
 
 unfoldable pub badObjectWords : Sheet → ℕ → Sort → Bool
 badObjectWords s o t = badWords t (field s objects o (objectValue t)) (field s objects o (objectMinimum t)) (field s objects o (objectMaximum t))
@@ -254,8 +254,9 @@ ownerAt s p i = owner s (namedSet s p i)
 unfoldable pub setsNamed : Sheet → ℕ → ℕ → ℕ
 setsNamed s p l = howMany (λ i. namesSet s p (member s l i)) (members s l)
 
+-- the seven words from gain on
 unfoldable pub setsDiffer : Sheet → ℕ → ℕ → Bool
-setsDiffer s u v = any (λ f. not (eqb (field s valueSets u f) (field s valueSets v f))) 7
+setsDiffer s u v = any (λ f. not (eqb (field s valueSets u (setGain + f)) (field s valueSets v (setGain + f)))) 7
 
 unfoldable pub rule22 : Sheet → ℕ → ℕ → Bool
 rule22 s section p =

@@ -45,15 +45,15 @@ pub fn size(section: u8) -> u8
 }
 
 // The index of record k, where records of `size` words begin at `from`.
-fn record_index(from: u16, k: u16, size: u8) -> usize
-    ensures { λ r. ⌜ (r ≡ from + k * size) × (r < 33554432) ⌝ }
+fn record_index(from: u16, k: u32, size: u8) -> usize
+    ensures { λ r. ⌜ (r ≡ from + k * size) × (r < 2199023255552) ⌝ }
 {
     from as usize + (k as usize) * (size as usize)
 }
 
 // The index of a record's first word.
-pub fn start(s: &[u8], section: u8, k: u16) -> usize
-    ensures { λ r. ⌜ (r ≡ start (sheetOf (now (s .entry))) section k) × (r < 33554432) ⌝ }
+pub fn start(s: &[u8], section: u8, k: u32) -> usize
+    ensures { λ r. ⌜ (r ≡ start (sheetOf (now (s .entry))) section k) × (r < 2199023255552) ⌝ }
 {
     record_index(offset(s, section), k, size(section))
 }
@@ -65,22 +65,29 @@ pub fn end(s: &[u8], section: u8) -> usize
     if section == 0 {
         16
     } else {
-        start(s, section, count(s, section))
+        start(s, section, count(s, section) as u32)
     }
+}
+
+// The word at position `at` of a record whose number may be past 65535.
+pub fn wide_field(s: &[u8], section: u8, k: u32, at: u8) -> u16
+    ensures { λ r. ⌜ r ≡ field (sheetOf (now (s .entry))) section k at ⌝ }
+{
+    word(s, start(s, section, k) + at as usize)
 }
 
 // The word at position `at` of a record.
 pub fn field(s: &[u8], section: u8, k: u16, at: u8) -> u16
     ensures { λ r. ⌜ r ≡ field (sheetOf (now (s .entry))) section k at ⌝ }
 {
-    word(s, start(s, section, k) + at as usize)
+    wide_field(s, section, k as u32, at)
 }
 
 // How many entries the list or span at position `at` of a record has.
 pub fn number(s: &[u8], section: u8, k: u16, at: u8) -> u16
     ensures { λ r. ⌜ r ≡ number (sheetOf (now (s .entry))) section k at ⌝ }
 {
-    word(s, start(s, section, k) + (at as usize + 1))
+    word(s, start(s, section, k as u32) + (at as usize + 1))
 }
 
 // The entry at an index of section 6.

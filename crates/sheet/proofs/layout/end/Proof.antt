@@ -8,6 +8,9 @@ use Rattle.sheet.proofs.layout.end.Tie as tie
 count-requires : tie.Need-count-requires
 count-requires c κs = search needs
 
+cast-start : tie.Need-cast-start
+cast-start c = search needs
+
 start-requires : tie.Need-start-requires
 start-requires c κs = search needs
 
@@ -20,4 +23,4 @@ unfolding end
 returns-2 c = simp (ne-eqb _ _ (c .before .before .if1 .left), c .start .ensures .0, c .before .count .ensures)
 
 pub end-spec : {M : Type 1} → statement M
-end-spec = tie.close (tie.spec count-requires start-requires returns returns-2)
+end-spec = tie.close (tie.spec count-requires cast-start start-requires returns returns-2)

@@ -1,8 +1,8 @@
 -- A field is the word at its position of the record. Assumes nothing.
 use Rattle.sheet.specs.Layout.{field}
 use borrow.Author.Needs.{needs}
-use Rattle.sheet.proofs.layout.field.Statement.{statement}
-use Rattle.sheet.proofs.layout.field.Tie as tie
+use Rattle.sheet.proofs.layout.wide_field.Statement.{statement}
+use Rattle.sheet.proofs.layout.wide_field.Tie as tie
 
 start-requires : tie.Need-start-requires
 start-requires c κs = search needs
@@ -17,5 +17,5 @@ returns : tie.Need-returns
 unfolding field
 returns c = rw (c .word .ensures, c .before .start .ensures .0)
 
-pub field-spec : {M : Type 1} → statement M
-field-spec = tie.close (tie.spec start-requires add-word word-requires returns)
+pub wide-field-spec : {M : Type 1} → statement M
+wide-field-spec = tie.close (tie.spec start-requires add-word word-requires returns)

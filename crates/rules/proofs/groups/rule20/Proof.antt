@@ -1,0 +1,16 @@
+-- A complement that passes the test. Assumes nothing.
+use Rattle.profile.specs.Rules.{rule20}
+use Rattle.rules.specs.Loops.{anyListed}
+use borrow.Author.Needs.{needs}
+use Rattle.rules.proofs.groups.rule20.Statement.{statement}
+use Rattle.rules.proofs.groups.rule20.Tie as tie
+
+any-listed-requires : tie.Need-any-listed-requires
+any-listed-requires c κs = search needs
+
+returns : tie.Need-returns
+unfolding rule20 anyListed
+returns c = c .any-listed .ensures
+
+pub rule20-spec : {M : Type 1} → statement M
+rule20-spec = tie.close (tie.spec any-listed-requires returns)

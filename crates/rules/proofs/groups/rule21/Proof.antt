@@ -1,0 +1,16 @@
+-- A group that is split. Assumes nothing.
+use Rattle.profile.specs.Rules.{rule21}
+use Rattle.rules.specs.Loops.{anyGroup}
+use borrow.Author.Needs.{needs}
+use Rattle.rules.proofs.groups.rule21.Statement.{statement}
+use Rattle.rules.proofs.groups.rule21.Tie as tie
+
+any-group-requires : tie.Need-any-group-requires
+any-group-requires c κs = search needs
+
+returns : tie.Need-returns
+unfolding rule21 anyGroup
+returns c = c .any-group .ensures
+
+pub rule21-spec : {M : Type 1} → statement M
+rule21-spec = tie.close (tie.spec any-group-requires returns)

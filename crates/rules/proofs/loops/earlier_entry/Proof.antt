@@ -1,0 +1,62 @@
+-- Found so far is what the entries passed have. Assumes nothing.
+use Prim.Native.Nat.{ℕ, _*_, _-_, _<_, _≤_}
+use mathlib.Core.Path.{_≡_, refl, ap, _∙_}
+use native.Mathlib.Omega.{arith}
+use native.Mathlib.Numerals.{add-one}
+use Rattle.profile.specs.Counting.{any}
+use Rattle.sheet.specs.Layout.{entry}
+use Rattle.sheet.specs.Words.{sheetOf}
+use Rattle.rules.specs.Loops.{pairTest, earlierEntry}
+use Rattle.rules.proofs.loops.earlier_entry.Statement.{statement}
+use Rattle.rules.proofs.loops.earlier_entry.Tie as tie
+use borrow.Author.Needs.{needs}
+
+abbrev Inv-loop : tie.InvT-loop
+Inv-loop s section k at test j b found₀ i₀ found i = (i ≤ j) × (found ≡ any (λ h. pairTest (sheetOf s) test (entry (sheetOf s) section k at h) (entry (sheetOf s) section k at j)) i)
+
+abbrev μ-loop : tie.MeasureT-loop
+μ-loop s section k at test j b found₀ i₀ found i = j - i
+
+entry-requires : tie.Need-entry-requires Inv-loop μ-loop
+entry-requires c κs = search needs
+
+loop-holds : tie.Need-loop-holds Inv-loop μ-loop
+unfolding any
+loop-holds c = (search needs, refl)
+
+entry-requires-2 : tie.Need-entry-requires-2 Inv-loop μ-loop
+entry-requires-2 c κs = search needs
+
+pair-test-requires : tie.Need-pair-test-requires Inv-loop μ-loop
+pair-test-requires c κs = search needs
+
+add-i : tie.Need-add-i Inv-loop μ-loop
+add-i c = search needs
+
+loop-less : tie.Need-loop-less Inv-loop μ-loop
+loop-less c = search needs
+
+loop-again : tie.Need-loop-again Inv-loop μ-loop
+unfolding any
+loop-again c = (search needs, rw (add-one, c .pair-test .ensures, c .before .entry2 .ensures, c .before .before .before .before .entry .ensures, c .before .before .before .loop .inv .1))
+
+returns : tie.Need-returns Inv-loop μ-loop
+unfolding earlierEntry
+returns c =
+    let e : c .before .loop .i ≡ c .before .before .before .before .args .j = omega arith in
+    c .before .loop .inv .1 ∙ ap (any _) e
+
+pub earlier-entry-spec : {M : Type 1} → statement M
+earlier-entry-spec =
+    tie.close
+    (tie.spec
+    Inv-loop
+    μ-loop
+    entry-requires
+    loop-holds
+    entry-requires-2
+    pair-test-requires
+    add-i
+    loop-less
+    loop-again
+    returns)

@@ -1,0 +1,55 @@
+-- What only a top object may have. Assumes nothing.
+use Rattle.profile.specs.Rules.{rule15}
+use borrow.Author.Needs.{needs}
+use Rattle.rules.proofs.objects.rule15.Statement.{statement}
+use Rattle.rules.proofs.objects.rule15.Tie as tie
+
+top-requires : tie.Need-top-requires
+top-requires c κs = search needs
+
+leader-requires : tie.Need-leader-requires
+leader-requires c κs = search needs
+
+field-requires : tie.Need-field-requires
+field-requires c κs = search needs
+
+number-requires : tie.Need-number-requires
+number-requires c κs = search needs
+
+field-requires-2 : tie.Need-field-requires-2
+field-requires-2 c κs = search needs
+
+is-absent-requires : tie.Need-is-absent-requires
+is-absent-requires c κs = search needs
+
+field-requires-3 : tie.Need-field-requires-3
+field-requires-3 c κs = search needs
+
+is-absent-requires-2 : tie.Need-is-absent-requires-2
+is-absent-requires-2 c κs = search needs
+
+object-range-requires : tie.Need-object-range-requires
+object-range-requires c κs = search needs
+
+object-range-requires-2 : tie.Need-object-range-requires-2
+object-range-requires-2 c κs = search needs
+
+returns : tie.Need-returns
+unfolding rule15
+returns c = simp (c .object-range2 .ensures, c .before .object-range .ensures, c .before .before .is-absent2 .ensures, c .before .before .before .field3 .ensures, c .before .before .before .before .is-absent .ensures, c .before .before .before .before .before .field2 .ensures, c .before .before .before .before .before .before .number .ensures, c .before .before .before .before .before .before .before .field .ensures, c .before .before .before .before .before .before .before .before .leader .ensures, c .before .before .before .before .before .before .before .before .before .top .ensures)
+
+pub rule15-spec : {M : Type 1} → statement M
+rule15-spec =
+    tie.close
+    (tie.spec
+    top-requires
+    leader-requires
+    field-requires
+    number-requires
+    field-requires-2
+    is-absent-requires
+    field-requires-3
+    is-absent-requires-2
+    object-range-requires
+    object-range-requires-2
+    returns)

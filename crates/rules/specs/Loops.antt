@@ -1,0 +1,66 @@
+-- What each loop of the rules computes, over any of its tests. Assumes nothing.
+use Prim.Native.Nat.{ℕ, _+_}
+use mathlib.Core.Bool.{Bool, not, _&&_}
+use lib.Dec.{eqb}
+use Rattle.sheet.specs.Words.{Sheet}
+use Rattle.sheet.specs.Layout.{count, field, first, number, entry}
+use Rattle.sheet.specs.Fields.{objects, tracks, valueSets, trackList, setSpan, trackOrdinal, setOwn}
+use Rattle.profile.specs.Counting.{any, howMany, sum, twoOf}
+use Rattle.profile.specs.Relations.{times, leader, leaderOf, members, includes, included, whollyIncluded, owner}
+use Rattle.profile.specs.Rules.{badComplement, differs, channels, trackAt, setsNamed, setsDiffer}
+use Rattle.rules.specs.declared.PairTest.{PairTest}
+use Rattle.rules.specs.declared.PairTest.the-variants.{Same, OneOwner, DifferInGroup}
+use Rattle.rules.specs.declared.ListedTest.{ListedTest}
+use Rattle.rules.specs.declared.ListedTest.the-variants.{BadComplement, DiffersFrom, NotIncluded}
+use Rattle.rules.specs.declared.GroupTest.{GroupTest}
+use Rattle.rules.specs.declared.GroupTest.the-variants.{SplitBy, PartlySetBy}
+
+-- two entries pass the test
+abbrev pub pairTest : Sheet → PairTest → ℕ → ℕ → Bool
+pairTest s Same a b = eqb a b
+pairTest s OneOwner a b = eqb (owner s a) (owner s b)
+pairTest s DifferInGroup a b = eqb (leaderOf s (owner s a)) (leaderOf s (owner s b)) && setsDiffer s a b
+
+-- an entry before place j of the list passes it with the one there
+unfoldable pub earlierEntry : Sheet → ℕ → ℕ → ℕ → PairTest → ℕ → Bool
+earlierEntry s section k at test j = any (λ i. pairTest s test (entry s section k at i) (entry s section k at j)) j
+
+-- two entries of the list pass it
+unfoldable pub twoEntries : Sheet → ℕ → ℕ → ℕ → PairTest → Bool
+twoEntries s section k at test = twoOf (λ i j. pairTest s test (entry s section k at i) (entry s section k at j)) (number s section k at)
+
+-- an entry passes the test
+abbrev pub listedTest : Sheet → ListedTest → ℕ → Bool
+listedTest s BadComplement e = badComplement s e
+listedTest s (DiffersFrom l) e = differs s l e
+listedTest s (NotIncluded p) e = not (includes s p (owner s e))
+
+-- some entry of the list passes it
+unfoldable pub anyListed : Sheet → ℕ → ℕ → ℕ → ListedTest → Bool
+anyListed s section k at test = any (λ i. listedTest s test (entry s section k at i)) (number s section k at)
+
+-- a leader passes the test
+abbrev pub groupTest : Sheet → GroupTest → ℕ → Bool
+groupTest s (SplitBy p) l = leader s l && not (eqb (included s p l) 0) && not (eqb (included s p l) 1) && not (whollyIncluded s p l)
+groupTest s (PartlySetBy p) l = leader s l && whollyIncluded s p l && not (eqb (setsNamed s p l) 0) && not (eqb (setsNamed s p l) (members s l))
+
+-- some leader does
+unfoldable pub anyGroup : Sheet → GroupTest → Bool
+anyGroup s test = any (groupTest s test) (count s objects)
+
+-- two records of a section differ in one of the seven words from a position on
+unfoldable pub fieldsDiffer : Sheet → ℕ → ℕ → ℕ → ℕ → Bool
+fieldsDiffer s section from a b = any (λ f. not (eqb (field s section a (from + f)) (field s section b (from + f)))) 7
+
+-- how often all lists at a position of the objects name x
+unfoldable pub totalTimes : Sheet → ℕ → ℕ → ℕ
+totalTimes s at x = sum (λ q. times s objects q at x) (count s objects)
+
+-- some channel is not the ordinal of exactly one of the object's tracks
+unfoldable pub badChannel : Sheet → ℕ → Bool
+badChannel s o =
+    any (λ n. not (eqb (howMany (λ i. eqb (field s tracks (trackAt s o i) trackOrdinal) n) (number s objects o trackList)) 1)) (channels s o)
+
+-- some set of the object has own 1
+unfoldable pub ownSet : Sheet → ℕ → Bool
+ownSet s o = any (λ i. eqb (field s valueSets (first s objects o setSpan + i) setOwn) 1) (number s objects o setSpan)

@@ -1,0 +1,26 @@
+// Rules 19 to 21: complementary groups.
+use crate::GroupTest;
+use crate::ListedTest;
+use crate::loops::any_group;
+use crate::loops::any_listed;
+ghost use mathlib.Core.Path.{_≡_};
+ghost use Rattle.profile.specs.Rules.{rule19, rule20, rule21};
+ghost use Rattle.sheet.specs.Words.{sheetOf};
+
+pub fn rule19(s: &[u8], section: u8, o: u16) -> bool
+    ensures { λ r. ⌜ r ≡ rule19 (sheetOf (now (s .entry))) section o ⌝ }
+{
+    any_listed(s, 3, o, 5, ListedTest::BadComplement)
+}
+
+pub fn rule20(s: &[u8], section: u8, o: u16) -> bool
+    ensures { λ r. ⌜ r ≡ rule20 (sheetOf (now (s .entry))) section o ⌝ }
+{
+    any_listed(s, 3, o, 5, ListedTest::DiffersFrom(o))
+}
+
+pub fn rule21(s: &[u8], section: u8, p: u16) -> bool
+    ensures { λ r. ⌜ r ≡ rule21 (sheetOf (now (s .entry))) section p ⌝ }
+{
+    any_group(s, GroupTest::SplitBy(p))
+}

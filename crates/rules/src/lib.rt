@@ -1,0 +1,40 @@
+// Rules 1 to 24 as functions on a lent sheet: each is the definition of the same name in the profile crate.
+pub mod groups;
+pub mod header;
+pub mod limits;
+pub mod lists;
+pub mod loops;
+pub mod naming;
+pub mod objects;
+pub mod ranges;
+pub mod sets;
+pub mod totals;
+pub mod words;
+
+// What two entries of a list are tested for.
+pub enum PairTest {
+    // they are the same number
+    Same,
+    // they are sets of one object
+    OneOwner,
+    // they are sets in one group that differ
+    DifferInGroup,
+}
+
+// What an entry of a list is tested for, where the test looks into other lists.
+pub enum ListedTest {
+    // a complement that rule 19 refuses
+    BadComplement,
+    // an object that differs from this leader
+    DiffersFrom(u16),
+    // a set of an object that this programme doesn't include
+    NotIncluded(u16),
+}
+
+// What a leader is tested for.
+pub enum GroupTest {
+    // this programme includes some of the group, but neither one nor all
+    SplitBy(u16),
+    // this programme includes the whole group and names sets for some of it, but not all
+    PartlySetBy(u16),
+}

@@ -1,0 +1,23 @@
+// Rules 23 and 24: what the whole sheet adds up to.
+use profile::limits::COUNTED;
+use profile::limits::GROUPS;
+use profile::limits::UNITS;
+use profile::limits::exceeds;
+use relations::records::groups;
+use relations::sizes::counted_tracks;
+use relations::sizes::units;
+ghost use mathlib.Core.Path.{_≡_};
+ghost use Rattle.profile.specs.Rules.{rule23, rule24};
+ghost use Rattle.sheet.specs.Words.{sheetOf};
+
+pub fn rule23(s: &[u8], section: u8, k: u16) -> bool
+    ensures { λ r. ⌜ r ≡ rule23 (sheetOf (now (s .entry))) section k ⌝ }
+{
+    exceeds(s, GROUPS, groups(s) as u64) | exceeds(s, UNITS, units(s) as u64)
+}
+
+pub fn rule24(s: &[u8], section: u8, k: u16) -> bool
+    ensures { λ r. ⌜ r ≡ rule24 (sheetOf (now (s .entry))) section k ⌝ }
+{
+    exceeds(s, COUNTED, counted_tracks(s))
+}

@@ -1,0 +1,123 @@
+// Rule 6: words and labels outside their values.
+use relations::EntryTest;
+use relations::entries::any_entry;
+use relations::sets::object_maximum;
+use relations::sets::object_minimum;
+use relations::sets::object_value;
+use relations::sets::set_maximum;
+use relations::sets::set_minimum;
+use relations::sets::set_value;
+use sheet::layout::field;
+use values::Sort;
+use values::language::language;
+use values::language::loudness;
+use values::values::is_absent;
+use values::values::is_maximum;
+use values::values::is_minimum;
+use values::values::is_value;
+ghost use mathlib.Core.Path.{_≡_};
+ghost use Rattle.profile.specs.Rules.{badLabel, badObject, badObjectWords, badPack, badSet, badSetWords, badSpeech, badWords, objectRange, rule6, setRange};
+ghost use Rattle.sheet.specs.Words.{sheetOf};
+
+// A label outside.
+fn bad_label(s: &[u8], section: u8, k: u16, at: u8) -> bool
+    ensures { λ r. ⌜ r ≡ badLabel (sheetOf (now (s .entry))) section k at ⌝ }
+{
+    any_entry(s, section, k, at, EntryTest::NoLanguage)
+}
+
+// Language, labels and loudness of a programme or content.
+fn bad_speech(s: &[u8], section: u8, k: u16, lang: u8, labels: u8, loud: u8) -> bool
+    ensures { λ r. ⌜ r ≡ badSpeech (sheetOf (now (s .entry))) section k lang labels loud ⌝ }
+{
+    !language(field(s, section, k, lang))
+        | bad_label(s, section, k, labels)
+        | !loudness(field(s, section, k, loud))
+}
+
+// A value and its range, of one sort: words outside, or half a pair; each word may be absent.
+fn bad_words(sort: Sort, value: u16, minimum: u16, maximum: u16) -> bool
+    ensures { λ r. ⌜ r ≡ badWords sort value minimum maximum ⌝ }
+{
+    let low = is_absent(minimum);
+    let high = is_absent(maximum);
+    !(is_absent(value) | is_value(sort, value))
+        | !(low | is_minimum(sort, minimum))
+        | !(high | is_maximum(sort, maximum))
+        | (low & !high | !low & high)
+}
+
+fn bad_object_words(s: &[u8], o: u16, sort: Sort) -> bool
+    ensures { λ r. ⌜ r ≡ badObjectWords (sheetOf (now (s .entry))) o sort ⌝ }
+{
+    bad_words(
+        sort,
+        field(s, 3, o, object_value(sort)),
+        field(s, 3, o, object_minimum(sort)),
+        field(s, 3, o, object_maximum(sort)),
+    )
+}
+
+fn bad_set_words(s: &[u8], v: u16, sort: Sort) -> bool
+    ensures { λ r. ⌜ r ≡ badSetWords (sheetOf (now (s .entry))) v sort ⌝ }
+{
+    bad_words(
+        sort,
+        field(s, 7, v, set_value(sort)),
+        field(s, 7, v, set_minimum(sort)),
+        field(s, 7, v, set_maximum(sort)),
+    )
+}
+
+// A range word of that sort is present in an object.
+pub fn object_range(s: &[u8], o: u16, sort: Sort) -> bool
+    ensures { λ r. ⌜ r ≡ objectRange (sheetOf (now (s .entry))) o sort ⌝ }
+{
+    !is_absent(field(s, 3, o, object_minimum(sort)))
+        | !is_absent(field(s, 3, o, object_maximum(sort)))
+}
+
+// A range word of that sort is present in a set.
+pub fn set_range(s: &[u8], v: u16, sort: Sort) -> bool
+    ensures { λ r. ⌜ r ≡ setRange (sheetOf (now (s .entry))) v sort ⌝ }
+{
+    !is_absent(field(s, 7, v, set_minimum(sort))) | !is_absent(field(s, 7, v, set_maximum(sort)))
+}
+
+fn bad_object(s: &[u8], o: u16) -> bool
+    ensures { λ r. ⌜ r ≡ badObject (sheetOf (now (s .entry))) o ⌝ }
+{
+    (1 < field(s, 3, o, 7))
+        | bad_object_words(s, o, Sort::Gains)
+        | bad_object_words(s, o, Sort::Offsets)
+}
+
+fn bad_pack(s: &[u8], k: u16) -> bool
+    ensures { λ r. ⌜ r ≡ badPack (sheetOf (now (s .entry))) k ⌝ }
+{
+    let kind = field(s, 4, k, 0);
+    !((kind == 1) | (kind == 3)) | (1 < field(s, 4, k, 2))
+}
+
+fn bad_set(s: &[u8], v: u16) -> bool
+    ensures { λ r. ⌜ r ≡ badSet (sheetOf (now (s .entry))) v ⌝ }
+{
+    let own = field(s, 7, v, 1);
+    (1 < own)
+        | bad_set_words(s, v, Sort::Gains)
+        | bad_set_words(s, v, Sort::Offsets)
+        | (own == 0) & (set_range(s, v, Sort::Gains) | set_range(s, v, Sort::Offsets))
+}
+
+pub fn rule6(s: &[u8], section: u8, k: u16) -> bool
+    ensures { λ r. ⌜ r ≡ rule6 (sheetOf (now (s .entry))) section k ⌝ }
+{
+    match section {
+        1 => bad_speech(s, 1, k, 0, 5, 7),
+        2 => bad_speech(s, 2, k, 0, 2, 4),
+        3 => bad_object(s, k),
+        4 => bad_pack(s, k),
+        7 => bad_set(s, k),
+        _ => false,
+    }
+}
