@@ -15,7 +15,7 @@ use Rattle.profile.specs.declared.Place.{Place}
 use Rattle.profile.specs.declared.Verdict.{Verdict}
 use Rattle.profile.specs.declared.Verdict.the-variants.{Accepted, Broken}
 use Rattle.profile.specs.Counting.{any, lowest}
-use Rattle.profile.specs.Verdict.{sectionOf, recordOf, placeAt, ruleCount, sectionCount, breaks, subjectTable, subjects, brokenRecord, sectionBroken, brokenSection, ruleBroken, brokenRule, brokenAt, verdict}
+use Rattle.profile.specs.Verdict.{sectionOf, recordOf, placeAt, ruleCount, sectionCount, breaks, subjectTable, subjectKind, subjects, brokenRecord, sectionBroken, brokenSection, ruleBroken, brokenRule, brokenAt, verdict}
 use Rattle.profile.specs.FirstBroken.{BrokenAt, Earlier, FirstBroken}
 use Rattle.profile.proofs.PlaceLaws.{place-back}
 use Rattle.profile.proofs.CountingLaws.{found, nothing, finds, lowest-before, any-none}
@@ -50,16 +50,15 @@ module _ (s : Sheet) where
 clash : {b : Bool} → b ≡ true → b ≡ false → ⊥
 clash e f = true≢false (sym e ∙ f)
 
--- the header's entry of a row of the table of subjects is 0 or 1: one test over the whole table
-header-entries : any (λ i. not (leb (getD (getD subjectTable i []) 0 0) 1)) ruleCount ≡ false
-unfolding any subjectTable
+-- the header's entry of each row of the table of subjects is 0 or 1: one test over the whole table
+header-entries : any (λ rule. not (leb (subjectKind rule 0) 1)) (suc ruleCount) ≡ false
+unfolding any subjectTable subjectKind
 header-entries = refl
 
-header-subjects : (s : Sheet) (i : ℕ) → i < ruleCount → subjects s (suc i) 0 ≤ 1
+header-subjects : (s : Sheet) (rule : ℕ) → rule ≤ ruleCount → subjects s rule 0 ≤ 1
 unfolding subjects
-header-subjects s i l =
-    let e : suc i - 1 ≡ i = omega arith in
-    rw e (few (getD (getD subjectTable i []) 0 0) (leb-true _ _ (not-false _ (any-none (λ j. not (leb (getD (getD subjectTable j []) 0 0) 1)) ruleCount header-entries i l))))
+header-subjects s rule l =
+    few (subjectKind rule 0) (leb-true _ _ (not-false _ (any-none (λ r. not (leb (subjectKind r 0) 1)) (suc ruleCount) header-entries rule (omega arith))))
   where
     few : (n : ℕ) → n ≤ 1 → getD (0 ∷ 1 ∷ count s 0 ∷ []) n 0 ≤ 1
     few zero h = omega arith
@@ -155,7 +154,7 @@ found-place : (s : Sheet) (e : ltb (brokenRule s) ruleCount ≡ true)
 found-place s e =
     place-back (section s e) (k s e) (found-here s e .to-7)
     (λ z.
-    let few : subjects s (rule s e) (section s e) ≤ 1 = rw z (header-subjects s (brokenRule s) (ltb-true (brokenRule s) ruleCount e)) in
+    let few : subjects s (rule s e) (section s e) ≤ 1 = rw z (header-subjects s (rule s e) (found-here s e .to-24)) in
     omega (arith, found-here s e .subject))
 
 -- so where it is the place of a verdict

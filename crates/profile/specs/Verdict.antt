@@ -1,7 +1,7 @@
 -- Document 01, "Broken rules, in checking order": "The verdict is acceptance, or a rule together with a place, a section and a record.
 -- The place is the subject of the sentence; within one rule the lowest section, then the lowest record; a section or the header as
 -- subject gives record 0." Assumes nothing.
-use Prim.Native.Nat.{ℕ, suc, _+_, _*_, _-_}
+use Prim.Native.Nat.{ℕ, suc, _+_, _*_}
 use mathlib.Core.Bool.{Bool, false, cond}
 use mathlib.Core.List.{List, [], _∷_}
 use lib.Dec.{ltb}
@@ -50,22 +50,23 @@ ruleCount = 24
 abbrev pub sectionCount : ℕ
 sectionCount = 8
 
--- the rules in checking order
+-- the rules in checking order, by their numbers: there is no rule 0
 unfoldable pub rules : Sheet → List (ℕ → ℕ → Bool)
 rules s =
-    rule1 s ∷ rule2 s ∷ rule3 s ∷ rule4 s ∷ rule5 s ∷ rule6 s ∷ rule7 s ∷ rule8 s ∷ rule9 s ∷ rule10 s ∷ rule11 s ∷ rule12 s
+    (λ section k. false) ∷ rule1 s ∷ rule2 s ∷ rule3 s ∷ rule4 s ∷ rule5 s ∷ rule6 s ∷ rule7 s ∷ rule8 s ∷ rule9 s ∷ rule10 s ∷ rule11 s ∷ rule12 s
     ∷ rule13 s ∷ rule14 s ∷ rule15 s ∷ rule16 s ∷ rule17 s ∷ rule18 s ∷ rule19 s ∷ rule20 s ∷ rule21 s ∷ rule22 s ∷ rule23 s ∷ rule24 s
     ∷ []
 
 -- that record of that section breaks that rule
 unfoldable pub breaks : Sheet → ℕ → ℕ → ℕ → Bool
-breaks s rule = getD (rules s) (rule - 1) (λ section k. false)
+breaks s rule = getD (rules s) rule (λ section k. false)
 
 -- "The place is the subject of the sentence". For each rule, a row, and each section 0 to 7: 0 the section has no subject of that
 -- rule, 1 the header or the section itself is one, 2 each of its records is
 unfoldable pub subjectTable : List (List ℕ)
 subjectTable =
-    (1 ∷ 0 ∷ 0 ∷ 0 ∷ 0 ∷ 0 ∷ 0 ∷ 0 ∷ [])  -- 1 the header
+    (0 ∷ 0 ∷ 0 ∷ 0 ∷ 0 ∷ 0 ∷ 0 ∷ 0 ∷ [])  -- there is no rule 0
+    ∷ (1 ∷ 0 ∷ 0 ∷ 0 ∷ 0 ∷ 0 ∷ 0 ∷ 0 ∷ [])  -- 1 the header
     ∷ (1 ∷ 0 ∷ 0 ∷ 0 ∷ 0 ∷ 0 ∷ 0 ∷ 0 ∷ [])  -- 2 the header
     ∷ (0 ∷ 1 ∷ 1 ∷ 1 ∷ 1 ∷ 1 ∷ 1 ∷ 1 ∷ [])  -- 3 a section
     ∷ (0 ∷ 2 ∷ 2 ∷ 2 ∷ 0 ∷ 0 ∷ 0 ∷ 0 ∷ [])  -- 4 a record with lists or a span
@@ -91,9 +92,12 @@ subjectTable =
     ∷ (1 ∷ 0 ∷ 0 ∷ 0 ∷ 0 ∷ 0 ∷ 0 ∷ 0 ∷ [])  -- 24 the header
     ∷ []
 
+unfoldable pub subjectKind : ℕ → ℕ → ℕ
+subjectKind rule section = getD (getD subjectTable rule []) section 0
+
 -- how many records of that section that rule can have as its place
 unfoldable pub subjects : Sheet → ℕ → ℕ → ℕ
-subjects s rule section = getD (0 ∷ 1 ∷ count s section ∷ []) (getD (getD subjectTable (rule - 1) []) section 0) 0
+subjects s rule section = getD (0 ∷ 1 ∷ count s section ∷ []) (subjectKind rule section) 0
 
 -- the lowest record of a section that breaks a rule, or the number of subjects
 unfoldable pub brokenRecord : Sheet → ℕ → ℕ → ℕ

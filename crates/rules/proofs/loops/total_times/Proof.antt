@@ -43,10 +43,11 @@ loop-less c = search needs
 
 loop-again : tie.Need-loop-again Inv-loop μ-loop
 unfolding sum
-loop-again c =
-    (search needs,
-    omega (arith, c .times .ensures .1),
-    rw (add-one, c .times .ensures .0, c .before .before .loop .inv .2))
+loop-again c = (
+  search needs,
+  omega (arith, c .times .ensures .1),
+  rw (add-one, c .times .ensures .0, c .before .before .loop .inv .2),
+)
 
 returns : tie.Need-returns Inv-loop μ-loop
 unfolding totalTimes

@@ -1,0 +1,55 @@
+-- No section passed has a record that breaks the rule. Assumes nothing.
+use Prim.Native.Nat.{ℕ, suc, _-_, _<_, _≤_}
+use mathlib.Core.Path.{_≡_, sym, ap, _∙_}
+use mathlib.Core.Bool.{false}
+use native.Mathlib.Omega.{arith}
+use borrow.Author.Count.{below-none, below-more}
+use Rattle.profile.specs.Verdict.{sectionBroken, brokenSection}
+use Rattle.sheet.specs.Words.{sheetOf}
+use Rattle.profile.proofs.CountingLaws.{lowest-at, lowest-none}
+use Rattle.checker.proofs.search.broken_section.Statement.{statement}
+use Rattle.checker.proofs.search.broken_section.Tie as tie
+use borrow.Author.Needs.{needs}
+
+abbrev Inv-loop : tie.InvT-loop
+Inv-loop s rule section₀ section = (section ≤ 8) × ((j : ℕ) → j < section → sectionBroken (sheetOf s) rule j ≡ false)
+
+abbrev μ-loop : tie.MeasureT-loop
+μ-loop s rule section₀ section = 8 - section
+
+loop-holds : tie.Need-loop-holds Inv-loop μ-loop
+loop-holds c = (search needs, below-none _)
+
+section-broken-requires : tie.Need-section-broken-requires Inv-loop μ-loop
+section-broken-requires c κs = search needs
+
+returns : tie.Need-returns Inv-loop μ-loop
+unfolding brokenSection
+returns c = sym (lowest-at _ _ _ (search needs) (c .before .before .before .loop .inv .1) (rw (← c .before .section-broken .ensures) (c .if1 .taken)))
+
+add-section : tie.Need-add-section Inv-loop μ-loop
+add-section c = search needs
+
+loop-less : tie.Need-loop-less Inv-loop μ-loop
+loop-less c = search needs
+
+loop-again : tie.Need-loop-again Inv-loop μ-loop
+loop-again c = (search needs, below-more _ _ (c .before .before .before .loop .inv .1) (rw (← c .before .section-broken .ensures) (c .if1 .left)))
+
+returns-2 : tie.Need-returns-2 Inv-loop μ-loop
+unfolding brokenSection
+returns-2 c = sym (lowest-none _ _ (λ j l. c .before .loop .inv .1 j (omega arith)))
+
+pub broken-section-spec : {M : Type 1} → statement M
+broken-section-spec =
+    tie.close
+    (tie.spec
+    Inv-loop
+    μ-loop
+    loop-holds
+    section-broken-requires
+    returns
+    add-section
+    loop-less
+    loop-again
+    returns-2)

@@ -1,0 +1,232 @@
+-- Each rule by its number. Assumes nothing.
+use native.Mathlib.Omega.{arith}
+use Rattle.profile.specs.Verdict.{breaks, rules}
+use Rattle.checker.proofs.SubjectLaws.{no-rule, above}
+use borrow.Author.Needs.{needs}
+use Rattle.checker.proofs.subjects.breaks.Statement.{statement}
+use Rattle.checker.proofs.subjects.breaks.Tie as tie
+
+rule1-requires : tie.Need-rule1-requires
+rule1-requires c κs = search needs
+
+rule2-requires : tie.Need-rule2-requires
+rule2-requires c κs = search needs
+
+rule3-requires : tie.Need-rule3-requires
+rule3-requires c κs = search needs
+
+rule4-requires : tie.Need-rule4-requires
+rule4-requires c κs = search needs
+
+rule5-requires : tie.Need-rule5-requires
+rule5-requires c κs = search needs
+
+rule6-requires : tie.Need-rule6-requires
+rule6-requires c κs = search needs
+
+rule7-requires : tie.Need-rule7-requires
+rule7-requires c κs = search needs
+
+rule8-requires : tie.Need-rule8-requires
+rule8-requires c κs = search needs
+
+rule9-requires : tie.Need-rule9-requires
+rule9-requires c κs = search needs
+
+rule10-requires : tie.Need-rule10-requires
+rule10-requires c κs = search needs
+
+rule11-requires : tie.Need-rule11-requires
+rule11-requires c κs = search needs
+
+rule12-requires : tie.Need-rule12-requires
+rule12-requires c κs = search needs
+
+rule13-requires : tie.Need-rule13-requires
+rule13-requires c κs = search needs
+
+rule14-requires : tie.Need-rule14-requires
+rule14-requires c κs = search needs
+
+rule15-requires : tie.Need-rule15-requires
+rule15-requires c κs = search needs
+
+rule16-requires : tie.Need-rule16-requires
+rule16-requires c κs = search needs
+
+rule17-requires : tie.Need-rule17-requires
+rule17-requires c κs = search needs
+
+rule18-requires : tie.Need-rule18-requires
+rule18-requires c κs = search needs
+
+rule19-requires : tie.Need-rule19-requires
+rule19-requires c κs = search needs
+
+rule20-requires : tie.Need-rule20-requires
+rule20-requires c κs = search needs
+
+rule21-requires : tie.Need-rule21-requires
+rule21-requires c κs = search needs
+
+rule22-requires : tie.Need-rule22-requires
+rule22-requires c κs = search needs
+
+rule23-requires : tie.Need-rule23-requires
+rule23-requires c κs = search needs
+
+rule24-requires : tie.Need-rule24-requires
+rule24-requires c κs = search needs
+
+returns : tie.Need-returns
+unfolding breaks rules
+returns c = simp (c .rule1 .ensures, c .before .match .keys1)
+
+returns-2 : tie.Need-returns-2
+unfolding breaks rules
+returns-2 c = simp (c .rule2 .ensures, c .before .match .keys2)
+
+returns-3 : tie.Need-returns-3
+unfolding breaks rules
+returns-3 c = simp (c .rule3 .ensures, c .before .match .keys3)
+
+returns-4 : tie.Need-returns-4
+unfolding breaks rules
+returns-4 c = simp (c .rule4 .ensures, c .before .match .keys4)
+
+returns-5 : tie.Need-returns-5
+unfolding breaks rules
+returns-5 c = simp (c .rule5 .ensures, c .before .match .keys5)
+
+returns-6 : tie.Need-returns-6
+unfolding breaks rules
+returns-6 c = simp (c .rule6 .ensures, c .before .match .keys6)
+
+returns-7 : tie.Need-returns-7
+unfolding breaks rules
+returns-7 c = simp (c .rule7 .ensures, c .before .match .keys7)
+
+returns-8 : tie.Need-returns-8
+unfolding breaks rules
+returns-8 c = simp (c .rule8 .ensures, c .before .match .keys8)
+
+returns-9 : tie.Need-returns-9
+unfolding breaks rules
+returns-9 c = simp (c .rule9 .ensures, c .before .match .keys9)
+
+returns-10 : tie.Need-returns-10
+unfolding breaks rules
+returns-10 c = simp (c .rule10 .ensures, c .before .match .keys10)
+
+returns-11 : tie.Need-returns-11
+unfolding breaks rules
+returns-11 c = simp (c .rule11 .ensures, c .before .match .keys11)
+
+returns-12 : tie.Need-returns-12
+unfolding breaks rules
+returns-12 c = simp (c .rule12 .ensures, c .before .match .keys12)
+
+returns-13 : tie.Need-returns-13
+unfolding breaks rules
+returns-13 c = simp (c .rule13 .ensures, c .before .match .keys13)
+
+returns-14 : tie.Need-returns-14
+unfolding breaks rules
+returns-14 c = simp (c .rule14 .ensures, c .before .match .keys14)
+
+returns-15 : tie.Need-returns-15
+unfolding breaks rules
+returns-15 c = simp (c .rule15 .ensures, c .before .match .keys15)
+
+returns-16 : tie.Need-returns-16
+unfolding breaks rules
+returns-16 c = simp (c .rule16 .ensures, c .before .match .keys16)
+
+returns-17 : tie.Need-returns-17
+unfolding breaks rules
+returns-17 c = simp (c .rule17 .ensures, c .before .match .keys17)
+
+returns-18 : tie.Need-returns-18
+unfolding breaks rules
+returns-18 c = simp (c .rule18 .ensures, c .before .match .keys18)
+
+returns-19 : tie.Need-returns-19
+unfolding breaks rules
+returns-19 c = simp (c .rule19 .ensures, c .before .match .keys19)
+
+returns-20 : tie.Need-returns-20
+unfolding breaks rules
+returns-20 c = simp (c .rule20 .ensures, c .before .match .keys20)
+
+returns-21 : tie.Need-returns-21
+unfolding breaks rules
+returns-21 c = simp (c .rule21 .ensures, c .before .match .keys21)
+
+returns-22 : tie.Need-returns-22
+unfolding breaks rules
+returns-22 c = simp (c .rule22 .ensures, c .before .match .keys22)
+
+returns-23 : tie.Need-returns-23
+unfolding breaks rules
+returns-23 c = simp (c .rule23 .ensures, c .before .match .keys23)
+
+returns-24 : tie.Need-returns-24
+unfolding breaks rules
+returns-24 c = simp (c .rule24 .ensures, c .before .match .keys24)
+
+returns-25 : tie.Need-returns-25
+returns-25 c = no-rule _ _ _ _ (λ h. above _ 24 h (c .match .rest))
+
+pub breaks-spec : {M : Type 1} → statement M
+breaks-spec =
+    tie.close
+    (tie.spec
+    rule1-requires
+    rule2-requires
+    rule3-requires
+    rule4-requires
+    rule5-requires
+    rule6-requires
+    rule7-requires
+    rule8-requires
+    rule9-requires
+    rule10-requires
+    rule11-requires
+    rule12-requires
+    rule13-requires
+    rule14-requires
+    rule15-requires
+    rule16-requires
+    rule17-requires
+    rule18-requires
+    rule19-requires
+    rule20-requires
+    rule21-requires
+    rule22-requires
+    rule23-requires
+    rule24-requires
+    returns
+    returns-2
+    returns-3
+    returns-4
+    returns-5
+    returns-6
+    returns-7
+    returns-8
+    returns-9
+    returns-10
+    returns-11
+    returns-12
+    returns-13
+    returns-14
+    returns-15
+    returns-16
+    returns-17
+    returns-18
+    returns-19
+    returns-20
+    returns-21
+    returns-22
+    returns-23
+    returns-24
+    returns-25)
