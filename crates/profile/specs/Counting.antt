@@ -1,6 +1,7 @@
 -- Counting over the numbers below n: what the relations and rules are said with. Assumes nothing.
 use Prim.Native.Nat.{ℕ, zero, suc, _+_, max}
-use mathlib.Core.Bool.{Bool, true, false, cond, _||_}
+use mathlib.Core.Bool.{Bool, true, false, cond, _&&_, _||_}
+use mathlib.Core.List.{List, [], _∷_, _++_}
 
 -- some number below n has p
 unfoldable pub any : (ℕ → Bool) → ℕ → Bool
@@ -34,3 +35,17 @@ lowest p n = lowestFrom p 0 n
 -- two of the numbers below n are alike by r
 unfoldable pub twoOf : (ℕ → ℕ → Bool) → ℕ → Bool
 twoOf r n = any (λ j. any (λ i. r i j) j) n
+
+-- every number below n has p
+unfoldable pub every : (ℕ → Bool) → ℕ → Bool
+every p zero = true
+every p (suc n) = every p n && p n
+
+-- the lists that f gives the numbers below n, one behind the other
+unfoldable pub concatBelow : {X : Type 0} → (ℕ → List X) → ℕ → List X
+concatBelow f zero = []
+concatBelow f (suc n) = concatBelow f n ++ f n
+
+-- what f gives the numbers below n, as a list
+unfoldable pub tabulate : {X : Type 0} → (ℕ → X) → ℕ → List X
+tabulate f n = concatBelow (λ k. f k ∷ []) n

@@ -1,0 +1,6 @@
+pub mod State
+pub mod Programme
+pub mod Sound
+pub mod Calls
+pub mod Listing
+pub mod Run
