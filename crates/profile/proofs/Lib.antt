@@ -3,3 +3,4 @@ pub mod CountingLaws
 mod LimitLaws
 mod PlaceLaws
 pub mod VerdictLaws
+pub mod AcceptedLaws

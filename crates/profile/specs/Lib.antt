@@ -4,6 +4,7 @@ pub mod Relations
 pub mod Rules
 pub mod Verdict
 pub mod FirstBroken
+pub mod AcceptedSheet
 pub mod Judged
 pub mod Build
 pub mod Cases
