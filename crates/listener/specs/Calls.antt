@@ -65,18 +65,24 @@ notIncluded s st o = record { refusal = NotIncluded; holds = not (includes s (st
 unfoldable pub opened : Sheet → Reply
 opened s = replyBy (answerBy (notOpen s ∷ [])) restingState (started s 0)
 
--- "27. No such programme." "a programme choice 25 to 27"
+-- "27. No such programme."
+unfoldable pub noProgramme : Sheet → ℕ → Ground
+noProgramme s p = record { refusal = NoProgramme; holds = leb (count s programmes) p }
+
+-- "a programme choice 25 to 27"
 unfoldable pub programmeAnswer : Sheet → State → ℕ → Answer
-programmeAnswer s st p = answerBy (notOpen s ∷ notSound s st ∷ record { refusal = NoProgramme; holds = leb (count s programmes) p } ∷ [])
+programmeAnswer s st p = answerBy (notOpen s ∷ notSound s st ∷ noProgramme s p ∷ [])
 
 unfoldable pub chosenProgramme : Sheet → State → ℕ → Reply
 chosenProgramme s st p = replyBy (programmeAnswer s st p) st (started s p)
 
--- "29. The object isn't in a wholly included group." "an object choice 25, 26, 28, 29"
+-- "29. The object isn't in a wholly included group."
+unfoldable pub notInGroup : Sheet → State → ℕ → Ground
+notInGroup s st o = record { refusal = NotInGroup; holds = not (inWholeGroup s (st .programme) o) }
+
+-- "an object choice 25, 26, 28, 29"
 unfoldable pub objectAnswer : Sheet → State → ℕ → Answer
-objectAnswer s st o =
-    answerBy
-    (notOpen s ∷ notSound s st ∷ notIncluded s st o ∷ record { refusal = NotInGroup; holds = not (inWholeGroup s (st .programme) o) } ∷ [])
+objectAnswer s st o = answerBy (notOpen s ∷ notSound s st ∷ notIncluded s st o ∷ notInGroup s st o ∷ [])
 
 -- "Choosing an object makes it active and the rest of its group inactive."
 unfoldable pub movedSetting : Sheet → State → ℕ → ℕ → Setting
@@ -89,16 +95,17 @@ unfoldable pub chosenObject : Sheet → State → ℕ → Reply
 chosenObject s st o =
     replyBy (objectAnswer s st o) st (record { programme = st .programme; objects = tabulate (movedSetting s st o) stateObjects })
 
--- "30. No effective range of that sort." "31. The value isn't legal or is outside that range." "a gain or offset call 25, 26, 28, 30, 31"
+-- "30. No effective range of that sort."
+unfoldable pub noRange : Sheet → State → ℕ → Sort → Ground
+noRange s st o t = record { refusal = NoRange; holds = not (grants s (st .programme) o t) }
+
+-- "31. The value isn't legal or is outside that range."
+unfoldable pub outsideRange : Bool → Ground
+outsideRange fits = record { refusal = Outside; holds = not fits }
+
+-- "a gain or offset call 25, 26, 28, 30, 31"
 unfoldable pub valueAnswer : Sheet → State → ℕ → Sort → Bool → Answer
-valueAnswer s st o t fits =
-    answerBy
-    (notOpen s
-    ∷ notSound s st
-    ∷ notIncluded s st o
-    ∷ record { refusal = NoRange; holds = not (grants s (st .programme) o t) }
-    ∷ record { refusal = Outside; holds = not fits }
-    ∷ [])
+valueAnswer s st o t fits = answerBy (notOpen s ∷ notSound s st ∷ notIncluded s st o ∷ noRange s st o t ∷ outsideRange fits ∷ [])
 
 -- "A gain or offset call stores the value in that object, active or not"
 unfoldable pub withSetting : State → ℕ → Setting → State

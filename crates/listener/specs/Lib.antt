@@ -4,3 +4,4 @@ pub mod Sound
 pub mod Calls
 pub mod Listing
 pub mod Run
+pub mod Guarantee

@@ -20,7 +20,7 @@ use Rattle.listener.specs.declared.Answer.{Answer}
 use Rattle.listener.specs.declared.Answer.the-variants.{Done, Refused}
 use Rattle.listener.specs.declared.Listing.{Listing}
 use Rattle.listener.specs.State.{stateObjects, active}
-use Rattle.listener.specs.Calls.{answerBy, notOpen, notSound}
+use Rattle.listener.specs.Calls.{Ground, answerBy, notOpen, notSound}
 
 -- the object sounds: "while it is active, a child while its parent sounds"
 unfoldable pub sounds : Sheet → State → ℕ → Bool
@@ -47,9 +47,13 @@ entries s st = concatBelow (λ o. cond (active st o) (objectEntries s o) []) sta
 unfoldable pub listedTracks : Sheet → State → List ℕ
 listedTracks s st = map (λ (e : Entry). e .track) (entries s st)
 
--- "32. The listing buffer has too few words." "listing 25, 26, 32"
+-- "32. The listing buffer has too few words."
+unfoldable pub tooFewWords : Sheet → State → ℕ → Ground
+tooFewWords s st words = record { refusal = TooFewWords; holds = ltb words (length (entries s st)) }
+
+-- "listing 25, 26, 32"
 unfoldable pub listingAnswer : Sheet → State → ℕ → Answer
-listingAnswer s st words = answerBy (notOpen s ∷ notSound s st ∷ record { refusal = TooFewWords; holds = ltb words (length (entries s st)) } ∷ [])
+listingAnswer s st words = answerBy (notOpen s ∷ notSound s st ∷ tooFewWords s st words ∷ [])
 
 -- the number of entries, none where it is refused
 unfoldable pub listed : Sheet → State → ℕ → Listing

@@ -55,3 +55,8 @@ one-of false false c d h e f = absurd (true≢false (sym h))
 
 pub first-of-7 : (a b c d e f g : Bool) → (a || b || c || d || e || f || g) ≡ false → a ≡ false
 first-of-7 a b c d e f g h = or-none-4 a b c d (or-none-4 (a || b || c || d) e f g h .0) .0
+
+-- an or that holds
+pub or-either : (a b : Bool) → (a || b) ≡ true → (a ≡ true) ⊎ (b ≡ true)
+or-either true b e = inl refl
+or-either false b e = inr e

@@ -1,0 +1,5 @@
+pub mod StartLaws
+pub mod SoundLaws
+pub mod RunLaws
+pub mod ValueLaws
+pub mod ListingLaws
