@@ -3,3 +3,5 @@ pub mod SoundLaws
 pub mod RunLaws
 pub mod ValueLaws
 pub mod ListingLaws
+pub mod EntryLaws
+pub mod Guaranteed

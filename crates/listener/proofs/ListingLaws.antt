@@ -162,7 +162,7 @@ module _ (s : Sheet) (a : AcceptedSheet s) (above : level s ≡ 0 → ⊥) (st :
         | false ↦ λ i. absurd (true≢false (sym e ∙ resting-parts (setting st o) (rest-parts s st o i (sound-object s st h o k)) .0))
       ]) refl
 
-  active-top : (o : ℕ) → o < stateObjects → active st o ≡ true → (o < count s objects) × (top s o ≡ true)
+  pub active-top : (o : ℕ) → o < stateObjects → active st o ≡ true → (o < count s objects) × (top s o ≡ true)
   active-top o k e = included-top s a p o p-index (active-included o k e)
 
   inactive-past : (o : ℕ) → count s objects ≤ o → o < stateObjects → active st o ≡ false

@@ -85,7 +85,7 @@ pub record Kept (s : Sheet) (st : State) (p : ℕ) : Type 0 where
 
 module _ (s : Sheet) (a : AcceptedSheet s) (above : level s ≡ 0 → ⊥) (can-open : opens s ≡ true) where
   -- on a sound state 25 and 26 do not come
-  passes : (st : State) (gs : List Ground) → sound s st ≡ true → answerBy (notOpen s ∷ notSound s st ∷ gs) ≡ answerBy gs
+  pub passes : (st : State) (gs : List Ground) → sound s st ≡ true → answerBy (notOpen s ∷ notSound s st ∷ gs) ≡ answerBy gs
   unfolding answerBy notOpen notSound
   passes st gs h = rw (can-open, h)
 
