@@ -4,6 +4,7 @@ import pathlib
 import struct
 
 ABSENT, SILENCE = 32767, -32768
+NO_RANGE = (ABSENT, ABSENT)
 INTEGRATED, DIALOGUE, BOTH = 1, 2, 3
 DIRECT_SPEAKERS, OBJECTS = 1, 3
 EDITION, LEVEL = 1, 1
@@ -31,10 +32,11 @@ def content(code, an_object, loudness):
     return [language(code), an_object, *entries(), loudness]
 
 
-def sound(pack, tracks, complements=(), gain=ABSENT, gains=(ABSENT, ABSENT), offset=ABSENT, offsets=(ABSENT, ABSENT), sets=(0, 0)):
+def sound(pack, tracks, complements=(), gain=ABSENT, gains=NO_RANGE, offset=ABSENT, offsets=NO_RANGE, sets=(0, 0)):
     """An object without children; a listener may move it if it has a range."""
-    interact = int(gains != (ABSENT, ABSENT) or offsets != (ABSENT, ABSENT))
-    return [pack, *entries(*tracks), *entries(), *entries(*complements), interact, gain, *gains, offset, *offsets, *sets]
+    interact = int(gains != NO_RANGE or offsets != NO_RANGE)
+    lists = [*entries(*tracks), *entries(), *entries(*complements)]
+    return [pack, *lists, interact, gain, *gains, offset, *offsets, *sets]
 
 
 def value_set(gain, gains, offset, offsets):
