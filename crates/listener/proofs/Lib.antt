@@ -1,3 +1,5 @@
+mod AndLaws
+mod FillLaws
 pub mod StartLaws
 pub mod SoundLaws
 pub mod RunLaws

@@ -16,11 +16,10 @@ use Rattle.sheet.specs.Words.{Sheet}
 use Rattle.sheet.specs.Layout.{level, count, number, entry}
 use Rattle.sheet.specs.Fields.{programmes, objects, complementList}
 use Rattle.values.specs.declared.Gain.{Gain}
-use Rattle.values.specs.declared.Gain.the-variants.{Silent, Tenths}
 use Rattle.values.specs.declared.Sort.the-variants.{Gains, Offsets}
 use Rattle.values.specs.Signed.{signedOf}
-use Rattle.values.specs.Gain.{gainOf}
-use Rattle.values.proofs.Order.{leZ-refl, leZ-antisym}
+use Rattle.values.specs.Gain.{gainOf, atMost}
+use Rattle.values.proofs.Order.{leZ-refl, leZ-antisym, atMost-refl, atMost-antisym}
 use Rattle.profile.specs.Counting.{howMany, every, tabulate}
 use Rattle.profile.specs.Limits.{limit, limits, objectsLimit}
 use Rattle.profile.specs.Relations.{leader, member, members, leaderOf, includes, whollyIncluded}
@@ -39,15 +38,11 @@ use Rattle.listener.specs.Calls.{movedSetting, withSetting}
 -- the same gain, the same offset
 pub same-gain : (g h : Gain) → sameGain g h ≡ true → g ≡ h
 unfolding sameGain
-same-gain Silent Silent e = refl
-same-gain Silent (Tenths y) e = absurd (true≢false (sym e))
-same-gain (Tenths x) Silent e = absurd (true≢false (sym e))
-same-gain (Tenths x) (Tenths y) e = let both = and-both (leZ x y) (leZ y x) e in ap Tenths (leZ-antisym x y (both .0) (both .1))
+same-gain g h e = let both = and-both (atMost g h) (atMost h g) e in atMost-antisym g h (both .0) (both .1)
 
 gain-itself : (g : Gain) → sameGain g g ≡ true
 unfolding sameGain
-gain-itself Silent = refl
-gain-itself (Tenths x) = rw (leZ-refl x)
+gain-itself g = rw (atMost-refl g)
 
 pub same-offset : (x y : ℤ) → sameOffset x y ≡ true → x ≡ y
 unfolding sameOffset
@@ -66,7 +61,7 @@ howMany-first p (suc n) e h = let last = h n (omega arith) in rw (howMany-first 
 -- a setting of a state that is made by its numbers
 pub setting-tabulate : (p : ℕ) (f : ℕ → Setting) (o : ℕ) → o < stateObjects → setting (record { programme = p; objects = tabulate f stateObjects }) o ≡ f o
 unfolding setting
-setting-tabulate p f o l = getD-tabulate f stateObjects o blank l
+setting-tabulate p f o l = rw (lt-ltb o stateObjects l) (getD-tabulate f stateObjects o blank l)
 
 -- an object of a sound state, in parts
 module _ (s : Sheet) (st : State) (o : ℕ) where
@@ -193,7 +188,7 @@ module _ (s : Sheet) (a : AcceptedSheet s) (above : level s ≡ 0 → ⊥) where
       ]) refl
     where
       rests : isResting resting ≡ true
-      rests = unfold isResting sameGain sameOffset in refl
+      rests = unfold isResting sameGain sameOffset atMost in refl
 
   -- a started programme is sound
   pub start-sound : (p : ℕ) → p < count s programmes → sound s (started s p) ≡ true
@@ -231,11 +226,11 @@ module _ (s : Sheet) (st : State) (o : ℕ) (x : Setting) (long : length (st .ob
 
   stored-here : setting next o ≡ x
   unfolding setting withSetting
-  stored-here = getD-set-same (st .objects) o x blank (rw long l)
+  stored-here = rw (lt-ltb o stateObjects l) (getD-set-same (st .objects) o x blank (rw long l))
 
   stored-other : (q : ℕ) → (q ≡ o → ⊥) → setting next q ≡ setting st q
   unfolding setting withSetting
-  stored-other q h = getD-set-other (st .objects) o q x blank h
+  stored-other q h = ap (λ (y : Setting). cond (ltb q stateObjects) y blank) (getD-set-other (st .objects) o q x blank h)
 
   stored-active : (q : ℕ) → active next q ≡ active st q
   unfolding active

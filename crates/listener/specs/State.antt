@@ -1,13 +1,15 @@
 -- The listener's state. Document 01, "The listener": "The state is a value that each call takes and hands back: a programme, and for
 -- 84 objects active, gain, offset. Refused opening gives programme 0 and 84 times inactive, 0, 0." Assumes nothing.
 use Prim.Native.Nat.{ℕ}
-use mathlib.Core.Bool.{Bool, true, false, not, _&&_}
+use mathlib.Core.Bool.{Bool, true, false, cond, not, _&&_}
 use mathlib.Core.List.{List}
+use lib.Dec.{ltb}
 use lib.ListN.{getD, replicate}
 use lib.IntN.{ℤ, pos}
 use lib.Signed.{leZ}
 use Rattle.values.specs.declared.Gain.{Gain}
 use Rattle.values.specs.declared.Gain.the-variants.{Silent, Tenths}
+use Rattle.values.specs.Gain.{atMost}
 use Rattle.listener.specs.declared.Setting.{Setting}
 use Rattle.listener.specs.declared.State.{State}
 use Rattle.listener.specs.declared.Refusal.{Refusal}
@@ -29,22 +31,19 @@ restingState = record { programme = 0; objects = replicate stateObjects resting 
 abbrev pub blank : Setting
 blank = record { active = false; gain = Silent; offset = pos 0 }
 
--- an object's setting
+-- an object's setting; a number past the state's end has a blank one
 unfoldable pub setting : State → ℕ → Setting
-setting st o = getD (st .objects) o blank
+setting st o = cond (ltb o stateObjects) (getD (st .objects) o blank) blank
 
 -- an object is active
 unfoldable pub active : State → ℕ → Bool
 active st o = setting st o .active
 
--- two gains are the same
+-- two gains are the same: neither is above the other
 unfoldable pub sameGain : Gain → Gain → Bool
-sameGain Silent Silent = true
-sameGain Silent (Tenths y) = false
-sameGain (Tenths x) Silent = false
-sameGain (Tenths x) (Tenths y) = leZ x y && leZ y x
+sameGain g h = atMost g h && atMost h g
 
--- two offsets are the same
+-- two offsets are the same: neither is above the other
 unfoldable pub sameOffset : ℤ → ℤ → Bool
 sameOffset x y = leZ x y && leZ y x
 

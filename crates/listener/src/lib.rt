@@ -2,6 +2,10 @@
 // and hands back.
 use values::Gain;
 
+pub mod programme;
+pub mod settings;
+pub mod sounding;
+
 // One object's setting: active or not, its gain, its offset in tenths of a degree.
 pub struct Setting {
     pub active: bool,

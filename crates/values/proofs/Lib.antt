@@ -1,4 +1,4 @@
-mod Signs
+pub mod Signs
 mod Both
 pub mod Order
 pub mod Zero

@@ -1,0 +1,82 @@
+-- The count so far is that of the members passed. Assumes nothing.
+use Prim.Native.Nat.{ℕ, _*_, _-_, _<_, _≤_}
+use mathlib.Core.Path.{_≡_, refl, ap, _∙_}
+use native.Mathlib.Omega.{arith}
+use native.Mathlib.Numerals.{add-one}
+use Rattle.profile.specs.Counting.{howMany}
+use Rattle.profile.specs.Relations.{member, members}
+use Rattle.sheet.specs.Words.{sheetOf}
+use Rattle.listener.specs.State.{active}
+use Rattle.listener.specs.Sound.{activeMembers}
+use Rattle.listener.proofs.sounding.active_members.Statement.{statement}
+use Rattle.listener.proofs.sounding.active_members.Tie as tie
+use borrow.Author.Needs.{needs}
+
+abbrev Inv-loop : tie.InvT-loop
+Inv-loop s state l n found₀ i₀ found i = (i ≤ n) × (found ≤ i) × (found ≡ howMany (λ j. active state (member (sheetOf s) l j)) i)
+
+abbrev μ-loop : tie.MeasureT-loop
+μ-loop s state l n found₀ i₀ found i = n - i
+
+members-requires : tie.Need-members-requires Inv-loop μ-loop
+members-requires c κs = search needs
+
+loop-holds : tie.Need-loop-holds Inv-loop μ-loop
+unfolding howMany
+loop-holds c = (search needs, search needs, refl)
+
+cast-member : tie.Need-cast-member Inv-loop μ-loop
+cast-member c = search needs
+
+member-requires : tie.Need-member-requires Inv-loop μ-loop
+member-requires c κs = search needs
+
+active-requires : tie.Need-active-requires Inv-loop μ-loop
+active-requires c κs = search needs
+
+one-requires : tie.Need-one-requires Inv-loop μ-loop
+one-requires c κs = search needs
+
+cast-found : tie.Need-cast-found Inv-loop μ-loop
+cast-found c = search needs
+
+add-found : tie.Need-add-found Inv-loop μ-loop
+add-found c = omega (arith, c .one .ensures .1)
+
+add-i : tie.Need-add-i Inv-loop μ-loop
+add-i c = search needs
+
+loop-less : tie.Need-loop-less Inv-loop μ-loop
+loop-less c = search needs
+
+loop-again : tie.Need-loop-again Inv-loop μ-loop
+unfolding howMany
+loop-again c =
+    (search needs,
+    omega (arith, c .one .ensures .1),
+    rw (add-one, c .one .ensures .0, c .before .active .ensures, c .before .before .member .ensures, c .before .before .before .before .loop .inv .2))
+
+returns : tie.Need-returns Inv-loop μ-loop
+unfolding activeMembers
+returns c =
+    let e : c .before .loop .i ≡ c .before .before .members .result = omega arith in
+    c .before .loop .inv .2 ∙ ap (howMany _) (e ∙ c .before .before .members .ensures .0)
+
+pub active-members-spec : {M : Type 1} → statement M
+active-members-spec =
+    tie.close
+    (tie.spec
+    Inv-loop
+    μ-loop
+    members-requires
+    loop-holds
+    cast-member
+    member-requires
+    active-requires
+    one-requires
+    cast-found
+    add-found
+    add-i
+    loop-less
+    loop-again
+    returns)

@@ -1,0 +1,43 @@
+-- The start value, or in the granted range. Assumes nothing.
+use mathlib.Core.Path.{_≡_, sym, _∙_}
+use lib.IntN.{ℤ}
+use mir.Val.{toZ, ofZ}
+use mir.Syntax.{w16}
+use Rattle.listener.specs.Sound.{soundOffset}
+use borrow.Author.Needs.{needs}
+use Rattle.listener.proofs.sounding.sound_offset.Statement.{statement}
+use Rattle.listener.proofs.sounding.sound_offset.Tie as tie
+
+start-value-requires : tie.Need-start-value-requires
+start-value-requires c κs = search needs
+
+signed-requires : tie.Need-signed-requires
+signed-requires c κs = search needs
+
+same-offset-requires : tie.Need-same-offset-requires
+same-offset-requires c κs = search needs
+
+grants-requires : tie.Need-grants-requires
+grants-requires c κs = search needs
+
+offset-fits-requires : tie.Need-offset-fits-requires
+offset-fits-requires c κs = search needs
+
+returns : tie.Need-returns
+unfolding soundOffset
+returns c =
+    let p : toZ w16 (ofZ w16 (c .before .before .before .before .before .before .args .offset)) ≡ c .before .before .before .before .before .before .args .offset = search needs in
+    let q : toZ w16 (ofZ w16 (c .before .before .before .signed .result)) ≡ c .before .before .before .signed .result = search needs in
+    simp (c .offset-fits .ensures, c .before .grants .ensures, c .before .before .same-offset .ensures, p, q)
+    (simp (c .before .before .before .signed .ensures, c .before .before .before .before .start-value .ensures))
+
+pub sound-offset-spec : {M : Type 1} → statement M
+sound-offset-spec =
+    tie.close
+    (tie.spec
+    start-value-requires
+    signed-requires
+    same-offset-requires
+    grants-requires
+    offset-fits-requires
+    returns)
