@@ -24,7 +24,7 @@ module _ {X : Type 0} where
         inside = omega arith;
         right = below-more (λ k. getD (set t i v) k d ≡ f k) i
             (λ k m. getD-set-other t i k v d (λ q. let z : k ≡ i = q in absurd (omega arith)) ∙ h .right k m)
-            (getD-set-same t i v d b ∙ e)
+            (getD-set-same t i v d b ∙ e);
       }
 
   pub filled-all : (n : ℕ) (f : ℕ → X) (d : X) (t : List X) (i : ℕ) → Filled n f d t i → n ≤ i → t ≡ tabulate f n

@@ -7,7 +7,7 @@ use native.Mathlib.Omega.{arith}
 use lib.Dec.{eqb, leb}
 use lib.IntN.{ℤ}
 use lib.ListN.{length, length-set}
-use borrow.Author.Tests.{leb-false, not-false, ne-eqb}
+use borrow.Author.Tests.{leb-false, not-false, ne-eqb, lt-ltb}
 use Rattle.sheet.specs.Words.{Sheet}
 use Rattle.sheet.specs.Layout.{level, count}
 use Rattle.sheet.specs.Fields.{programmes, objects}
@@ -34,7 +34,7 @@ use Rattle.listener.specs.declared.Reply.{Reply}
 use Rattle.listener.specs.State.{stateObjects, setting, sameGain, sameOffset, refusalNumber}
 use Rattle.listener.specs.Programme.{startValue, grants, inWholeGroup, startSetting, started}
 use Rattle.listener.specs.Sound.{sound, gainFits, offsetFits, soundGain, soundOffset}
-use Rattle.listener.specs.Calls.{Ground, answerBy, replyBy, opens, notOpen, notSound, notIncluded, noProgramme, notInGroup, noRange, outsideRange, opened, programmeAnswer, chosenProgramme, objectAnswer, movedSetting, chosenObject, valueAnswer, withSetting, gainSet, offsetSet}
+use Rattle.listener.specs.Calls.{Ground, answerBy, replyBy, opens, notOpen, notSound, notIncluded, noProgramme, notInGroup, noRange, outsideRange, opened, programmeAnswer, chosenProgramme, objectAnswer, movedSetting, moved, chosenObject, valueAnswer, withSetting, withGain, withOffset, gainSet, offsetSet}
 use Rattle.listener.specs.Run.{Call, programme, object, gain, offset, reply, run, after, chosenBy, chosen, lastChosen}
 use Rattle.listener.proofs.SoundLaws.{few-objects, start-sound, sound-programme, sound-object, included-parts, stored-sound, moved-sound}
 
@@ -131,9 +131,9 @@ module _ (s : Sheet) (a : AcceptedSheet s) (above : level s ≡ 0 → ⊥) (can-
       by (Refused r) e = k
 
   object-kept : (st : State) (p o : ℕ) → Kept s st p → Kept s (chosenObject s st o .state) p
-  unfolding chosenObject
+  unfolding chosenObject moved
   object-kept st p o k =
-      handed-back (λ x. Kept s x p) (objectAnswer s st o) st (record { programme = st .programme; objects = tabulate (movedSetting s st o) stateObjects }) k
+      handed-back (λ x. Kept s x p) (objectAnswer s st o) st (moved s st o) k
       (λ e.
       let d = object-done st o (k .good) e in
       record { long = length-tabulate (movedSetting s st o) stateObjects; at = k .at; good = moved-sound s a above st o (k .good) (d .0) (d .1) })
@@ -144,7 +144,7 @@ module _ (s : Sheet) (a : AcceptedSheet s) (above : level s ≡ 0 → ⊥) (can-
   unfolding withSetting
   stored-kept st p o x k i e g z =
       let l : o < stateObjects = omega (arith, included-top s a (st .programme) o (sound-programme s st (k .good)) i .0, few-objects s a above) in
-      record { long = length-set (st .objects) o x ∙ k .long; at = k .at; good = stored-sound s st o x (k .long) l e (k .good) i g z }
+      record { long = rw (lt-ltb o stateObjects l) (length-set (st .objects) o x) ∙ k .long; at = k .at; good = stored-sound s st o x (k .long) l e (k .good) i g z }
 
   old-parts : (st : State) (p o : ℕ) → Kept s st p → includes s (st .programme) o ≡ true
       → (soundGain s (st .programme) o (setting st o .gain) ≡ true) × (soundOffset s (st .programme) o (setting st o .offset) ≡ true)
@@ -162,20 +162,20 @@ module _ (s : Sheet) (a : AcceptedSheet s) (above : level s ≡ 0 → ⊥) (can-
   fits-offset p o z e f = rw (e, f) (or-true (sameOffset z (signedOf (startValue s p o Offsets))))
 
   gain-kept : (st : State) (p o : ℕ) (g : Gain) → Kept s st p → Kept s (gainSet s st o g .state) p
-  unfolding gainSet
+  unfolding gainSet withGain
   gain-kept st p o g k =
       handed-back (λ x. Kept s x p) (valueAnswer s st o Gains (gainFits s (st .programme) o g)) st
-      (withSetting st o (record { active = setting st o .active; gain = g; offset = setting st o .offset })) k
+      (withGain st o g) k
       (λ e.
       let d = value-done st o Gains (gainFits s (st .programme) o g) (k .good) e in
       stored-kept st p o (record { active = setting st o .active; gain = g; offset = setting st o .offset }) k (d .0) refl
       (fits-gain (st .programme) o g (d .1) (d .2)) (old-parts st p o k (d .0) .1))
 
   offset-kept : (st : State) (p o : ℕ) (z : ℤ) → Kept s st p → Kept s (offsetSet s st o z .state) p
-  unfolding offsetSet
+  unfolding offsetSet withOffset
   offset-kept st p o z k =
       handed-back (λ x. Kept s x p) (valueAnswer s st o Offsets (offsetFits s (st .programme) o z)) st
-      (withSetting st o (record { active = setting st o .active; gain = setting st o .gain; offset = z })) k
+      (withOffset st o z) k
       (λ e.
       let d = value-done st o Offsets (offsetFits s (st .programme) o z) (k .good) e in
       stored-kept st p o (record { active = setting st o .active; gain = setting st o .gain; offset = z }) k (d .0) refl

@@ -230,7 +230,7 @@ module _ (s : Sheet) (st : State) (o : ℕ) (x : Setting) (long : length (st .ob
 
   stored-other : (q : ℕ) → (q ≡ o → ⊥) → setting next q ≡ setting st q
   unfolding setting withSetting
-  stored-other q h = ap (λ (y : Setting). cond (ltb q stateObjects) y blank) (getD-set-other (st .objects) o q x blank h)
+  stored-other q h = rw (lt-ltb o stateObjects l) (ap (λ (y : Setting). cond (ltb q stateObjects) y blank) (getD-set-other (st .objects) o q x blank h))
 
   stored-active : (q : ℕ) → active next q ≡ active st q
   unfolding active

@@ -2,7 +2,7 @@
 use Prim.Native.Nat.{ℕ}
 use mathlib.Core.Bool.{Bool, true, false, cond, not, _&&_}
 use mathlib.Core.List.{List, [], _∷_}
-use lib.Dec.{eqb, leb}
+use lib.Dec.{eqb, leb, ltb}
 use lib.IntN.{ℤ}
 use lib.ListN.{set}
 use Rattle.sheet.specs.Words.{Sheet}
@@ -91,9 +91,11 @@ movedSetting s st o q =
     (record { active = eqb q o; gain = setting st q .gain; offset = setting st q .offset })
     (setting st q)
 
+unfoldable pub moved : Sheet → State → ℕ → State
+moved s st o = record { programme = st .programme; objects = tabulate (movedSetting s st o) stateObjects }
+
 unfoldable pub chosenObject : Sheet → State → ℕ → Reply
-chosenObject s st o =
-    replyBy (objectAnswer s st o) st (record { programme = st .programme; objects = tabulate (movedSetting s st o) stateObjects })
+chosenObject s st o = replyBy (objectAnswer s st o) st (moved s st o)
 
 -- "30. No effective range of that sort."
 unfoldable pub noRange : Sheet → State → ℕ → Sort → Ground
@@ -109,14 +111,33 @@ valueAnswer s st o t fits = answerBy (notOpen s ∷ notSound s st ∷ notInclude
 
 -- "A gain or offset call stores the value in that object, active or not"
 unfoldable pub withSetting : State → ℕ → Setting → State
-withSetting st o x = record { programme = st .programme; objects = set (st .objects) o x }
+withSetting st o x = record { programme = st .programme; objects = cond (ltb o stateObjects) (set (st .objects) o x) (st .objects) }
+
+unfoldable pub withGain : State → ℕ → Gain → State
+withGain st o g = withSetting st o (record { active = setting st o .active; gain = g; offset = setting st o .offset })
+
+unfoldable pub withOffset : State → ℕ → ℤ → State
+withOffset st o z = withSetting st o (record { active = setting st o .active; gain = setting st o .gain; offset = z })
 
 unfoldable pub gainSet : Sheet → State → ℕ → Gain → Reply
-gainSet s st o g =
-    replyBy (valueAnswer s st o Gains (gainFits s (st .programme) o g)) st
-    (withSetting st o (record { active = setting st o .active; gain = g; offset = setting st o .offset }))
+gainSet s st o g = replyBy (valueAnswer s st o Gains (gainFits s (st .programme) o g)) st (withGain st o g)
 
 unfoldable pub offsetSet : Sheet → State → ℕ → ℤ → Reply
-offsetSet s st o z =
-    replyBy (valueAnswer s st o Offsets (offsetFits s (st .programme) o z)) st
-    (withSetting st o (record { active = setting st o .active; gain = setting st o .gain; offset = z }))
+offsetSet s st o z = replyBy (valueAnswer s st o Offsets (offsetFits s (st .programme) o z)) st (withOffset st o z)
+
+-- The same answers in the steps of the code: 25 and 26, then the rest
+unfoldable pub behind : Sheet → State → Answer → Answer
+behind s st rest = cond (not (opens s)) (Refused NotAccepted) (cond (not (sound s st)) (Refused Unsound) rest)
+
+-- 27
+unfoldable pub numberAnswer : Sheet → ℕ → Answer
+numberAnswer s p = cond (leb (count s programmes) p) (Refused NoProgramme) Done
+
+-- 28 and 29 at a programme
+unfoldable pub groupAnswer : Sheet → ℕ → ℕ → Answer
+groupAnswer s p o = cond (not (includes s p o)) (Refused NotIncluded) (cond (not (inWholeGroup s p o)) (Refused NotInGroup) Done)
+
+-- 28, 30 and 31
+unfoldable pub rangeAnswer : Sheet → ℕ → ℕ → Sort → Bool → Answer
+rangeAnswer s p o t fits =
+    cond (not (includes s p o)) (Refused NotIncluded) (cond (not (grants s p o t)) (Refused NoRange) (cond (not fits) (Refused Outside) Done))

@@ -2,6 +2,7 @@
 // and hands back.
 use values::Gain;
 
+pub mod calls;
 pub mod programme;
 pub mod settings;
 pub mod sounding;

@@ -51,10 +51,11 @@ loop-less c = search needs
 
 loop-again : tie.Need-loop-again Inv-loop μ-loop
 unfolding howMany
-loop-again c =
-    (search needs,
-    omega (arith, c .one .ensures .1),
-    rw (add-one, c .one .ensures .0, c .before .active .ensures, c .before .before .member .ensures, c .before .before .before .before .loop .inv .2))
+loop-again c = (
+  search needs,
+  omega (arith, c .one .ensures .1),
+  rw (add-one, c .one .ensures .0, c .before .active .ensures, c .before .before .member .ensures, c .before .before .before .before .loop .inv .2),
+)
 
 returns : tie.Need-returns Inv-loop μ-loop
 unfolding activeMembers

@@ -1,0 +1,256 @@
+// Opening and the four calls: methods by value, each with the refusals of document 01 in its checking order.
+use crate::Answer;
+use crate::Refusal;
+use crate::Reply;
+use crate::Setting;
+use crate::State;
+use crate::programme::grants;
+use crate::programme::in_whole_group;
+use crate::programme::started;
+use crate::settings::resting;
+use crate::settings::setting;
+use crate::sounding::gain_fits;
+use crate::sounding::offset_fits;
+use crate::sounding::sound;
+use checker::search::check;
+use profile::Verdict;
+use relations::groups::leader_of;
+use relations::programmes::includes;
+use sheet::layout::count;
+use sheet::layout::level;
+use values::Gain;
+use values::Sort;
+ghost use mathlib.Core.Path.{_≡_};
+ghost use Rattle.listener.specs.Calls.{behind, chosenObject, chosenProgramme, gainSet, groupAnswer, moved, movedSetting, numberAnswer, offsetSet, opened, opens, rangeAnswer, replyBy, withGain, withOffset, withSetting};
+ghost use Rattle.listener.specs.State.{restingState};
+ghost use Rattle.sheet.specs.Words.{sheetOf};
+
+// Whether the sheet is accepted and not of level 0.
+pub fn opens(s: &[u8]) -> bool
+    ensures { λ r. ⌜ r ≡ opens (sheetOf (now (s .entry))) ⌝ }
+{
+    let verdict = check(s);
+    match verdict {
+        Verdict::Accepted => level(s) != 0,
+        Verdict::Broken(_, _) => false,
+    }
+}
+
+// A refused call hands back the state that it was given, one that is done another.
+fn reply_by(answer: Answer, given: State, made: State) -> Reply
+    ensures { λ r. ⌜ r ≡ replyBy answer given made ⌝ }
+{
+    match answer {
+        Answer::Done => Reply {
+            answer: Answer::Done,
+            state: made,
+        },
+        Answer::Refused(refusal) => Reply {
+            answer: Answer::Refused(refusal),
+            state: given,
+        },
+    }
+}
+
+// "Refused opening gives programme 0 and 84 times inactive, 0, 0."
+fn resting_state() -> State
+    ensures { λ r. ⌜ r ≡ restingState ⌝ }
+{
+    let x = resting();
+    State {
+        programme: 0,
+        objects: [x; 84],
+    }
+}
+
+// "opening chooses 0"; it can meet 25 only.
+pub fn open(s: &[u8]) -> Reply
+    ensures { λ r. ⌜ r ≡ opened (sheetOf (now (s .entry))) ⌝ }
+{
+    if opens(s) {
+        Reply {
+            answer: Answer::Done,
+            state: started(s, 0),
+        }
+    } else {
+        Reply {
+            answer: Answer::Refused(Refusal::NotAccepted),
+            state: resting_state(),
+        }
+    }
+}
+
+// 25 and 26, then whatever else the call can meet.
+pub fn behind(s: &[u8], state: State, rest: Answer) -> Answer
+    ensures { λ r. ⌜ r ≡ behind (sheetOf (now (s .entry))) state rest ⌝ }
+{
+    if opens(s) {
+        if sound(s, state) {
+            rest
+        } else {
+            Answer::Refused(Refusal::Unsound)
+        }
+    } else {
+        Answer::Refused(Refusal::NotAccepted)
+    }
+}
+
+// 27.
+fn number_answer(s: &[u8], p: u16) -> Answer
+    ensures { λ r. ⌜ r ≡ numberAnswer (sheetOf (now (s .entry))) p ⌝ }
+{
+    if count(s, 1) <= p {
+        Answer::Refused(Refusal::NoProgramme)
+    } else {
+        Answer::Done
+    }
+}
+
+// 28 and 29.
+fn group_answer(s: &[u8], p: u16, o: u16) -> Answer
+    ensures { λ r. ⌜ r ≡ groupAnswer (sheetOf (now (s .entry))) p o ⌝ }
+{
+    if includes(s, p, o) {
+        if in_whole_group(s, p, o) {
+            Answer::Done
+        } else {
+            Answer::Refused(Refusal::NotInGroup)
+        }
+    } else {
+        Answer::Refused(Refusal::NotIncluded)
+    }
+}
+
+// 28, 30 and 31.
+fn range_answer(s: &[u8], p: u16, o: u16, sort: Sort, fits: bool) -> Answer
+    ensures { λ r. ⌜ r ≡ rangeAnswer (sheetOf (now (s .entry))) p o sort fits ⌝ }
+{
+    if includes(s, p, o) {
+        if grants(s, p, o, sort) {
+            if fits {
+                Answer::Done
+            } else {
+                Answer::Refused(Refusal::Outside)
+            }
+        } else {
+            Answer::Refused(Refusal::NoRange)
+        }
+    } else {
+        Answer::Refused(Refusal::NotIncluded)
+    }
+}
+
+// "Choosing an object makes it active and the rest of its group inactive."
+fn moved_setting(s: &[u8], state: State, o: u16, q: u16) -> Setting
+    ensures { λ r. ⌜ r ≡ movedSetting (sheetOf (now (s .entry))) state o q ⌝ }
+{
+    let x = setting(state, q);
+    if leader_of(s, q) == leader_of(s, o) {
+        let gain = x.gain;
+        Setting {
+            active: q == o,
+            gain,
+            offset: x.offset,
+        }
+    } else {
+        x
+    }
+}
+
+fn moved(s: &[u8], state: State, o: u16) -> State
+    ensures { λ r. ⌜ r ≡ moved (sheetOf (now (s .entry))) state o ⌝ }
+{
+    let x = resting();
+    let mut objects = [x; 84];
+    let mut q: usize = 0;
+    while q < 84 {
+        objects[q] = moved_setting(s, state, o, q as u16);
+        q += 1;
+    }
+    State {
+        programme: state.programme,
+        objects,
+    }
+}
+
+// The state with another setting for an object.
+fn with_setting(state: State, o: u16, x: Setting) -> State
+    ensures { λ r. ⌜ r ≡ withSetting state o x ⌝ }
+{
+    let i = o as usize;
+    if i < 84 {
+        let mut next = state;
+        next.objects[i] = x;
+        next
+    } else {
+        state
+    }
+}
+
+fn with_gain(state: State, o: u16, gain: Gain) -> State
+    ensures { λ r. ⌜ r ≡ withGain state o gain ⌝ }
+{
+    let x = setting(state, o);
+    with_setting(
+        state,
+        o,
+        Setting {
+            active: x.active,
+            gain,
+            offset: x.offset,
+        },
+    )
+}
+
+fn with_offset(state: State, o: u16, offset: i16) -> State
+    ensures { λ r. ⌜ r ≡ withOffset state o offset ⌝ }
+{
+    let x = setting(state, o);
+    let gain = x.gain;
+    with_setting(
+        state,
+        o,
+        Setting {
+            active: x.active,
+            gain,
+            offset,
+        },
+    )
+}
+
+impl State {
+    // Starts a programme.
+    pub fn choose_programme(self, s: &[u8], p: u16) -> Reply
+        ensures { λ r. ⌜ r ≡ chosenProgramme (sheetOf (now (s .entry))) self p ⌝ }
+    {
+        let answer = behind(s, self, number_answer(s, p));
+        reply_by(answer, self, started(s, p))
+    }
+
+    // Makes an object the active one of its group.
+    pub fn choose_object(self, s: &[u8], o: u16) -> Reply
+        ensures { λ r. ⌜ r ≡ chosenObject (sheetOf (now (s .entry))) self o ⌝ }
+    {
+        let p = self.programme;
+        let answer = behind(s, self, group_answer(s, p, o));
+        reply_by(answer, self, moved(s, self, o))
+    }
+
+    // Stores a gain in an object, active or not.
+    pub fn set_gain(self, s: &[u8], o: u16, gain: Gain) -> Reply
+        ensures { λ r. ⌜ r ≡ gainSet (sheetOf (now (s .entry))) self o gain ⌝ }
+    {
+        let p = self.programme;
+        let rest = range_answer(s, p, o, Sort::Gains, gain_fits(s, p, o, gain));
+        reply_by(behind(s, self, rest), self, with_gain(self, o, gain))
+    }
+
+    // Stores an offset in an object, active or not.
+    pub fn set_offset(self, s: &[u8], o: u16, offset: i16) -> Reply
+        ensures { λ r. ⌜ r ≡ offsetSet (sheetOf (now (s .entry))) self o offset ⌝ }
+    {
+        let p = self.programme;
+        let rest = range_answer(s, p, o, Sort::Offsets, offset_fits(s, p, o, offset));
+        reply_by(behind(s, self, rest), self, with_offset(self, o, offset))
+    }
+}
