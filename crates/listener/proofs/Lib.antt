@@ -1,3 +1,5 @@
+mod ListedLaws
+mod WrittenLaws
 mod AndLaws
 mod FillLaws
 pub mod StartLaws

@@ -5,3 +5,4 @@ pub mod Calls
 pub mod Listing
 pub mod Run
 pub mod Guarantee
+pub mod Written

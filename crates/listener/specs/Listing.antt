@@ -56,17 +56,19 @@ unfoldable pub listingAnswer : Sheet → State → ℕ → Answer
 listingAnswer s st words = answerBy (notOpen s ∷ notSound s st ∷ tooFewWords s st words ∷ [])
 
 -- the number of entries, none where it is refused
-unfoldable pub listed : Sheet → State → ℕ → Listing
-listed s st words = listedBy (listingAnswer s st words)
-  where
-    listedBy : Answer → Listing
-    listedBy Done = record { answer = Done; entries = length (entries s st) }
-    listedBy (Refused r) = record { answer = Refused r; entries = 0 }
+unfoldable pub listedBy : ℕ → Answer → Listing
+listedBy n Done = record { answer = Done; entries = n }
+listedBy n (Refused r) = record { answer = Refused r; entries = 0 }
 
--- the buffer's words afterwards: "later words stay", a refused listing writes nothing
+-- what listing into so many words gives
+unfoldable pub listed : Sheet → State → ℕ → Listing
+listed s st words = listedBy (length (entries s st)) (listingAnswer s st words)
+
+-- "later words stay", a refused listing writes nothing
+unfoldable pub bufferedBy : List ℕ → List ℕ → Answer → List ℕ
+bufferedBy buffer written Done = sets buffer 0 written
+bufferedBy buffer written (Refused r) = buffer
+
+-- the buffer's words afterwards
 unfoldable pub buffered : Sheet → State → List ℕ → List ℕ
-buffered s st buffer = bufferedBy (listingAnswer s st (length buffer))
-  where
-    bufferedBy : Answer → List ℕ
-    bufferedBy Done = sets buffer 0 (listedTracks s st)
-    bufferedBy (Refused r) = buffer
+buffered s st buffer = bufferedBy buffer (listedTracks s st) (listingAnswer s st (length buffer))

@@ -6,6 +6,7 @@ pub mod calls;
 pub mod programme;
 pub mod settings;
 pub mod sounding;
+pub mod writing;
 
 // One object's setting: active or not, its gain, its offset in tenths of a degree.
 pub struct Setting {

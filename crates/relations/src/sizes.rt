@@ -16,7 +16,7 @@ ghost use Rattle.relations.specs.Sizes.{childrenTracks, largestMember, l
 ghost use Rattle.sheet.specs.Words.{sheetOf};
 
 // The tracks of an object's children.
-fn children_tracks(s: &[u8], o: u16) -> u32
+pub fn children_tracks(s: &[u8], o: u16) -> u32
     ensures { λ r. ⌜ r ≡ childrenTracks (sheetOf (now (s .entry))) o ⌝ }
 {
     let n = number(s, 3, o, 3);

@@ -1,0 +1,36 @@
+-- Its own and its children's. Assumes nothing.
+use native.Mathlib.Omega.{arith}
+use Rattle.listener.specs.Written.{objectNumber}
+use borrow.Author.Needs.{needs}
+use Rattle.listener.proofs.writing.object_number.Statement.{statement}
+use Rattle.listener.proofs.writing.object_number.Tie as tie
+
+number-requires : tie.Need-number-requires
+number-requires c κs = search needs
+
+cast-result : tie.Need-cast-result
+cast-result c = search needs
+
+children-tracks-requires : tie.Need-children-tracks-requires
+children-tracks-requires c κs = search needs
+
+cast-result-2 : tie.Need-cast-result-2
+cast-result-2 c = search needs
+
+add-result : tie.Need-add-result
+add-result c = search needs
+
+returns : tie.Need-returns
+unfolding objectNumber
+returns c = (rw (c .children-tracks .ensures, c .before .number .ensures), omega arith)
+
+pub object-number-spec : {M : Type 1} → statement M
+object-number-spec =
+    tie.close
+    (tie.spec
+    number-requires
+    cast-result
+    children-tracks-requires
+    cast-result-2
+    add-result
+    returns)

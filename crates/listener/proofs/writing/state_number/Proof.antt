@@ -1,0 +1,57 @@
+-- The sum so far is that of the objects passed. Assumes nothing.
+use Prim.Native.Nat.{ℕ, _*_, _-_, _<_, _≤_}
+use mathlib.Core.Path.{_≡_, refl, ap, _∙_}
+use native.Mathlib.Omega.{arith}
+use native.Mathlib.Numerals.{add-one}
+use Rattle.profile.specs.Counting.{sum}
+use Rattle.sheet.specs.Words.{sheetOf}
+use Rattle.listener.specs.Written.{numberWhen, stateNumber}
+use Rattle.listener.proofs.writing.state_number.Statement.{statement}
+use Rattle.listener.proofs.writing.state_number.Tie as tie
+use borrow.Author.Needs.{needs}
+
+abbrev Inv-loop : tie.InvT-loop
+Inv-loop s state total₀ o₀ total o = (o ≤ 84) × (total ≤ 4295032830 * o) × (total ≡ sum (numberWhen (sheetOf s) state) o)
+
+abbrev μ-loop : tie.MeasureT-loop
+μ-loop s state total₀ o₀ total o = 84 - o
+
+loop-holds : tie.Need-loop-holds Inv-loop μ-loop
+unfolding sum
+loop-holds c = (search needs, search needs, refl)
+
+number-when-requires : tie.Need-number-when-requires Inv-loop μ-loop
+number-when-requires c κs = search needs
+
+add-total : tie.Need-add-total Inv-loop μ-loop
+add-total c = omega (arith, c .number-when .ensures .1)
+
+add-o : tie.Need-add-o Inv-loop μ-loop
+add-o c = search needs
+
+loop-less : tie.Need-loop-less Inv-loop μ-loop
+loop-less c = search needs
+
+loop-again : tie.Need-loop-again Inv-loop μ-loop
+unfolding sum
+loop-again c = (search needs, omega (arith, c .number-when .ensures .1), rw (add-one, c .number-when .ensures .0, c .before .before .loop .inv .2))
+
+returns : tie.Need-returns Inv-loop μ-loop
+unfolding stateNumber
+returns c =
+    let e : c .before .loop .o ≡ 84 = omega arith in
+    c .before .loop .inv .2 ∙ ap (sum _) e
+
+pub state-number-spec : {M : Type 1} → statement M
+state-number-spec =
+    tie.close
+    (tie.spec
+    Inv-loop
+    μ-loop
+    loop-holds
+    number-when-requires
+    add-total
+    add-o
+    loop-less
+    loop-again
+    returns)

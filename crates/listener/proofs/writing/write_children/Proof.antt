@@ -1,0 +1,65 @@
+-- The children passed are written, one behind the other. Assumes nothing.
+use Prim.Native.Nat.{ℕ, _+_, _-_}
+use mathlib.Core.Path.{_≡_, refl, sym, ap, _∙_}
+use native.Mathlib.Omega.{arith}
+use lib.ListN.{length}
+use lib.Seq.{sets}
+use Rattle.sheet.specs.Words.{sheetOf}
+use Rattle.sheet.specs.Layout.{entry}
+use Rattle.sheet.specs.Fields.{objects, childList}
+use Rattle.listener.specs.Written.{ownTracks, childTracks}
+use Rattle.listener.proofs.WrittenLaws.{Written, written-none, written-more, room, same-long, written-all}
+use Rattle.listener.proofs.writing.write_children.Statement.{statement}
+use Rattle.listener.proofs.writing.write_children.Tie as tie
+use borrow.Author.Needs.{needs}
+
+abbrev Inv-loop : tie.InvT-loop
+Inv-loop s o buffer₀ at n pos₀ i₀ buffer pos i = Written (λ j. ownTracks (sheetOf s) (entry (sheetOf s) objects o childList j)) n at buffer₀ buffer pos i
+
+abbrev μ-loop : tie.MeasureT-loop
+μ-loop s o buffer₀ at n pos₀ i₀ buffer pos i = n - i
+
+number-requires : tie.Need-number-requires Inv-loop μ-loop
+number-requires c κs = search needs
+
+loop-holds : tie.Need-loop-holds Inv-loop μ-loop
+loop-holds c = written-none _ _ _ _
+
+entry-requires : tie.Need-entry-requires Inv-loop μ-loop
+entry-requires c κs = search needs
+
+write-own-requires : tie.Need-write-own-requires Inv-loop μ-loop
+unfolding childTracks
+write-own-requires c κs = rw (c .before .entry .ensures) (room (λ j. ownTracks (sheetOf (c .before .before .before .before .before .before .before .args .s .now)) (entry (sheetOf (c .before .before .before .before .before .before .before .args .s .now)) objects (c .before .before .before .before .before .before .before .args .o) childList j)) (c .before .before .before .before .number .result) (c .before .before .before .before .before .before .before .args .at) (c .before .before .before .before .before .before .before .args .buffer .now) (c .before .before .before .loop .buffer) (c .before .before .before .loop .pos) (c .before .before .before .loop .i) (c .before .before .before .loop .inv) (c .before .before .loop-test .taken) (rw (c .before .before .before .before .number .ensures) (c .before .before .before .before .before .before .before .pre)))
+
+add-i : tie.Need-add-i Inv-loop μ-loop
+add-i c = search needs
+
+loop-less : tie.Need-loop-less Inv-loop μ-loop
+loop-less c = search needs
+
+loop-again : tie.Need-loop-again Inv-loop μ-loop
+loop-again c = written-more _ _ _ _ _ _ _ (c .before .before .before .before .before .before .loop .inv) _ _ (c .before .before .before .before .before .loop-test .taken) (c .before .before .write-own .ensures .0 ∙ ap (λ (x : ℕ). c .before .before .before .before .before .before .loop .pos + length (ownTracks (sheetOf (c .before .before .before .before .before .before .before .before .before .before .args .s .now)) x)) (c .before .before .before .before .entry .ensures)) (c .before .before .write-own .ensures .1 ∙ ap (λ (x : ℕ). sets (c .before .before .before .before .before .before .loop .buffer) (c .before .before .before .before .before .before .loop .pos) (ownTracks (sheetOf (c .before .before .before .before .before .before .before .before .before .before .args .s .now)) x)) (c .before .before .before .before .entry .ensures))
+
+same-length : tie.Need-same-length Inv-loop μ-loop
+same-length c = same-long _ _ _ _ _ _ _ (c .before .loop .inv)
+
+returns : tie.Need-returns Inv-loop μ-loop
+unfolding childTracks
+returns c = rw (← c .before .before .number .ensures) (written-all _ _ _ _ _ _ _ (c .before .loop .inv) (c .loop-test .left))
+
+pub write-children-spec : {M : Type 1} → statement M
+write-children-spec =
+    tie.close
+    (tie.spec
+    Inv-loop
+    μ-loop
+    number-requires
+    loop-holds
+    entry-requires
+    write-own-requires
+    add-i
+    loop-less
+    loop-again
+    same-length
+    returns)

@@ -1,0 +1,145 @@
+// Listing: the tracks of the active objects, into lent words.
+use crate::Answer;
+use crate::Listing;
+use crate::Refusal;
+use crate::State;
+use crate::calls::behind;
+use crate::settings::active;
+use relations::sizes::children_tracks;
+use sheet::layout::entry;
+use sheet::layout::number;
+ghost use Prim.Native.Nat.{_+_, _≤_};
+ghost use lib.ListN.{length};
+ghost use lib.Seq.{sets};
+ghost use mathlib.Core.Path.{_≡_};
+ghost use Rattle.listener.specs.Listing.{buffered, listed};
+ghost use Rattle.listener.specs.Written.{childTracks, numberWhen, objectNumber, objectTracks, ownTracks, stateNumber, stateTracks, tracksWhen};
+ghost use Rattle.sheet.specs.Words.{sheetOf};
+
+// How many entries an object gives.
+fn object_number(s: &[u8], o: u16) -> u64
+    ensures { λ r. ⌜ (r ≡ objectNumber (sheetOf (now (s .entry))) o) × (r ≤ 4295032830) ⌝ }
+{
+    number(s, 3, o, 1) as u64 + children_tracks(s, o) as u64
+}
+
+// How many it gives if it is active.
+fn number_when(s: &[u8], state: State, o: u16) -> u64
+    ensures { λ r. ⌜ (r ≡ numberWhen (sheetOf (now (s .entry))) state o) × (r ≤ 4295032830) ⌝ }
+{
+    if active(state, o) {
+        object_number(s, o)
+    } else {
+        0
+    }
+}
+
+// How many entries the listing has.
+fn state_number(s: &[u8], state: State) -> u64
+    ensures { λ r. ⌜ r ≡ stateNumber (sheetOf (now (s .entry))) state ⌝ }
+{
+    let mut total: u64 = 0;
+    let mut o: u16 = 0;
+    while o < 84 {
+        total += number_when(s, state, o);
+        o += 1;
+    }
+    total
+}
+
+// Writes an object's own tracks from a place on.
+fn write_own(s: &[u8], o: u16, buffer: &mut [u16], at: usize) -> usize
+    requires { ⌜ at + length (ownTracks (sheetOf (now s)) o) ≤ length (now buffer) ⌝ }
+    ensures { λ r. ⌜ (r ≡ at + length (ownTracks (sheetOf (now (s .entry))) o)) × (now (buffer .exit) ≡ sets (now (buffer .entry)) at (ownTracks (sheetOf (now (s .entry))) o)) ⌝ }
+{
+    let n = number(s, 3, o, 1);
+    let mut pos = at;
+    let mut i: u16 = 0;
+    while i < n {
+        buffer[pos] = entry(s, 3, o, 1, i);
+        pos += 1;
+        i += 1;
+    }
+    pos
+}
+
+// Writes its children's.
+fn write_children(s: &[u8], o: u16, buffer: &mut [u16], at: usize) -> usize
+    requires { ⌜ at + length (childTracks (sheetOf (now s)) o) ≤ length (now buffer) ⌝ }
+    ensures { λ r. ⌜ (r ≡ at + length (childTracks (sheetOf (now (s .entry))) o)) × (now (buffer .exit) ≡ sets (now (buffer .entry)) at (childTracks (sheetOf (now (s .entry))) o)) ⌝ }
+{
+    let n = number(s, 3, o, 3);
+    let mut pos = at;
+    let mut i: u16 = 0;
+    while i < n {
+        pos = write_own(s, entry(s, 3, o, 3, i), buffer, pos);
+        i += 1;
+    }
+    pos
+}
+
+// Writes both.
+fn write_object(s: &[u8], o: u16, buffer: &mut [u16], at: usize) -> usize
+    requires { ⌜ at + length (objectTracks (sheetOf (now s)) o) ≤ length (now buffer) ⌝ }
+    ensures { λ r. ⌜ (r ≡ at + length (objectTracks (sheetOf (now (s .entry))) o)) × (now (buffer .exit) ≡ sets (now (buffer .entry)) at (objectTracks (sheetOf (now (s .entry))) o)) ⌝ }
+{
+    let pos = write_own(s, o, buffer, at);
+    write_children(s, o, buffer, pos)
+}
+
+// Writes them if the object is active.
+fn write_when(s: &[u8], state: State, o: u16, buffer: &mut [u16], at: usize) -> usize
+    requires { ⌜ at + length (tracksWhen (sheetOf (now s)) state o) ≤ length (now buffer) ⌝ }
+    ensures { λ r. ⌜ (r ≡ at + length (tracksWhen (sheetOf (now (s .entry))) state o)) × (now (buffer .exit) ≡ sets (now (buffer .entry)) at (tracksWhen (sheetOf (now (s .entry))) state o)) ⌝ }
+{
+    if active(state, o) {
+        write_object(s, o, buffer, at)
+    } else {
+        at
+    }
+}
+
+// Writes all of them from the buffer's start.
+fn write_state(s: &[u8], state: State, buffer: &mut [u16]) -> usize
+    requires { ⌜ length (stateTracks (sheetOf (now s)) state) ≤ length (now buffer) ⌝ }
+    ensures { λ r. ⌜ (r ≡ length (stateTracks (sheetOf (now (s .entry))) state)) × (now (buffer .exit) ≡ sets (now (buffer .entry)) 0 (stateTracks (sheetOf (now (s .entry))) state)) ⌝ }
+{
+    let mut pos: usize = 0;
+    let mut o: u16 = 0;
+    while o < 84 {
+        pos = write_when(s, state, o, buffer, pos);
+        o += 1;
+    }
+    pos
+}
+
+impl State {
+    // Writes the tracks of the active objects and gives how many; a refused listing writes nothing.
+    pub fn list(self, s: &[u8], buffer: &mut [u16]) -> Listing
+        ensures { λ r. ⌜ (r ≡ listed (sheetOf (now (s .entry))) self (length (now (buffer .entry)))) × (now (buffer .exit) ≡ buffered (sheetOf (now (s .entry))) self (now (buffer .entry))) ⌝ }
+    {
+        let n = state_number(s, self);
+        let words = buffer.len() as u64;
+        if words < n {
+            let refused = behind(s, self, Answer::Refused(Refusal::TooFewWords));
+            return Listing {
+                answer: refused,
+                entries: 0,
+            };
+        }
+        let answer = behind(s, self, Answer::Done);
+        match answer {
+            Answer::Done => {
+                write_state(s, self, buffer);
+                Listing {
+                    answer: Answer::Done,
+                    entries: n,
+                }
+            }
+            Answer::Refused(refusal) => Listing {
+                answer: Answer::Refused(refusal),
+                entries: 0,
+            },
+        }
+    }
+}
