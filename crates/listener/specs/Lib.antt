@@ -5,3 +5,6 @@ pub mod Calls
 pub mod Listing
 pub mod Run
 pub mod Guarantee
+pub mod Played
+pub mod ScriptSheets
+pub mod Scripts
