@@ -3,6 +3,9 @@ pub mod Programme
 pub mod Sound
 pub mod Calls
 pub mod Listing
+pub mod Written
 pub mod Run
 pub mod Guarantee
-pub mod Written
+pub mod Played
+pub mod ScriptSheets
+pub mod Scripts
