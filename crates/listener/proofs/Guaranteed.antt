@@ -8,6 +8,7 @@ use mathlib.Core.Logic.{_⊎_, ⊎-elim}
 use native.Mathlib.Omega.{arith}
 use native.Mathlib.Nat.{le-trans}
 use lib.ListN.{length}
+use lib.Seq.{sets}
 use borrow.Author.Tests.{le-ltb}
 use Rattle.sheet.specs.Words.{Sheet}
 use Rattle.sheet.specs.Layout.{level}
@@ -20,8 +21,8 @@ use Rattle.listener.specs.declared.State.{State}
 use Rattle.listener.specs.declared.Answer.the-variants.{Done}
 use Rattle.listener.specs.declared.Refusal.the-variants.{NotAccepted, Unsound}
 use Rattle.listener.specs.Sound.{sound}
-use Rattle.listener.specs.Calls.{opens, answerBy, notOpen, notSound}
-use Rattle.listener.specs.Listing.{entries, tooFewWords, listingAnswer}
+use Rattle.listener.specs.Calls.{opens, answerBy, replyBy, notOpen, notSound, opened}
+use Rattle.listener.specs.Listing.{entries, listedTracks, tooFewWords, listingAnswer, listedBy, listed, bufferedBy, buffered}
 use Rattle.listener.specs.Run.{Call, after, lastChosen}
 use Rattle.listener.specs.Guarantee.{mostEntries, Promises, Listening}
 use Rattle.listener.proofs.RunLaws.{opens-accepted, passes, never, never-refused, after-kept}
@@ -51,12 +52,25 @@ module _ (s : Sheet) (accepted : verdict s ≡ Accepted) (at : (level s ≡ 1) �
   unfolding listingAnswer tooFewWords answerBy
   enough st h words l = passes s a above can-open st (tooFewWords s st words ∷ []) h ∙ rw (le-ltb words (length (entries s st)) l)
 
+  done-listing : (st : State) → sound s st ≡ true → (words : ℕ) → length (entries s st) ≤ words → listed s st words ≡ record { answer = Done; entries = length (entries s st) }
+  unfolding listed listedBy
+  done-listing st h words l = rw (enough st h words l)
+
+  done-writing : (st : State) → sound s st ≡ true → (buffer : List ℕ) → length (entries s st) ≤ length buffer → buffered s st buffer ≡ sets buffer 0 (listedTracks s st)
+  unfolding buffered bufferedBy
+  done-writing st h buffer l = rw (enough st h (length buffer) l)
+
+  done-opening : opened s .answer ≡ Done
+  unfolding opened answerBy notOpen replyBy
+  done-opening = rw can-open
+
   -- of every sound state
   promised : (st : State) → sound s st ≡ true → Promises s (st .programme) st
   unfolding listingAnswer tooFewWords
   promised st h =
       record {
-        listing-done = enough st h;
+        listing-done = done-listing st h;
+        listing-written = done-writing st h;
         at-least-one = listing-least s a above st h;
         at-most = le-trans (listing-most s a above st h) (le-trans (a .counted-most above) (most (level s) at));
         tracks-exist = tracks-exist s a above st h;
@@ -78,4 +92,4 @@ module _ (s : Sheet) (accepted : verdict s ≡ Accepted) (at : (level s ≡ 1) �
   pub listening : (calls : List Call) → Listening s calls
   listening calls =
       let k = after-kept s a above can-open calls in
-      record { programme = k .at; promises = subst (λ (p : ℕ). Promises s p (after s calls)) (k .at) (promised (after s calls) (k .good)) }
+      record { opening-done = done-opening; programme = k .at; promises = subst (λ (p : ℕ). Promises s p (after s calls)) (k .at) (promised (after s calls) (k .good)) }

@@ -9,10 +9,10 @@ use Rattle.sheet.specs.Words.{Sheet}
 use Rattle.sheet.specs.Layout.{number, entry}
 use Rattle.sheet.specs.Fields.{objects, trackList, childList}
 use Rattle.profile.specs.Counting.{sum, concatBelow, tabulate}
-use Rattle.profile.specs.Rules.{trackAt}
 use Rattle.profile.proofs.ListLaws.{length-concat, length-tabulate}
 use Rattle.profile.proofs.SumLaws.{sum-eq}
 use Rattle.relations.specs.Sizes.{childrenTracks}
+use Rattle.profile.specs.Relations.{trackAt}
 use Rattle.listener.specs.declared.State.{State}
 use Rattle.listener.specs.declared.Answer.{Answer}
 use Rattle.listener.specs.declared.Answer.the-variants.{Done, Refused}

@@ -13,8 +13,7 @@ use Rattle.sheet.specs.Words.{Sheet}
 use Rattle.sheet.specs.Layout.{level, count, field, number, entry}
 use Rattle.sheet.specs.Fields.{programmes, contents, objects, packs, tracks, contentList, contentObject, trackList, childList, packChannels, trackPack, trackOrdinal}
 use Rattle.profile.specs.Counting.{any, howMany, sum, largest, concatBelow, tabulate}
-use Rattle.profile.specs.Relations.{lists, times, packOf, hasPack, hasChildren, top, leader, complement, member, members, leaderOf, lone, includes, included, whollyIncluded, size, share, countedTracks}
-use Rattle.profile.specs.Rules.{namings, channels, trackAt}
+use Rattle.profile.specs.Relations.{lists, times, packOf, hasPack, hasChildren, top, leader, complement, member, members, leaderOf, lone, includes, included, whollyIncluded, size, share, countedTracks, namings, channels, trackAt}
 use Rattle.profile.specs.AcceptedSheet.{AcceptedSheet}
 use Rattle.profile.proofs.BoolLaws.{and-both, or-false, or-either}
 use Rattle.profile.proofs.CountingLaws.{any-howMany}

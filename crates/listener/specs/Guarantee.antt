@@ -1,4 +1,5 @@
--- The listening guarantee, demand 3: "after every list of calls from a fresh opening" on a sheet accepted at level 1 or 2. The record has
+-- The listening guarantee, demand 3: "after every list of calls from a fresh opening" on a sheet accepted at level 1 or 2. "Demand 3 is
+-- a single claim about the whole list, not one for each call." The record has
 -- a field for each promise; `listening` in proofs/Guaranteed.antt makes it for every such sheet and every list of calls. Assumes nothing.
 use Prim.Native.Nat.{ℕ, suc, _+_, _<_, _≤_}
 use mathlib.Core.Path.{_≡_}
@@ -6,6 +7,7 @@ use mathlib.Core.Bool.{Bool, true, false, cond, _&&_}
 use mathlib.Core.List.{List, [], _∷_}
 use lib.Dec.{eqb}
 use lib.ListN.{length, getD}
+use lib.Seq.{sets}
 use Rattle.sheet.specs.Words.{Sheet}
 use Rattle.sheet.specs.Layout.{level, count, field}
 use Rattle.sheet.specs.Fields.{objects, packs, tracks, packChannels, trackPack, trackOrdinal}
@@ -20,7 +22,8 @@ use Rattle.listener.specs.declared.Answer.the-variants.{Done, Refused}
 use Rattle.listener.specs.declared.Refusal.the-variants.{NotAccepted, Unsound}
 use Rattle.listener.specs.State.{setting}
 use Rattle.listener.specs.Programme.{startSetting, grantedMinimum, grantedMaximum, grants}
-use Rattle.listener.specs.Listing.{Entry, sounds, entries, listedTracks, listingAnswer, listed}
+use Rattle.listener.specs.Calls.{opened}
+use Rattle.listener.specs.Listing.{Entry, sounds, entries, listedTracks, listingAnswer, listed, buffered}
 use Rattle.listener.specs.Run.{Call, reply, after, lastChosen}
 
 -- "1 to 16 (28) entries": the most at level 1, and at level 2
@@ -39,8 +42,10 @@ isChannel s o n e =
 
 -- the promises about one state, at a programme
 pub record Promises (s : Sheet) (p : ℕ) (st : State) : Type 0 where
-  -- the listing with enough space is done, has 1 to 16 (28) entries, each a track of the sheet
-  pub listing-done : (words : ℕ) → length (entries s st) ≤ words → listingAnswer s st words ≡ Done
+  -- the listing with enough space ("Enough space is a word for each entry.") is done, gives the number of entries and writes their
+  -- tracks; it has 1 to 16 (28) entries, each a track of the sheet
+  pub listing-done : (words : ℕ) → length (entries s st) ≤ words → listed s st words ≡ record { answer = Done; entries = length (entries s st) }
+  pub listing-written : (buffer : List ℕ) → length (entries s st) ≤ length buffer → buffered s st buffer ≡ sets buffer 0 (listedTracks s st)
   pub at-least-one : 1 ≤ length (entries s st)
   pub at-most : length (entries s st) ≤ mostEntries (level s)
   pub tracks-exist : (i : ℕ) → i < length (listedTracks s st) → getD (listedTracks s st) i 0 < count s tracks
@@ -58,10 +63,10 @@ pub record Promises (s : Sheet) (p : ℕ) (st : State) : Type 0 where
       → gainInRange (gainOf (grantedMinimum s p o Gains)) (setting st o .gain) (gainOf (grantedMaximum s p o Gains)) ≡ true
   pub offset-in-range : (o : ℕ) → o < count s objects → grants s p o Offsets ≡ true
       → offsetInRange (signedOf (grantedMinimum s p o Offsets)) (setting st o .offset) (signedOf (grantedMaximum s p o Offsets)) ≡ true
-  -- and at their start value where none is granted
+  -- and at their start value where none is granted ("its start value is what choosing that programme gives it")
   pub gain-at-start : (o : ℕ) → o < count s objects → grants s p o Gains ≡ false → setting st o .gain ≡ startSetting s p o .gain
   pub offset-at-start : (o : ℕ) → o < count s objects → grants s p o Offsets ≡ false → setting st o .offset ≡ startSetting s p o .offset
-  -- 25 and 26 never come
+  -- "From an accepted opening on the same sheet 25 and 26 never come."
   pub never-25 : (c : Call) → reply s st c .answer ≡ Refused NotAccepted → ⊥
   pub never-26 : (c : Call) → reply s st c .answer ≡ Refused Unsound → ⊥
   pub listing-never-25 : (words : ℕ) → listingAnswer s st words ≡ Refused NotAccepted → ⊥
@@ -69,5 +74,6 @@ pub record Promises (s : Sheet) (p : ℕ) (st : State) : Type 0 where
 
 -- the promises after a list of calls, at the programme of the last programme choice not refused, 0 if there is none
 pub record Listening (s : Sheet) (calls : List Call) : Type 0 where
+  pub opening-done : opened s .answer ≡ Done
   pub programme : after s calls .programme ≡ lastChosen s calls
   pub promises : Promises s (lastChosen s calls) (after s calls)

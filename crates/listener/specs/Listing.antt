@@ -12,8 +12,7 @@ use Rattle.sheet.specs.Words.{Sheet}
 use Rattle.sheet.specs.Layout.{count, number, entry}
 use Rattle.sheet.specs.Fields.{objects, trackList, childList}
 use Rattle.profile.specs.Counting.{any, concatBelow, tabulate}
-use Rattle.profile.specs.Relations.{lists}
-use Rattle.profile.specs.Rules.{trackAt}
+use Rattle.profile.specs.Relations.{lists, trackAt}
 use Rattle.listener.specs.declared.State.{State}
 use Rattle.listener.specs.declared.Refusal.the-variants.{TooFewWords}
 use Rattle.listener.specs.declared.Answer.{Answer}

@@ -39,7 +39,7 @@ inWholeGroup s p o = leader s (leaderOf s o) && whollyIncluded s p (leaderOf s o
 unfoldable pub startsActive : Sheet → ℕ → ℕ → Bool
 startsActive s p o = not (inWholeGroup s p o) || leader s o
 
--- "Choosing a programme [..] starts it [..]. All others are inactive, 0, 0."
+-- "Choosing a programme (opening chooses 0) starts it [..]. All others are inactive, 0, 0."
 unfoldable pub startSetting : Sheet → ℕ → ℕ → Setting
 startSetting s p o =
     cond (includes s p o)

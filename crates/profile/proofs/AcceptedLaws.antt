@@ -15,8 +15,8 @@ use Rattle.values.specs.Values.{isAbsent, isValue, isMinimum, isMaximum, inRang
 use Rattle.profile.specs.declared.Verdict.the-variants.{Accepted}
 use Rattle.profile.specs.Counting.{any, howMany, sum}
 use Rattle.profile.specs.Limits.{limit, exceeds, programmesLimit, objectsLimit, programmeContentsLimit, programmeSetsLimit, labelsLimit, channelsLimit, countedLimit}
-use Rattle.profile.specs.Relations.{times, packOf, hasPack, hasChildren, hasObjectsPack, top, leader, included, whollyIncluded, hasSet, owner, namedSet, objectValue, objectMinimum, objectMaximum, setValue, setMinimum, setMaximum, ownValue, effectiveValue, effectiveMinimum, effectiveMaximum, countedTracks}
-use Rattle.profile.specs.Rules.{rule2, rule5, rule6, rule7, rule8, rule10, rule11, rule13, rule14, rule15, rule18, rule19, rule21, rule24, lacks, listLacks, badWords, badObject, badObjectWords, badPack, badSet, badSetWords, objectRange, setRange, outside, namings, channels, trackAt, badComplement, leaves, objectLeaves, setLeaves}
+use Rattle.profile.specs.Relations.{times, packOf, hasPack, hasChildren, hasObjectsPack, top, leader, included, whollyIncluded, hasSet, owner, namedSet, objectValue, objectMinimum, objectMaximum, setValue, setMinimum, setMaximum, ownValue, effectiveValue, effectiveMinimum, effectiveMaximum, countedTracks, namings, channels, trackAt}
+use Rattle.profile.specs.Rules.{rule2, rule5, rule6, rule7, rule8, rule10, rule11, rule13, rule14, rule15, rule18, rule19, rule21, rule24, lacks, listLacks, badWords, badObject, badObjectWords, badPack, badSet, badSetWords, objectRange, setRange, outside, badComplement, leaves, objectLeaves, setLeaves}
 use Rattle.profile.specs.Verdict.{ruleCount, sectionCount, breaks, rules, subjects, subjectKind, subjectTable, verdict}
 use Rattle.profile.specs.AcceptedSheet.{AcceptedSheet, Legal, LegalRange, Within}
 use Rattle.profile.proofs.BoolLaws.{or-false, or-none, or-none-3, or-none-4, first-of-7, and-both, and-second, opposites, together, one-of}

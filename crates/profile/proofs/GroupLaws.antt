@@ -11,8 +11,7 @@ use Rattle.sheet.specs.Words.{Sheet}
 use Rattle.sheet.specs.Layout.{count, field, number, entry}
 use Rattle.sheet.specs.Fields.{programmes, contents, objects, contentList, contentObject, childList, complementList}
 use Rattle.profile.specs.Counting.{any, howMany, sum, lowest}
-use Rattle.profile.specs.Relations.{lists, times, top, leader, complement, member, members, leaderOf, includes, included, whollyIncluded}
-use Rattle.profile.specs.Rules.{namings}
+use Rattle.profile.specs.Relations.{lists, times, top, leader, complement, member, members, leaderOf, includes, included, whollyIncluded, namings}
 use Rattle.profile.specs.AcceptedSheet.{AcceptedSheet}
 use Rattle.profile.proofs.CountingLaws.{any-howMany, any-none, lowest-holds, lowest-le, finds}
 use Rattle.profile.proofs.SumLaws.{sum-one, sum-two, any-one, howMany-all, howMany-shift}

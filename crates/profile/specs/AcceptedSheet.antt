@@ -11,8 +11,7 @@ use Rattle.values.specs.declared.Sort.{Sort}
 use Rattle.values.specs.Values.{isAbsent, isValue, isMinimum, isMaximum, inRange}
 use Rattle.profile.specs.Counting.{howMany, sum}
 use Rattle.profile.specs.Limits.{limit, objectsLimit, countedLimit}
-use Rattle.profile.specs.Relations.{times, packOf, hasPack, hasChildren, top, leader, included, whollyIncluded, hasSet, owner, namedSet, objectValue, objectMinimum, objectMaximum, setValue, setMinimum, setMaximum, ownValue, effectiveValue, effectiveMinimum, effectiveMaximum, countedTracks}
-use Rattle.profile.specs.Rules.{namings, channels, trackAt}
+use Rattle.profile.specs.Relations.{times, packOf, hasPack, hasChildren, top, leader, included, whollyIncluded, hasSet, owner, namedSet, objectValue, objectMinimum, objectMaximum, setValue, setMinimum, setMaximum, ownValue, effectiveValue, effectiveMinimum, effectiveMaximum, countedTracks, namings, channels, trackAt}
 
 -- a value word is absent or a value of its sort
 abbrev pub Legal : Sort → ℕ → Type 0

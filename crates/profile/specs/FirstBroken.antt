@@ -1,5 +1,5 @@
--- What a verdict means. Document 01, demand 2: "accepted exactly when no rule is broken, otherwise the first broken one", in the order
--- of "Broken rules, in checking order": by rule, "within one rule the lowest section, then the lowest record". Assumes nothing.
+-- What a verdict means. The archive's second demand: "accepted exactly when no rule is broken, otherwise the first broken one", in the
+-- order of document 01's "Broken rules, in checking order": by rule, "within one rule the lowest section, then the lowest record". Assumes nothing.
 use Prim.Native.Nat.{ℕ, _<_, _≤_}
 use mathlib.Core.Path.{_≡_}
 use mathlib.Core.Bool.{true}

@@ -1,5 +1,5 @@
 -- Document 01, "Level limits": "One row per level, two rows of fixed length in one table; level 0 has no maximum. Level 1, then 2."
--- Nothing else reads the level but rule 2. Assumes nothing.
+-- Of the checker only rule 2 reads the level besides; the listener reads whether it is 0. Assumes nothing.
 use Prim.Native.Nat.{ℕ, _-_}
 use mathlib.Core.Bool.{Bool, not, _&&_}
 use mathlib.Core.List.{List, [], _∷_}

@@ -4,7 +4,7 @@ use mathlib.Core.Bool.{Bool, true, false, cond, not, _&&_, _||_}
 use lib.Dec.{eqb, leb, ltb}
 use Rattle.sheet.specs.Words.{Sheet}
 use Rattle.sheet.specs.Layout.{count, field, first, number, entry}
-use Rattle.sheet.specs.Fields.{programmes, contents, objects, packs, valueSets, contentList, setList, contentObject, objectPack, noPack, trackList, childList, complementList, objectGain, objectGainMinimum, objectGainMaximum, objectOffset, objectOffsetMinimum, objectOffsetMaximum, setSpan, packKind, packFront, setGain, setOwn, setGainMinimum, setGainMaximum, setOffset, setOffsetMinimum, setOffsetMaximum}
+use Rattle.sheet.specs.Fields.{programmes, contents, objects, packs, valueSets, contentList, setList, contentObject, objectPack, noPack, trackList, childList, complementList, objectGain, objectGainMinimum, objectGainMaximum, objectOffset, objectOffsetMinimum, objectOffsetMaximum, setSpan, packKind, packChannels, packFront, setGain, setOwn, setGainMinimum, setGainMaximum, setOffset, setOffsetMinimum, setOffsetMaximum}
 use Rattle.values.specs.declared.Sort.{Sort}
 use Rattle.values.specs.declared.Sort.the-variants.{Gains, Offsets}
 use Rattle.values.specs.Values.{orElse}
@@ -164,3 +164,16 @@ groups s = howMany (leader s) (count s objects)
 -- "groups plus top objects in no group"
 unfoldable pub units : Sheet → ℕ
 units s = groups s + howMany (lone s) (count s objects)
+
+-- how often contents and child lists name an object
+unfoldable pub namings : Sheet → ℕ → ℕ
+namings s o =
+    howMany (λ c. eqb (field s contents c contentObject) o) (count s contents) + sum (λ q. times s objects q childList o) (count s objects)
+
+-- how many tracks an object has to have: its pack's channels, "(0 with children)"
+unfoldable pub channels : Sheet → ℕ → ℕ
+channels s o = cond (hasChildren s o) 0 (field s packs (packOf s o) packChannels)
+
+-- track i of the object's list
+unfoldable pub trackAt : Sheet → ℕ → ℕ → ℕ
+trackAt s o i = entry s objects o trackList i

@@ -13,7 +13,7 @@ use Rattle.values.specs.Language.{language, loudness}
 use Rattle.values.specs.Values.{isAbsent, isValue, isMinimum, isMaximum, inRange}
 use Rattle.profile.specs.Counting.{any, howMany, sum, twoOf}
 use Rattle.profile.specs.Limits.{exceeds, programmesLimit, contentsLimit, objectsLimit, packsLimit, tracksLimit, programmeContentsLimit, programmeSetsLimit, labelsLimit, childrenLimit, complementsLimit, spanLimit, channelsLimit, groupsLimit, unitsLimit, countedLimit}
-use Rattle.profile.specs.Relations.{lists, times, packOf, hasPack, hasChildren, hasObjectsPack, hasFrontPack, top, kind, leader, member, members, leaderOf, includes, included, whollyIncluded, hasSet, owner, namedSet, namesSet, objectValue, objectMinimum, objectMaximum, setValue, setMinimum, setMaximum, ownValue, effectiveValue, effectiveMinimum, effectiveMaximum, countedTracks, groups, units}
+use Rattle.profile.specs.Relations.{lists, times, packOf, hasPack, hasChildren, hasObjectsPack, hasFrontPack, top, kind, leader, member, members, leaderOf, includes, included, whollyIncluded, hasSet, owner, namedSet, namesSet, objectValue, objectMinimum, objectMaximum, setValue, setMinimum, setMaximum, ownValue, effectiveValue, effectiveMinimum, effectiveMaximum, countedTracks, groups, units, namings, channels, trackAt}
 
 -- "1. The header: the sheet is under 32 bytes, over 65,534 bytes or odd."
 unfoldable pub rule1 : Sheet → ℕ → ℕ → Bool
@@ -64,7 +64,8 @@ unfoldable pub badSpeech : Sheet → ℕ → ℕ → ℕ → ℕ → ℕ → Boo
 badSpeech s section k languageAt labelsAt loudnessAt =
     not (language (field s section k languageAt)) || badLabel s section k labelsAt || not (loudness (field s section k loudnessAt))
 
--- a value and its range, of one sort: words outside, or half a pair; each word may be absent
+-- a value and its range, of one sort: words outside, or half a pair ("a minimum and its maximum are both there or both absent"); each
+-- word may be absent ("Nothing else may be absent but the pack.")
 unfoldable pub badWords : Sort → ℕ → ℕ → ℕ → Bool
 badWords t value minimum maximum =
     not (isAbsent value || isValue t value)
@@ -142,10 +143,6 @@ rule10 s section k =
     || eqb (field s packs k packKind) 1 && outside s channelsLimit (field s packs k packChannels)
 
 -- "11. An object isn't named exactly once by all contents and child lists together, or a value set isn't in exactly one span."
-unfoldable pub namings : Sheet → ℕ → ℕ
-namings s o =
-    howMany (λ c. eqb (field s contents c contentObject) o) (count s contents) + sum (λ q. times s objects q childList o) (count s objects)
-
 unfoldable pub rule11 : Sheet → ℕ → ℕ → Bool
 rule11 s section k =
     eqb section objects && not (eqb (namings s k) 1)
@@ -157,7 +154,8 @@ rule12 s section k =
     eqb section programmes && repeats s section k contentList
     || eqb section contents && not (any (λ p. lists s programmes p contentList k) (count s programmes))
 
--- "13. An object has both pack and children or neither, or a child without a pack of kind 3."
+-- "13. An object has both pack and children or neither, or a child without a pack of kind 3." "In 13 the place of a bad child is
+-- its parent"
 unfoldable pub rule13 : Sheet → ℕ → ℕ → Bool
 rule13 s section o =
     hasPack s o && hasChildren s o
@@ -166,13 +164,6 @@ rule13 s section o =
 
 -- "14. An object's tracks: not as many as its pack's channels (0 with children), one of another pack, or ordinals that aren't
 -- each channel once."
-unfoldable pub channels : Sheet → ℕ → ℕ
-channels s o = cond (hasChildren s o) 0 (field s packs (packOf s o) packChannels)
-
--- track i of the object's list
-unfoldable pub trackAt : Sheet → ℕ → ℕ → ℕ
-trackAt s o i = entry s objects o trackList i
-
 unfoldable pub rule14 : Sheet → ℕ → ℕ → Bool
 rule14 s section o =
     not (eqb (number s objects o trackList) (channels s o))

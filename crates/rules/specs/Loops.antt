@@ -6,8 +6,8 @@ use Rattle.sheet.specs.Words.{Sheet}
 use Rattle.sheet.specs.Layout.{count, field, first, number, entry}
 use Rattle.sheet.specs.Fields.{objects, tracks, valueSets, trackList, setSpan, trackOrdinal, setOwn}
 use Rattle.profile.specs.Counting.{any, howMany, sum, twoOf}
-use Rattle.profile.specs.Relations.{times, leader, leaderOf, members, includes, included, whollyIncluded, owner}
-use Rattle.profile.specs.Rules.{badComplement, differs, channels, trackAt, setsNamed, setsDiffer}
+use Rattle.profile.specs.Relations.{times, leader, leaderOf, members, includes, included, whollyIncluded, owner, channels, trackAt}
+use Rattle.profile.specs.Rules.{badComplement, differs, setsNamed, setsDiffer}
 use Rattle.rules.specs.declared.PairTest.{PairTest}
 use Rattle.rules.specs.declared.PairTest.the-variants.{Same, OneOwner, DifferInGroup}
 use Rattle.rules.specs.declared.ListedTest.{ListedTest}

@@ -25,7 +25,8 @@ use sheet::layout::number;
 use sheet::layout::wide_field;
 ghost use Prim.Native.Nat.{_*_, _≤_};
 ghost use mathlib.Core.Path.{_≡_};
-ghost use Rattle.profile.specs.Rules.{badComplement, channels, differs, setsDiffer};
+ghost use Rattle.profile.specs.Relations.{channels};
+ghost use Rattle.profile.specs.Rules.{badComplement, differs, setsDiffer};
 ghost use Rattle.rules.specs.Loops.{anyGroup, anyListed, badChannel, earlierEntry, fieldsDiffer, groupTest, listedTest, ownSet, pairTest, totalTimes, twoEntries};
 ghost use Rattle.sheet.specs.Words.{sheetOf};
 

@@ -5,7 +5,8 @@ use relations::RecordTest;
 use relations::records::any_record;
 use relations::records::how_many_records;
 ghost use mathlib.Core.Path.{_≡_};
-ghost use Rattle.profile.specs.Rules.{namings, rule11, rule12};
+ghost use Rattle.profile.specs.Relations.{namings};
+ghost use Rattle.profile.specs.Rules.{rule11, rule12};
 ghost use Rattle.sheet.specs.Words.{sheetOf};
 
 // How often contents and child lists name an object.

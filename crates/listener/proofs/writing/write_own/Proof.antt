@@ -5,8 +5,8 @@ use mathlib.Core.List.{[], _∷_}
 use native.Mathlib.Omega.{arith}
 use lib.ListN.{set}
 use Rattle.profile.specs.Counting.{concatBelow, tabulate}
-use Rattle.profile.specs.Rules.{trackAt}
 use Rattle.sheet.specs.Words.{sheetOf}
+use Rattle.profile.specs.Relations.{trackAt}
 use Rattle.listener.specs.Written.{ownTracks}
 use Rattle.listener.proofs.WrittenLaws.{Written, written-none, written-more, room, same-long, written-all}
 use Rattle.listener.proofs.writing.write_own.Statement.{statement}

@@ -8,13 +8,13 @@ use lib.Dec.{eqb}
 use Rattle.profile.specs.Counting.{any, howMany}
 use Rattle.sheet.specs.Layout.{field, number}
 use Rattle.sheet.specs.Fields.{objects, tracks, trackList, trackOrdinal}
-use Rattle.profile.specs.Rules.{channels, trackAt}
 use Rattle.sheet.specs.Words.{sheetOf}
 use Rattle.relations.specs.Tests.{howManyEntries}
 use Rattle.rules.specs.Loops.{badChannel}
 use Rattle.rules.proofs.loops.bad_channel.Statement.{statement}
 use Rattle.rules.proofs.loops.bad_channel.Tie as tie
 use borrow.Author.Needs.{needs}
+use Rattle.profile.specs.Relations.{channels, trackAt}
 
 abbrev Inv-loop : tie.InvT-loop
 Inv-loop s o n found₀ c₀ found c = (c ≤ n) × (found ≡ any (λ j. not (eqb (howMany (λ i. eqb (field (sheetOf s) tracks (trackAt (sheetOf s) o i) trackOrdinal) j) (number (sheetOf s) objects o trackList)) 1)) c)

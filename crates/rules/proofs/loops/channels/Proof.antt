@@ -1,9 +1,9 @@
 -- 0 with children, else the pack's. Assumes nothing.
 use mathlib.Core.Path.{sym, _∙_}
-use Rattle.profile.specs.Rules.{channels}
 use borrow.Author.Needs.{needs}
 use Rattle.rules.proofs.loops.channels.Statement.{statement}
 use Rattle.rules.proofs.loops.channels.Tie as tie
+use Rattle.profile.specs.Relations.{channels}
 
 has-children-requires : tie.Need-has-children-requires
 has-children-requires c κs = search needs

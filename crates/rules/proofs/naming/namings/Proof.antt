@@ -1,10 +1,10 @@
 -- Contents and child lists. Assumes nothing.
-use Rattle.profile.specs.Rules.{namings}
 use Rattle.relations.specs.Tests.{howManyRecords}
 use Rattle.rules.specs.Loops.{totalTimes}
 use borrow.Author.Needs.{needs}
 use Rattle.rules.proofs.naming.namings.Statement.{statement}
 use Rattle.rules.proofs.naming.namings.Tie as tie
+use Rattle.profile.specs.Relations.{namings}
 
 how-many-records-requires : tie.Need-how-many-records-requires
 how-many-records-requires c κs = search needs

@@ -1,5 +1,6 @@
 -- Track count, packs and ordinals. Assumes nothing.
-use Rattle.profile.specs.Rules.{rule14, trackAt}
+use Rattle.profile.specs.Relations.{trackAt}
+use Rattle.profile.specs.Rules.{rule14}
 use Rattle.relations.specs.Tests.{anyEntry}
 use Rattle.rules.specs.Loops.{badChannel}
 use borrow.Author.Needs.{needs}
