@@ -13,8 +13,8 @@ use Rattle.listener.specs.declared.Answer.the-variants.{Done, Refused}
 use Rattle.listener.specs.State.{restingState, setting, active, sameGain, sameOffset, isResting, refusalNumber}
 use Rattle.listener.specs.Programme.{startValue, grantedMinimum, grantedMaximum, grants, inWholeGroup, startsActive, startSetting, started}
 use Rattle.listener.specs.Sound.{gainFits, offsetFits, soundGain, soundOffset, activeMembers, soundActivity, soundAt, sound}
-use Rattle.listener.specs.Calls.{opens, answerBy, replyBy, notOpen, notSound, notIncluded, opened, noProgramme, programmeAnswer, chosenProgramme, notInGroup, objectAnswer, movedSetting, chosenObject, noRange, outsideRange, valueAnswer, withSetting, gainSet, offsetSet}
-use Rattle.listener.specs.Listing.{ownEntries, objectEntries, entries, listedTracks, tooFewWords, listingAnswer, listed, buffered}
+use Rattle.listener.specs.Calls.{opens, answerBy, replyBy, notOpen, notSound, notIncluded, opened, noProgramme, programmeAnswer, chosenProgramme, notInGroup, objectAnswer, movedSetting, moved, chosenObject, noRange, outsideRange, valueAnswer, withSetting, withGain, withOffset, gainSet, offsetSet}
+use Rattle.listener.specs.Listing.{ownEntries, objectEntries, entries, listedTracks, tooFewWords, listingAnswer, listedBy, listed, bufferedBy, buffered}
 use Rattle.listener.specs.Run.{Call, reply, run}
 
 -- 0 for a call that is done, else the refusal's number
@@ -59,5 +59,5 @@ playedOn s (handed st) calls buffer = playedFrom s st calls buffer (answered s s
 
 -- on lent bytes: what opens it opens all that it rests on
 unfoldable pub played : List ℕ → Beginning → List Call → List ℕ → Outcome
-unfolding judged every concatBelow tabulate setFor restingState setting active sameGain sameOffset isResting startValue grantedMinimum grantedMaximum grants inWholeGroup startsActive startSetting started gainFits offsetFits soundGain soundOffset activeMembers soundActivity soundAt sound opens answerBy replyBy notOpen notSound notIncluded opened noProgramme programmeAnswer chosenProgramme notInGroup objectAnswer movedSetting chosenObject noRange outsideRange valueAnswer withSetting gainSet offsetSet ownEntries objectEntries entries listedTracks tooFewWords listingAnswer listed buffered answerNumber reply run answered playedFrom playedOn
+unfolding judged every concatBelow tabulate setFor restingState setting active sameGain sameOffset isResting startValue grantedMinimum grantedMaximum grants inWholeGroup startsActive startSetting started gainFits offsetFits soundGain soundOffset activeMembers soundActivity soundAt sound opens answerBy replyBy notOpen notSound notIncluded opened noProgramme programmeAnswer chosenProgramme notInGroup objectAnswer movedSetting moved chosenObject noRange outsideRange valueAnswer withSetting withGain withOffset gainSet offsetSet ownEntries objectEntries entries listedTracks tooFewWords listingAnswer listedBy listed bufferedBy buffered answerNumber reply run answered playedFrom playedOn
 played bytes beginning calls buffer = playedOn (sheetOf bytes) beginning calls buffer
