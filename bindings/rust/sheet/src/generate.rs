@@ -10,7 +10,10 @@ pub mod calls;
 /// Broken sheets, one for each clause of each rule, with accepted neighbours.
 pub mod clauses;
 mod damage;
-mod hostile;
+/// Honest sheets as large as they get.
+pub mod honest;
+/// Sheets of unusual length, and largest sheets made to be slow to check.
+pub mod hostile;
 /// Random numbers from a seed.
 pub mod random;
 /// The sheets that are kept as files.
@@ -33,7 +36,7 @@ pub struct Generated {
 }
 
 /// The sheets of fixed contents: every clause and its neighbour, accepted sheets that look
-/// broken, unusual lengths, and hostile sheets.
+/// broken, large honest sheets, unusual lengths, and hostile sheets.
 pub fn fixed_sheets() -> Vec<Generated> {
     let of_clause = |clause: Clause| {
         let name = clause.name();
@@ -49,6 +52,7 @@ pub fn fixed_sheets() -> Vec<Generated> {
     };
     let mut sheets: Vec<Generated> = clauses::all().into_iter().flat_map(of_clause).collect();
     sheets.extend(allowed::sheets());
+    sheets.extend(honest::sheets());
     sheets.extend(hostile::lengths());
     sheets.extend(hostile::sheets());
     sheets

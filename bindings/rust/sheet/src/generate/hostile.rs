@@ -100,7 +100,8 @@ fn run_sheets() -> Vec<Generated> {
     ]
 }
 
-fn languages() -> impl Iterator<Item = u16> {
+/// Every language, by rising word.
+pub(super) fn languages() -> impl Iterator<Item = u16> {
     let letters = || 1..=26;
     letters().flat_map(move |first| {
         letters()

@@ -1,9 +1,9 @@
 //! What random accepted sheets hold: every feature in some sheets of every level, and
 //! every limit met exactly.
 
-use sheet::build::{Plan, SILENCE};
-use sheet::generate::accepted;
+use sheet::build::{Plan, LARGEST, SILENCE};
 use sheet::generate::random::Random;
+use sheet::generate::{accepted, honest};
 
 type Feature = (&'static str, fn(&Plan) -> bool);
 
@@ -109,4 +109,28 @@ fn largest(level: u16) -> [usize; 5] {
 fn limits_are_met_exactly() {
     assert_eq!(largest(1), [8, 16, 32, 4, 8]);
     assert_eq!(largest(2), [16, 28, 56, 8, 16]);
+}
+
+#[test]
+fn the_full_sheet_meets_limits_of_level_2() {
+    let plan = honest::full();
+    let counts = [
+        plan.programmes.len(),
+        plan.contents.len(),
+        plan.objects.len(),
+        plan.packs.len(),
+        plan.tracks.len(),
+    ];
+    assert_eq!(counts, [16, 28, 84, 56, 56]);
+    let programme = &plan.programmes[0];
+    let lists = [&programme.contents, &programme.sets, &programme.labels].map(Vec::len);
+    assert_eq!(lists, [28, 28, 8]);
+    assert_eq!(plan.value_sets.len(), 28 * 16);
+}
+
+#[test]
+fn the_largest_sheet_is_mostly_used() {
+    let largest = honest::largest();
+    assert_eq!(largest.words().len(), LARGEST);
+    assert!(largest.stray_entries.len() < LARGEST / 20);
 }
