@@ -1,4 +1,5 @@
-//! What `sheet_check` has to say about a sheet.
+//! What `sheet_check` has to say about a sheet. The second checker has such a type too; a player
+//! needs nothing of it, so it isn't used here.
 
 /// Acceptance, or the first broken rule with its place.
 #[derive(Clone, Copy, Debug, PartialEq, Eq)]

@@ -1,6 +1,8 @@
 //! The stored sheets: enough of them, most of them small, each with its verdict.
 
 use std::collections::HashSet;
+use std::fs;
+use std::path::Path;
 
 use sheet::generate::stored;
 use sheet::second::{check, Verdict};
@@ -29,4 +31,17 @@ fn most_are_small() {
     let small = sheets.iter().filter(|stored| stored.sheet.len() < 400).count();
     assert!(sheets.len() >= 80, "{} sheets", sheets.len());
     assert!(2 * small > sheets.len(), "{small} of {} are small", sheets.len());
+}
+
+#[test]
+fn the_files_of_checktest_are_these_sheets() {
+    let folder = Path::new(env!("CARGO_MANIFEST_DIR")).join("../../../crates/checktest");
+    let mut lines = String::new();
+    for stored in stored::sheets() {
+        let file = fs::read(folder.join("data").join(&stored.name)).expect("the file is there");
+        assert!(file == stored.sheet, "{}", stored.name);
+        lines += &format!("{}: {}\n", stored.name, check(&stored.sheet));
+    }
+    let expected = fs::read_to_string(folder.join("stdout")).expect("the lines are there");
+    assert_eq!(lines, expected);
 }
