@@ -1,5 +1,5 @@
 // The proved checker run on stored sheets. Each argument names a file of data/, and gets a line: the name and the verdict. The
-// expected lines, in the file stdout, are a second checker's (tools/store-sheets).
+// expected lines, in the file stdout, are those of the second checker in bindings/rust (tools/store-sheets).
 use checker::search::check;
 use console::reading::read_input;
 use console::writing::write_verdict;

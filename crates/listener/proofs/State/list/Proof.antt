@@ -38,7 +38,7 @@ enum-known-answer : tie.Need-enum-known-answer
 enum-known-answer c = search needs
 
 same-length : tie.Need-same-length
-same-length c = ap length (c .before .before .write-state .ensures .1) ∙ length-sets _ _ _
+same-length c = ap length (c .before .before .write-state .ensures .1) ∙ simp length-sets
 
 returns-2 : tie.Need-returns-2
 unfolding listedBy bufferedBy

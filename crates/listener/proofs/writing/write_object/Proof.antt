@@ -20,7 +20,7 @@ unfolding objectTracks
 write-children-requires c κs = omega (arith, length-append (ownTracks (sheetOf (c .before .before .before .before .before .before .before .args .s .now)) (c .before .before .before .before .before .before .before .args .o)) (childTracks (sheetOf (c .before .before .before .before .before .before .before .args .s .now)) (c .before .before .before .before .before .before .before .args .o)), c .before .before .before .before .before .before .before .pre, c .before .before .before .write-own .ensures .0, ap length (c .before .before .before .write-own .ensures .1), length-sets (c .before .before .before .before .before .before .before .args .buffer .now) (c .before .before .before .before .before .before .before .args .at) (ownTracks (sheetOf (c .before .before .before .before .before .before .before .args .s .now)) (c .before .before .before .before .before .before .before .args .o)))
 
 same-length : tie.Need-same-length
-same-length c = ap length (c .before .before .write-children .ensures .1) ∙ length-sets _ _ _ ∙ ap length (c .before .before .before .before .before .before .write-own .ensures .1) ∙ length-sets _ _ _
+same-length c = ap length (c .before .before .write-children .ensures .1) ∙ simp length-sets (ap length (c .before .before .before .before .before .before .write-own .ensures .1) ∙ simp length-sets)
 
 returns : tie.Need-returns
 unfolding objectTracks

@@ -15,7 +15,7 @@ unfolding tracksWhen
 write-object-requires c κs = let e = sym (c .before .before .active .ensures) ∙ c .before .if1 .taken in rw e at (c .before .before .before .before .before .pre)
 
 same-length : tie.Need-same-length
-same-length c = ap length (c .before .before .write-object .ensures .1) ∙ length-sets _ _ _
+same-length c = ap length (c .before .before .write-object .ensures .1) ∙ simp length-sets
 
 returns : tie.Need-returns
 unfolding tracksWhen

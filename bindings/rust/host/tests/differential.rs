@@ -1,0 +1,109 @@
+//! The differential test: the proved checker in the linked archive against the second checker,
+//! which was written apart from it, on sheets from fixed seeds.
+//!
+//! It prints how many sheets met each rule. It fails at the first sheet on which the verdicts
+//! differ, which is kept as a file, or if a rule or acceptance was never met.
+
+use std::path::Path;
+use std::process::ExitCode;
+use std::{fmt, fs};
+
+use sheet::generate::{fixed_sheets, Generated, RandomSheets};
+use sheet::second;
+
+const SEEDS: [u64; 3] = [2168, 2076, 65_534];
+const SHEETS_OF_A_SEED: usize = 100_000;
+
+/// The hostile sheets on which the proved checker's plain bodies take 10 seconds or much longer.
+/// They are left out here; the benchmark has them, with a limit on the time.
+const TOO_SLOW: [&str; 8] = [
+    "hostile programme labels",
+    "hostile content labels",
+    "hostile complements",
+    "hostile pairs in every programme",
+    "hostile one group in every programme",
+    "hostile tracks",
+    "hostile sets of pairs",
+    "hostile one set",
+];
+
+fn main() -> ExitCode {
+    let mut counts = Counts::default();
+    for generated in all_sheets() {
+        let verdict = second::check(&generated.sheet);
+        counts.add(verdict);
+        if let Some(difference) = difference(&generated, verdict) {
+            println!("{difference}\n    kept as {}", keep(&generated.sheet));
+            return ExitCode::FAILURE;
+        }
+    }
+    println!("{counts}");
+    match counts.all_met() {
+        true => ExitCode::SUCCESS,
+        false => ExitCode::FAILURE,
+    }
+}
+
+fn all_sheets() -> impl Iterator<Item = Generated> {
+    let fixed = fixed_sheets().into_iter();
+    let fixed = fixed.filter(|generated| !TOO_SLOW.contains(&generated.name.as_str()));
+    let random = |seed| RandomSheets::new(seed).take(SHEETS_OF_A_SEED);
+    fixed.chain(SEEDS.into_iter().flat_map(random))
+}
+
+/// What the proved checker and the sheet's construction say, where one of them differs from the
+/// second checker.
+fn difference(generated: &Generated, second: second::Verdict) -> Option<String> {
+    let proved = proved_verdict(&generated.sheet);
+    let expected = generated.expected.unwrap_or(second);
+    let name = &generated.name;
+    (proved != second || expected != second)
+        .then(|| format!("{name}: proved {proved}, second {second}, expected {expected}"))
+}
+
+/// The proved checker's verdict, in the second checker's words.
+fn proved_verdict(sheet: &[u8]) -> second::Verdict {
+    match host::check(sheet) {
+        host::Verdict::Accepted => second::Verdict::Accepted,
+        host::Verdict::Broken { rule, section, record } => {
+            second::Verdict::Broken { rule, section, record }
+        }
+    }
+}
+
+fn keep(sheet: &[u8]) -> String {
+    let file = Path::new(env!("CARGO_TARGET_TMPDIR")).join("difference.sheet");
+    fs::write(&file, sheet).expect("the sheet can be written");
+    file.display().to_string()
+}
+
+/// How many sheets met acceptance, at 0, and each rule, at its number.
+#[derive(Default)]
+struct Counts([usize; 25]);
+
+impl Counts {
+    fn add(&mut self, verdict: second::Verdict) {
+        let met = match verdict {
+            second::Verdict::Accepted => 0,
+            second::Verdict::Broken { rule, .. } => usize::from(rule),
+        };
+        self.0[met] += 1;
+    }
+
+    fn all_met(&self) -> bool {
+        !self.0.contains(&0)
+    }
+}
+
+impl fmt::Display for Counts {
+    fn fmt(&self, formatter: &mut fmt::Formatter) -> fmt::Result {
+        let [accepted, rules @ ..] = self.0;
+        writeln!(formatter, "accepted {accepted:7}")?;
+        for (rule, count) in (1..).zip(rules) {
+            writeln!(formatter, "rule {rule:2}  {count:7}")?;
+        }
+        let sheets: usize = self.0.iter().sum();
+        let unmet = self.0.iter().filter(|&&count| count == 0).count();
+        write!(formatter, "differential test: {sheets} sheets, no difference, {unmet} never met")
+    }
+}

@@ -1,0 +1,12 @@
+//! The emission sheet: a second checker and listener, and sheets to try checkers on.
+//!
+//! Written from document 01 (`01-scope.md`) and its readings (`READINGS.md`) alone.
+
+/// The second checker and the second listener.
+pub mod second;
+
+/// A builder of sheets from records given as vectors.
+pub mod build;
+
+/// Sheets from a fixed seed: accepted, broken in a named clause, damaged, hostile.
+pub mod generate;
