@@ -16,6 +16,7 @@ use checker::search::check;
 use profile::Verdict;
 use relations::groups::leader_of;
 use relations::programmes::includes;
+use sheet::fields::PROGRAMMES;
 use sheet::layout::count;
 use sheet::layout::level;
 use values::Gain;
@@ -99,7 +100,7 @@ pub fn behind(s: &[u8], state: State, rest: Answer) -> Answer
 fn number_answer(s: &[u8], p: u16) -> Answer
     ensures { λ r. ⌜ r ≡ numberAnswer (sheetOf (now (s .entry))) p ⌝ }
 {
-    if count(s, 1) <= p {
+    if count(s, PROGRAMMES) <= p {
         Answer::Refused(Refusal::NoProgramme)
     } else {
         Answer::Done

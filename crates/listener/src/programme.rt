@@ -14,6 +14,7 @@ use relations::sets::effective_value;
 use relations::sets::object_maximum;
 use relations::sets::object_minimum;
 use relations::sets::own_value;
+use sheet::fields::OBJECTS;
 use sheet::layout::field;
 use values::Sort;
 use values::gains::gain_of;
@@ -41,7 +42,7 @@ pub fn granted_minimum(s: &[u8], p: u16, o: u16, sort: Sort) -> u16
     if names_set(s, p, o) {
         effective_minimum(s, o, set_for(s, p, o), sort)
     } else {
-        field(s, 3, o, object_minimum(sort))
+        field(s, OBJECTS, o, object_minimum(sort))
     }
 }
 
@@ -51,7 +52,7 @@ pub fn granted_maximum(s: &[u8], p: u16, o: u16, sort: Sort) -> u16
     if names_set(s, p, o) {
         effective_maximum(s, o, set_for(s, p, o), sort)
     } else {
-        field(s, 3, o, object_maximum(sort))
+        field(s, OBJECTS, o, object_maximum(sort))
     }
 }
 

@@ -16,6 +16,7 @@ use relations::groups::leader_of;
 use relations::groups::member;
 use relations::groups::members;
 use relations::programmes::includes;
+use sheet::fields::PROGRAMMES;
 use sheet::layout::count;
 use values::Gain;
 use values::Sort;
@@ -107,7 +108,7 @@ pub fn sound(s: &[u8], state: State) -> bool
     ensures { λ r. ⌜ r ≡ sound (sheetOf (now (s .entry))) state ⌝ }
 {
     let p = state.programme;
-    let mut good = p < count(s, 1);
+    let mut good = p < count(s, PROGRAMMES);
     let mut o: u16 = 0;
     while o < 84 {
         good = good & sound_at(s, state, o);

@@ -6,6 +6,9 @@ use crate::State;
 use crate::calls::behind;
 use crate::settings::active;
 use relations::sizes::children_tracks;
+use sheet::fields::CHILD_LIST;
+use sheet::fields::OBJECTS;
+use sheet::fields::TRACK_LIST;
 use sheet::layout::entry;
 use sheet::layout::number;
 ghost use Prim.Native.Nat.{_+_, _≤_};
@@ -20,7 +23,7 @@ ghost use Rattle.sheet.specs.Words.{sheetOf};
 fn object_number(s: &[u8], o: u16) -> u64
     ensures { λ r. ⌜ (r ≡ objectNumber (sheetOf (now (s .entry))) o) × (r ≤ 4295032830) ⌝ }
 {
-    number(s, 3, o, 1) as u64 + children_tracks(s, o) as u64
+    number(s, OBJECTS, o, TRACK_LIST) as u64 + children_tracks(s, o) as u64
 }
 
 // How many it gives if it is active.
@@ -52,11 +55,11 @@ fn write_own(s: &[u8], o: u16, buffer: &mut [u16], at: usize) -> usize
     requires { ⌜ at + length (ownTracks (sheetOf (now s)) o) ≤ length (now buffer) ⌝ }
     ensures { λ r. ⌜ (r ≡ at + length (ownTracks (sheetOf (now (s .entry))) o)) × (now (buffer .exit) ≡ sets (now (buffer .entry)) at (ownTracks (sheetOf (now (s .entry))) o)) ⌝ }
 {
-    let n = number(s, 3, o, 1);
+    let n = number(s, OBJECTS, o, TRACK_LIST);
     let mut pos = at;
     let mut i: u16 = 0;
     while i < n {
-        buffer[pos] = entry(s, 3, o, 1, i);
+        buffer[pos] = entry(s, OBJECTS, o, TRACK_LIST, i);
         pos += 1;
         i += 1;
     }
@@ -68,11 +71,11 @@ fn write_children(s: &[u8], o: u16, buffer: &mut [u16], at: usize) -> usize
     requires { ⌜ at + length (childTracks (sheetOf (now s)) o) ≤ length (now buffer) ⌝ }
     ensures { λ r. ⌜ (r ≡ at + length (childTracks (sheetOf (now (s .entry))) o)) × (now (buffer .exit) ≡ sets (now (buffer .entry)) at (childTracks (sheetOf (now (s .entry))) o)) ⌝ }
 {
-    let n = number(s, 3, o, 3);
+    let n = number(s, OBJECTS, o, CHILD_LIST);
     let mut pos = at;
     let mut i: u16 = 0;
     while i < n {
-        pos = write_own(s, entry(s, 3, o, 3, i), buffer, pos);
+        pos = write_own(s, entry(s, OBJECTS, o, CHILD_LIST, i), buffer, pos);
         i += 1;
     }
     pos

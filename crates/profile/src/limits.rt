@@ -12,35 +12,35 @@ const LIMITS: [[u16; 15]; 2] = [
 ];
 
 // The columns.
-pub const PROGRAMMES: u8 = 0;
+pub const PROGRAMMES_LIMIT: u8 = 0;
 
-pub const CONTENTS: u8 = 1;
+pub const CONTENTS_LIMIT: u8 = 1;
 
-pub const OBJECTS: u8 = 2;
+pub const OBJECTS_LIMIT: u8 = 2;
 
-pub const PACKS: u8 = 3;
+pub const PACKS_LIMIT: u8 = 3;
 
-pub const TRACKS: u8 = 4;
+pub const TRACKS_LIMIT: u8 = 4;
 
-pub const PROGRAMME_CONTENTS: u8 = 5;
+pub const PROGRAMME_CONTENTS_LIMIT: u8 = 5;
 
-pub const PROGRAMME_SETS: u8 = 6;
+pub const PROGRAMME_SETS_LIMIT: u8 = 6;
 
-pub const LABELS: u8 = 7;
+pub const LABELS_LIMIT: u8 = 7;
 
-pub const CHILDREN: u8 = 8;
+pub const CHILDREN_LIMIT: u8 = 8;
 
-pub const COMPLEMENTS: u8 = 9;
+pub const COMPLEMENTS_LIMIT: u8 = 9;
 
-pub const SPAN: u8 = 10;
+pub const SPAN_LIMIT: u8 = 10;
 
-pub const CHANNELS: u8 = 11;
+pub const CHANNELS_LIMIT: u8 = 11;
 
-pub const GROUPS: u8 = 12;
+pub const GROUPS_LIMIT: u8 = 12;
 
-pub const UNITS: u8 = 13;
+pub const UNITS_LIMIT: u8 = 13;
 
-pub const COUNTED: u8 = 14;
+pub const COUNTED_LIMIT: u8 = 14;
 
 // The row of a level.
 fn row(level: u16) -> usize

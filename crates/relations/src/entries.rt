@@ -3,6 +3,11 @@ use crate::EntryTest;
 use crate::objects::has_objects_pack;
 use crate::objects::lacks;
 use crate::sets::has_set;
+use sheet::fields::CONTENT_OBJECT;
+use sheet::fields::CONTENTS;
+use sheet::fields::TRACK_ORDINAL;
+use sheet::fields::TRACK_PACK;
+use sheet::fields::TRACKS;
 use sheet::layout::entry;
 use sheet::layout::field;
 use sheet::layout::number;
@@ -31,9 +36,9 @@ pub fn entry_test(s: &[u8], test: EntryTest, e: u16) -> bool
         EntryTest::Lacks(section) => lacks(s, section, e),
         EntryTest::NoLanguage => !language(e),
         EntryTest::NoObjectsPack => !has_objects_pack(s, e),
-        EntryTest::OtherPack(pack) => field(s, 5, e, 0) != pack,
-        EntryTest::Ordinal(n) => field(s, 5, e, 1) == n,
-        EntryTest::ContentOf(o) => field(s, 2, e, 1) == o,
+        EntryTest::OtherPack(pack) => field(s, TRACKS, e, TRACK_PACK) != pack,
+        EntryTest::Ordinal(n) => field(s, TRACKS, e, TRACK_ORDINAL) == n,
+        EntryTest::ContentOf(o) => field(s, CONTENTS, e, CONTENT_OBJECT) == o,
         EntryTest::SetOf(o) => has_set(s, o, e),
     }
 }

@@ -1,4 +1,12 @@
 // What an object's own words and its pack say.
+use sheet::fields::CHILD_LIST;
+use sheet::fields::COMPLEMENT_LIST;
+use sheet::fields::NO_PACK;
+use sheet::fields::OBJECT_PACK;
+use sheet::fields::OBJECTS;
+use sheet::fields::PACK_FRONT;
+use sheet::fields::PACK_KIND;
+use sheet::fields::PACKS;
 use sheet::layout::count;
 use sheet::layout::field;
 use sheet::layout::number;
@@ -10,31 +18,31 @@ ghost use Rattle.sheet.specs.Words.{sheetOf};
 pub fn pack_of(s: &[u8], o: u16) -> u16
     ensures { λ r. ⌜ r ≡ packOf (sheetOf (now (s .entry))) o ⌝ }
 {
-    field(s, 3, o, 0)
+    field(s, OBJECTS, o, OBJECT_PACK)
 }
 
 pub fn has_pack(s: &[u8], o: u16) -> bool
     ensures { λ r. ⌜ r ≡ hasPack (sheetOf (now (s .entry))) o ⌝ }
 {
-    pack_of(s, o) != 65535
+    pack_of(s, o) != NO_PACK
 }
 
 pub fn has_children(s: &[u8], o: u16) -> bool
     ensures { λ r. ⌜ r ≡ hasChildren (sheetOf (now (s .entry))) o ⌝ }
 {
-    0 < number(s, 3, o, 3)
+    0 < number(s, OBJECTS, o, CHILD_LIST)
 }
 
 pub fn has_objects_pack(s: &[u8], o: u16) -> bool
     ensures { λ r. ⌜ r ≡ hasObjectsPack (sheetOf (now (s .entry))) o ⌝ }
 {
-    has_pack(s, o) & (field(s, 4, pack_of(s, o), 0) == 3)
+    has_pack(s, o) & (field(s, PACKS, pack_of(s, o), PACK_KIND) == 3)
 }
 
 pub fn has_front_pack(s: &[u8], o: u16) -> bool
     ensures { λ r. ⌜ r ≡ hasFrontPack (sheetOf (now (s .entry))) o ⌝ }
 {
-    has_objects_pack(s, o) & (field(s, 4, pack_of(s, o), 2) == 1)
+    has_objects_pack(s, o) & (field(s, PACKS, pack_of(s, o), PACK_FRONT) == 1)
 }
 
 // "Its kind is its pack's, or 3 if it has children."
@@ -44,7 +52,7 @@ pub fn kind(s: &[u8], o: u16) -> u16
     if has_children(s, o) {
         3
     } else {
-        field(s, 4, pack_of(s, o), 0)
+        field(s, PACKS, pack_of(s, o), PACK_KIND)
     }
 }
 
@@ -52,7 +60,7 @@ pub fn kind(s: &[u8], o: u16) -> u16
 pub fn leader(s: &[u8], o: u16) -> bool
     ensures { λ r. ⌜ r ≡ leader (sheetOf (now (s .entry))) o ⌝ }
 {
-    0 < number(s, 3, o, 5)
+    0 < number(s, OBJECTS, o, COMPLEMENT_LIST)
 }
 
 // A section has no record k.

@@ -2,6 +2,9 @@
 use crate::EntryTest;
 use crate::entries::any_entry;
 use crate::entries::lowest_entry;
+use sheet::fields::CONTENT_LIST;
+use sheet::fields::PROGRAMMES;
+use sheet::fields::SET_LIST;
 use sheet::layout::entry;
 ghost use mathlib.Core.Path.{_≡_};
 ghost use Rattle.profile.specs.Relations.{includes, namedSet, namesSet, setFor};
@@ -11,26 +14,30 @@ ghost use Rattle.sheet.specs.Words.{sheetOf};
 pub fn includes(s: &[u8], p: u16, o: u16) -> bool
     ensures { λ r. ⌜ r ≡ includes (sheetOf (now (s .entry))) p o ⌝ }
 {
-    any_entry(s, 1, p, 1, EntryTest::ContentOf(o))
+    any_entry(s, PROGRAMMES, p, CONTENT_LIST, EntryTest::ContentOf(o))
 }
 
 // The set at a position of the programme's set list.
 pub fn named_set(s: &[u8], p: u16, i: u16) -> u16
     ensures { λ r. ⌜ r ≡ namedSet (sheetOf (now (s .entry))) p i ⌝ }
 {
-    entry(s, 1, p, 3, i)
+    entry(s, PROGRAMMES, p, SET_LIST, i)
 }
 
 // The programme names a set for the object.
 pub fn names_set(s: &[u8], p: u16, o: u16) -> bool
     ensures { λ r. ⌜ r ≡ namesSet (sheetOf (now (s .entry))) p o ⌝ }
 {
-    any_entry(s, 1, p, 3, EntryTest::SetOf(o))
+    any_entry(s, PROGRAMMES, p, SET_LIST, EntryTest::SetOf(o))
 }
 
 // The set that the programme names for the object.
 pub fn set_for(s: &[u8], p: u16, o: u16) -> u16
     ensures { λ r. ⌜ r ≡ setFor (sheetOf (now (s .entry))) p o ⌝ }
 {
-    named_set(s, p, lowest_entry(s, 1, p, 3, EntryTest::SetOf(o)))
+    named_set(
+        s,
+        p,
+        lowest_entry(s, PROGRAMMES, p, SET_LIST, EntryTest::SetOf(o)),
+    )
 }

@@ -4,6 +4,14 @@ use crate::entries::lists;
 use crate::entries::one;
 use crate::objects::leader;
 use crate::sets::has_set;
+use sheet::fields::COMPLEMENT_LIST;
+use sheet::fields::CONTENT_LIST;
+use sheet::fields::CONTENT_OBJECT;
+use sheet::fields::CONTENTS;
+use sheet::fields::OBJECTS;
+use sheet::fields::PACK_KIND;
+use sheet::fields::PACKS;
+use sheet::fields::PROGRAMMES;
 use sheet::layout::count;
 use sheet::layout::field;
 ghost use Prim.Native.Nat.{_≤_};
@@ -18,12 +26,12 @@ pub fn record_test(s: &[u8], test: RecordTest, k: u16) -> bool
     ensures { λ r. ⌜ r ≡ recordTest (sheetOf (now (s .entry))) test k ⌝ }
 {
     match test {
-        RecordTest::Names(o) => field(s, 2, k, 1) == o,
-        RecordTest::ObjectsPack => field(s, 4, k, 0) == 3,
+        RecordTest::Names(o) => field(s, CONTENTS, k, CONTENT_OBJECT) == o,
+        RecordTest::ObjectsPack => field(s, PACKS, k, PACK_KIND) == 3,
         RecordTest::Leader => leader(s, k),
-        RecordTest::LeaderOf(o) => lists(s, 3, k, 5, o),
+        RecordTest::LeaderOf(o) => lists(s, OBJECTS, k, COMPLEMENT_LIST, o),
         RecordTest::OwnerOf(v) => has_set(s, k, v),
-        RecordTest::HasContent(c) => lists(s, 1, k, 1, c),
+        RecordTest::HasContent(c) => lists(s, PROGRAMMES, k, CONTENT_LIST, c),
     }
 }
 
@@ -67,26 +75,26 @@ pub fn any_record(s: &[u8], section: u8, test: RecordTest) -> bool
 pub fn top(s: &[u8], o: u16) -> bool
     ensures { λ r. ⌜ r ≡ top (sheetOf (now (s .entry))) o ⌝ }
 {
-    any_record(s, 2, RecordTest::Names(o))
+    any_record(s, CONTENTS, RecordTest::Names(o))
 }
 
 // Some complement list names the object.
 pub fn complement(s: &[u8], o: u16) -> bool
     ensures { λ r. ⌜ r ≡ complement (sheetOf (now (s .entry))) o ⌝ }
 {
-    any_record(s, 3, RecordTest::LeaderOf(o))
+    any_record(s, OBJECTS, RecordTest::LeaderOf(o))
 }
 
 // The object whose set v is, the number of objects where there is none.
 pub fn owner(s: &[u8], v: u16) -> u16
     ensures { λ r. ⌜ r ≡ owner (sheetOf (now (s .entry))) v ⌝ }
 {
-    lowest_record(s, 3, RecordTest::OwnerOf(v))
+    lowest_record(s, OBJECTS, RecordTest::OwnerOf(v))
 }
 
 // How many groups the sheet has.
 pub fn groups(s: &[u8]) -> u16
     ensures { λ r. ⌜ r ≡ groups (sheetOf (now (s .entry))) ⌝ }
 {
-    how_many_records(s, 3, RecordTest::Leader)
+    how_many_records(s, OBJECTS, RecordTest::Leader)
 }

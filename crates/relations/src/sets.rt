@@ -1,4 +1,20 @@
 // Value sets: whose they are, and the effective values and ranges.
+use sheet::fields::OBJECT_GAIN;
+use sheet::fields::OBJECT_GAIN_MAXIMUM;
+use sheet::fields::OBJECT_GAIN_MINIMUM;
+use sheet::fields::OBJECT_OFFSET;
+use sheet::fields::OBJECT_OFFSET_MAXIMUM;
+use sheet::fields::OBJECT_OFFSET_MINIMUM;
+use sheet::fields::OBJECTS;
+use sheet::fields::SET_GAIN;
+use sheet::fields::SET_GAIN_MAXIMUM;
+use sheet::fields::SET_GAIN_MINIMUM;
+use sheet::fields::SET_OFFSET;
+use sheet::fields::SET_OFFSET_MAXIMUM;
+use sheet::fields::SET_OFFSET_MINIMUM;
+use sheet::fields::SET_OWN;
+use sheet::fields::SET_SPAN;
+use sheet::fields::VALUE_SETS;
 use sheet::layout::field;
 use sheet::layout::number;
 use values::Sort;
@@ -12,8 +28,8 @@ pub fn object_value(sort: Sort) -> u8
     ensures { λ r. ⌜ r ≡ objectValue sort ⌝ }
 {
     match sort {
-        Sort::Gains => 8,
-        Sort::Offsets => 11,
+        Sort::Gains => OBJECT_GAIN,
+        Sort::Offsets => OBJECT_OFFSET,
     }
 }
 
@@ -21,8 +37,8 @@ pub fn object_minimum(sort: Sort) -> u8
     ensures { λ r. ⌜ r ≡ objectMinimum sort ⌝ }
 {
     match sort {
-        Sort::Gains => 9,
-        Sort::Offsets => 12,
+        Sort::Gains => OBJECT_GAIN_MINIMUM,
+        Sort::Offsets => OBJECT_OFFSET_MINIMUM,
     }
 }
 
@@ -30,8 +46,8 @@ pub fn object_maximum(sort: Sort) -> u8
     ensures { λ r. ⌜ r ≡ objectMaximum sort ⌝ }
 {
     match sort {
-        Sort::Gains => 10,
-        Sort::Offsets => 13,
+        Sort::Gains => OBJECT_GAIN_MAXIMUM,
+        Sort::Offsets => OBJECT_OFFSET_MAXIMUM,
     }
 }
 
@@ -40,8 +56,8 @@ pub fn set_value(sort: Sort) -> u8
     ensures { λ r. ⌜ r ≡ setValue sort ⌝ }
 {
     match sort {
-        Sort::Gains => 0,
-        Sort::Offsets => 4,
+        Sort::Gains => SET_GAIN,
+        Sort::Offsets => SET_OFFSET,
     }
 }
 
@@ -49,8 +65,8 @@ pub fn set_minimum(sort: Sort) -> u8
     ensures { λ r. ⌜ r ≡ setMinimum sort ⌝ }
 {
     match sort {
-        Sort::Gains => 2,
-        Sort::Offsets => 5,
+        Sort::Gains => SET_GAIN_MINIMUM,
+        Sort::Offsets => SET_OFFSET_MINIMUM,
     }
 }
 
@@ -58,8 +74,8 @@ pub fn set_maximum(sort: Sort) -> u8
     ensures { λ r. ⌜ r ≡ setMaximum sort ⌝ }
 {
     match sort {
-        Sort::Gains => 3,
-        Sort::Offsets => 6,
+        Sort::Gains => SET_GAIN_MAXIMUM,
+        Sort::Offsets => SET_OFFSET_MAXIMUM,
     }
 }
 
@@ -67,8 +83,8 @@ pub fn set_maximum(sort: Sort) -> u8
 pub fn has_set(s: &[u8], o: u16, v: u16) -> bool
     ensures { λ r. ⌜ r ≡ hasSet (sheetOf (now (s .entry))) o v ⌝ }
 {
-    let from = field(s, 3, o, 14);
-    let many = number(s, 3, o, 14);
+    let from = field(s, OBJECTS, o, SET_SPAN);
+    let many = number(s, OBJECTS, o, SET_SPAN);
     (from <= v) & ((v as u32) < (from as u32) + (many as u32))
 }
 
@@ -76,33 +92,36 @@ pub fn has_set(s: &[u8], o: u16, v: u16) -> bool
 pub fn own_value(s: &[u8], o: u16, sort: Sort) -> u16
     ensures { λ r. ⌜ r ≡ ownValue (sheetOf (now (s .entry))) o sort ⌝ }
 {
-    or_else(field(s, 3, o, object_value(sort)), 0)
+    or_else(field(s, OBJECTS, o, object_value(sort)), 0)
 }
 
 // "For a set, the effective gain and offset are its own, else the object's, else 0"
 pub fn effective_value(s: &[u8], o: u16, v: u16, sort: Sort) -> u16
     ensures { λ r. ⌜ r ≡ effectiveValue (sheetOf (now (s .entry))) o v sort ⌝ }
 {
-    or_else(field(s, 7, v, set_value(sort)), own_value(s, o, sort))
+    or_else(
+        field(s, VALUE_SETS, v, set_value(sort)),
+        own_value(s, o, sort),
+    )
 }
 
 // "its effective ranges are its own four words where own is 1, else the object's"
 pub fn effective_minimum(s: &[u8], o: u16, v: u16, sort: Sort) -> u16
     ensures { λ r. ⌜ r ≡ effectiveMinimum (sheetOf (now (s .entry))) o v sort ⌝ }
 {
-    if field(s, 7, v, 1) == 1 {
-        field(s, 7, v, set_minimum(sort))
+    if field(s, VALUE_SETS, v, SET_OWN) == 1 {
+        field(s, VALUE_SETS, v, set_minimum(sort))
     } else {
-        field(s, 3, o, object_minimum(sort))
+        field(s, OBJECTS, o, object_minimum(sort))
     }
 }
 
 pub fn effective_maximum(s: &[u8], o: u16, v: u16, sort: Sort) -> u16
     ensures { λ r. ⌜ r ≡ effectiveMaximum (sheetOf (now (s .entry))) o v sort ⌝ }
 {
-    if field(s, 7, v, 1) == 1 {
-        field(s, 7, v, set_maximum(sort))
+    if field(s, VALUE_SETS, v, SET_OWN) == 1 {
+        field(s, VALUE_SETS, v, set_maximum(sort))
     } else {
-        field(s, 3, o, object_maximum(sort))
+        field(s, OBJECTS, o, object_maximum(sort))
     }
 }

@@ -6,6 +6,9 @@ use crate::groups::members;
 use crate::objects::has_children;
 use crate::objects::leader;
 use crate::records::groups;
+use sheet::fields::CHILD_LIST;
+use sheet::fields::OBJECTS;
+use sheet::fields::TRACK_LIST;
 use sheet::layout::count;
 use sheet::layout::entry;
 use sheet::layout::number;
@@ -19,11 +22,11 @@ ghost use Rattle.sheet.specs.Words.{sheetOf};
 pub fn children_tracks(s: &[u8], o: u16) -> u32
     ensures { λ r. ⌜ r ≡ childrenTracks (sheetOf (now (s .entry))) o ⌝ }
 {
-    let n = number(s, 3, o, 3);
+    let n = number(s, OBJECTS, o, CHILD_LIST);
     let mut total: u32 = 0;
     let mut i: u16 = 0;
     while i < n {
-        total += number(s, 3, entry(s, 3, o, 3, i), 1) as u32;
+        total += number(s, OBJECTS, entry(s, OBJECTS, o, CHILD_LIST, i), TRACK_LIST) as u32;
         i += 1;
     }
     total
@@ -36,7 +39,7 @@ pub fn size(s: &[u8], o: u16) -> u32
     if has_children(s, o) {
         children_tracks(s, o)
     } else {
-        number(s, 3, o, 1) as u32
+        number(s, OBJECTS, o, TRACK_LIST) as u32
     }
 }
 
@@ -78,7 +81,7 @@ pub fn share(s: &[u8], o: u16) -> u32
 pub fn counted_tracks(s: &[u8]) -> u64
     ensures { λ r. ⌜ r ≡ countedTracks (sheetOf (now (s .entry))) ⌝ }
 {
-    let n = count(s, 3);
+    let n = count(s, OBJECTS);
     let mut total: u64 = 0;
     let mut o: u16 = 0;
     while o < n {
@@ -92,7 +95,7 @@ pub fn counted_tracks(s: &[u8]) -> u64
 fn lone_objects(s: &[u8]) -> u16
     ensures { λ r. ⌜ r ≡ loneObjects (sheetOf (now (s .entry))) ⌝ }
 {
-    let n = count(s, 3);
+    let n = count(s, OBJECTS);
     let mut found: u16 = 0;
     let mut o: u16 = 0;
     while o < n {

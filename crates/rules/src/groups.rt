@@ -3,6 +3,8 @@ use crate::GroupTest;
 use crate::ListedTest;
 use crate::loops::any_group;
 use crate::loops::any_listed;
+use sheet::fields::COMPLEMENT_LIST;
+use sheet::fields::OBJECTS;
 ghost use mathlib.Core.Path.{_≡_};
 ghost use Rattle.profile.specs.Rules.{rule19, rule20, rule21};
 ghost use Rattle.sheet.specs.Words.{sheetOf};
@@ -10,13 +12,13 @@ ghost use Rattle.sheet.specs.Words.{sheetOf};
 pub fn rule19(s: &[u8], section: u8, o: u16) -> bool
     ensures { λ r. ⌜ r ≡ rule19 (sheetOf (now (s .entry))) section o ⌝ }
 {
-    any_listed(s, 3, o, 5, ListedTest::BadComplement)
+    any_listed(s, OBJECTS, o, COMPLEMENT_LIST, ListedTest::BadComplement)
 }
 
 pub fn rule20(s: &[u8], section: u8, o: u16) -> bool
     ensures { λ r. ⌜ r ≡ rule20 (sheetOf (now (s .entry))) section o ⌝ }
 {
-    any_listed(s, 3, o, 5, ListedTest::DiffersFrom(o))
+    any_listed(s, OBJECTS, o, COMPLEMENT_LIST, ListedTest::DiffersFrom(o))
 }
 
 pub fn rule21(s: &[u8], section: u8, p: u16) -> bool

@@ -1,19 +1,33 @@
 // Rules 7, 8 and 10: counts against the limits of the sheet's level.
-use profile::limits::CHANNELS;
-use profile::limits::CHILDREN;
-use profile::limits::COMPLEMENTS;
-use profile::limits::CONTENTS;
-use profile::limits::LABELS;
-use profile::limits::OBJECTS;
-use profile::limits::PACKS;
-use profile::limits::PROGRAMME_CONTENTS;
-use profile::limits::PROGRAMME_SETS;
-use profile::limits::PROGRAMMES;
-use profile::limits::SPAN;
-use profile::limits::TRACKS;
+use profile::limits::CHANNELS_LIMIT;
+use profile::limits::CHILDREN_LIMIT;
+use profile::limits::COMPLEMENTS_LIMIT;
+use profile::limits::CONTENTS_LIMIT;
+use profile::limits::LABELS_LIMIT;
+use profile::limits::OBJECTS_LIMIT;
+use profile::limits::PACKS_LIMIT;
+use profile::limits::PROGRAMME_CONTENTS_LIMIT;
+use profile::limits::PROGRAMME_SETS_LIMIT;
+use profile::limits::PROGRAMMES_LIMIT;
+use profile::limits::SPAN_LIMIT;
+use profile::limits::TRACKS_LIMIT;
 use profile::limits::exceeds;
 use relations::RecordTest;
 use relations::records::how_many_records;
+use sheet::fields::CHILD_LIST;
+use sheet::fields::COMPLEMENT_LIST;
+use sheet::fields::CONTENT_LABELS;
+use sheet::fields::CONTENT_LIST;
+use sheet::fields::CONTENTS;
+use sheet::fields::OBJECTS;
+use sheet::fields::PACK_CHANNELS;
+use sheet::fields::PACK_KIND;
+use sheet::fields::PACKS;
+use sheet::fields::PROGRAMME_LABELS;
+use sheet::fields::PROGRAMMES;
+use sheet::fields::SET_LIST;
+use sheet::fields::SET_SPAN;
+use sheet::fields::TRACKS;
 use sheet::layout::count;
 use sheet::layout::field;
 use sheet::layout::number;
@@ -32,15 +46,15 @@ pub fn rule7(s: &[u8], section: u8, k: u16) -> bool
     ensures { λ r. ⌜ r ≡ rule7 (sheetOf (now (s .entry))) section k ⌝ }
 {
     match section {
-        1 => outside(s, PROGRAMMES, count(s, 1)),
-        2 => outside(s, CONTENTS, count(s, 2)),
-        3 => outside(s, OBJECTS, count(s, 3)),
+        1 => outside(s, PROGRAMMES_LIMIT, count(s, PROGRAMMES)),
+        2 => outside(s, CONTENTS_LIMIT, count(s, CONTENTS)),
+        3 => outside(s, OBJECTS_LIMIT, count(s, OBJECTS)),
         4 => exceeds(
             s,
-            PACKS,
-            how_many_records(s, 4, RecordTest::ObjectsPack) as u64,
+            PACKS_LIMIT,
+            how_many_records(s, PACKS, RecordTest::ObjectsPack) as u64,
         ),
-        5 => outside(s, TRACKS, count(s, 5)),
+        5 => outside(s, TRACKS_LIMIT, count(s, TRACKS)),
         _ => false,
     }
 }
@@ -50,15 +64,35 @@ pub fn rule8(s: &[u8], section: u8, k: u16) -> bool
 {
     match section {
         1 => {
-            outside(s, PROGRAMME_CONTENTS, number(s, 1, k, 1))
-                | exceeds(s, PROGRAMME_SETS, number(s, 1, k, 3) as u64)
-                | exceeds(s, LABELS, number(s, 1, k, 5) as u64)
+            outside(
+                s,
+                PROGRAMME_CONTENTS_LIMIT,
+                number(s, PROGRAMMES, k, CONTENT_LIST),
+            )
+                | exceeds(
+                    s,
+                    PROGRAMME_SETS_LIMIT,
+                    number(s, PROGRAMMES, k, SET_LIST) as u64,
+                )
+                | exceeds(
+                    s,
+                    LABELS_LIMIT,
+                    number(s, PROGRAMMES, k, PROGRAMME_LABELS) as u64,
+                )
         }
-        2 => exceeds(s, LABELS, number(s, 2, k, 2) as u64),
+        2 => exceeds(
+            s,
+            LABELS_LIMIT,
+            number(s, CONTENTS, k, CONTENT_LABELS) as u64,
+        ),
         3 => {
-            exceeds(s, CHILDREN, number(s, 3, k, 3) as u64)
-                | exceeds(s, COMPLEMENTS, number(s, 3, k, 5) as u64)
-                | exceeds(s, SPAN, number(s, 3, k, 14) as u64)
+            exceeds(s, CHILDREN_LIMIT, number(s, OBJECTS, k, CHILD_LIST) as u64)
+                | exceeds(
+                    s,
+                    COMPLEMENTS_LIMIT,
+                    number(s, OBJECTS, k, COMPLEMENT_LIST) as u64,
+                )
+                | exceeds(s, SPAN_LIMIT, number(s, OBJECTS, k, SET_SPAN) as u64)
         }
         _ => false,
     }
@@ -67,7 +101,7 @@ pub fn rule8(s: &[u8], section: u8, k: u16) -> bool
 pub fn rule10(s: &[u8], section: u8, k: u16) -> bool
     ensures { λ r. ⌜ r ≡ rule10 (sheetOf (now (s .entry))) section k ⌝ }
 {
-    let kind = field(s, 4, k, 0);
-    let channels = field(s, 4, k, 1);
-    (kind == 3) & (channels != 1) | (kind == 1) & outside(s, CHANNELS, channels)
+    let kind = field(s, PACKS, k, PACK_KIND);
+    let channels = field(s, PACKS, k, PACK_CHANNELS);
+    (kind == 3) & (channels != 1) | (kind == 1) & outside(s, CHANNELS_LIMIT, channels)
 }

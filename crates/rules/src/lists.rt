@@ -6,6 +6,23 @@ use relations::entries::any_entry;
 use relations::objects::has_pack;
 use relations::objects::lacks;
 use relations::objects::pack_of;
+use sheet::fields::CHILD_LIST;
+use sheet::fields::COMPLEMENT_LIST;
+use sheet::fields::CONTENT_LABELS;
+use sheet::fields::CONTENT_LIST;
+use sheet::fields::CONTENT_OBJECT;
+use sheet::fields::CONTENTS;
+use sheet::fields::OBJECTS;
+use sheet::fields::PACKS;
+use sheet::fields::PROGRAMME_LABELS;
+use sheet::fields::PROGRAMMES;
+use sheet::fields::REFERENCES;
+use sheet::fields::SET_LIST;
+use sheet::fields::SET_SPAN;
+use sheet::fields::TRACK_LIST;
+use sheet::fields::TRACK_PACK;
+use sheet::fields::TRACKS;
+use sheet::fields::VALUE_SETS;
 use sheet::layout::count;
 use sheet::layout::field;
 use sheet::layout::number;
@@ -24,13 +41,15 @@ pub fn rule4(s: &[u8], section: u8, k: u16) -> bool
     ensures { λ r. ⌜ r ≡ rule4 (sheetOf (now (s .entry))) section k ⌝ }
 {
     match section {
-        1 => beyond(s, 6, 1, k, 1) | beyond(s, 6, 1, k, 3) | beyond(s, 6, 1, k, 5),
-        2 => beyond(s, 6, 2, k, 2),
+        1 => beyond(s, REFERENCES, PROGRAMMES, k, CONTENT_LIST)
+            | beyond(s, REFERENCES, PROGRAMMES, k, SET_LIST)
+            | beyond(s, REFERENCES, PROGRAMMES, k, PROGRAMME_LABELS),
+        2 => beyond(s, REFERENCES, CONTENTS, k, CONTENT_LABELS),
         3 => {
-            beyond(s, 6, 3, k, 1)
-                | beyond(s, 6, 3, k, 3)
-                | beyond(s, 6, 3, k, 5)
-                | beyond(s, 7, 3, k, 14)
+            beyond(s, REFERENCES, OBJECTS, k, TRACK_LIST)
+                | beyond(s, REFERENCES, OBJECTS, k, CHILD_LIST)
+                | beyond(s, REFERENCES, OBJECTS, k, COMPLEMENT_LIST)
+                | beyond(s, VALUE_SETS, OBJECTS, k, SET_SPAN)
         }
         _ => false,
     }
@@ -47,15 +66,16 @@ pub fn rule5(s: &[u8], section: u8, k: u16) -> bool
     ensures { λ r. ⌜ r ≡ rule5 (sheetOf (now (s .entry))) section k ⌝ }
 {
     match section {
-        1 => list_lacks(s, 2, 1, k, 1) | list_lacks(s, 7, 1, k, 3),
-        2 => lacks(s, 3, field(s, 2, k, 1)),
+        1 => list_lacks(s, CONTENTS, PROGRAMMES, k, CONTENT_LIST)
+            | list_lacks(s, VALUE_SETS, PROGRAMMES, k, SET_LIST),
+        2 => lacks(s, OBJECTS, field(s, CONTENTS, k, CONTENT_OBJECT)),
         3 => {
-            has_pack(s, k) & lacks(s, 4, pack_of(s, k))
-                | list_lacks(s, 5, 3, k, 1)
-                | list_lacks(s, 3, 3, k, 3)
-                | list_lacks(s, 3, 3, k, 5)
+            has_pack(s, k) & lacks(s, PACKS, pack_of(s, k))
+                | list_lacks(s, TRACKS, OBJECTS, k, TRACK_LIST)
+                | list_lacks(s, OBJECTS, OBJECTS, k, CHILD_LIST)
+                | list_lacks(s, OBJECTS, OBJECTS, k, COMPLEMENT_LIST)
         }
-        5 => lacks(s, 4, field(s, 5, k, 0)),
+        5 => lacks(s, PACKS, field(s, TRACKS, k, TRACK_PACK)),
         _ => false,
     }
 }
@@ -71,8 +91,8 @@ pub fn rule9(s: &[u8], section: u8, k: u16) -> bool
     ensures { λ r. ⌜ r ≡ rule9 (sheetOf (now (s .entry))) section k ⌝ }
 {
     match section {
-        1 => repeats(s, 1, k, 5),
-        2 => repeats(s, 2, k, 2),
+        1 => repeats(s, PROGRAMMES, k, PROGRAMME_LABELS),
+        2 => repeats(s, CONTENTS, k, CONTENT_LABELS),
         _ => false,
     }
 }

@@ -18,6 +18,16 @@ use relations::objects::pack_of;
 use relations::programmes::includes;
 use relations::records::owner;
 use relations::records::top;
+use sheet::fields::COMPLEMENT_LIST;
+use sheet::fields::INTERACT;
+use sheet::fields::OBJECTS;
+use sheet::fields::PACK_CHANNELS;
+use sheet::fields::PACKS;
+use sheet::fields::SET_GAIN;
+use sheet::fields::SET_OWN;
+use sheet::fields::SET_SPAN;
+use sheet::fields::TRACK_LIST;
+use sheet::fields::VALUE_SETS;
 use sheet::layout::count;
 use sheet::layout::entry;
 use sheet::layout::field;
@@ -48,25 +58,25 @@ fn fields_differ(s: &[u8], section: u8, from: u8, a: u16, b: u16) -> bool
 pub fn differs(s: &[u8], l: u16, q: u16) -> bool
     ensures { λ r. ⌜ r ≡ differs (sheetOf (now (s .entry))) l q ⌝ }
 {
-    fields_differ(s, 3, 7, l, q) | (kind(s, l) != kind(s, q))
+    fields_differ(s, OBJECTS, INTERACT, l, q) | (kind(s, l) != kind(s, q))
 }
 
 // Two sets differ in any of seven words.
 pub fn sets_differ(s: &[u8], u: u16, v: u16) -> bool
     ensures { λ r. ⌜ r ≡ setsDiffer (sheetOf (now (s .entry))) u v ⌝ }
 {
-    fields_differ(s, 7, 0, u, v)
+    fields_differ(s, VALUE_SETS, SET_GAIN, u, v)
 }
 
 // How often all lists at a position of the objects name x.
 pub fn total_times(s: &[u8], at: u8, x: u16) -> u32
     ensures { λ r. ⌜ r ≡ totalTimes (sheetOf (now (s .entry))) at x ⌝ }
 {
-    let n = count(s, 3);
+    let n = count(s, OBJECTS);
     let mut total: u32 = 0;
     let mut q: u16 = 0;
     while q < n {
-        total += times(s, 3, q, at, x) as u32;
+        total += times(s, OBJECTS, q, at, x) as u32;
         q += 1;
     }
     total
@@ -76,7 +86,7 @@ pub fn total_times(s: &[u8], at: u8, x: u16) -> u32
 pub fn bad_complement(s: &[u8], q: u16) -> bool
     ensures { λ r. ⌜ r ≡ badComplement (sheetOf (now (s .entry))) q ⌝ }
 {
-    !top(s, q) | leader(s, q) | (1 < total_times(s, 5, q))
+    !top(s, q) | leader(s, q) | (1 < total_times(s, COMPLEMENT_LIST, q))
 }
 
 // Whether an entry passes the test.
@@ -165,7 +175,7 @@ pub fn group_test(s: &[u8], test: GroupTest, l: u16) -> bool
 pub fn any_group(s: &[u8], test: GroupTest) -> bool
     ensures { λ r. ⌜ r ≡ anyGroup (sheetOf (now (s .entry))) test ⌝ }
 {
-    let n = count(s, 3);
+    let n = count(s, OBJECTS);
     let mut found = false;
     let mut l: u16 = 0;
     while l < n {
@@ -182,7 +192,7 @@ pub fn channels(s: &[u8], o: u16) -> u16
     if has_children(s, o) {
         0
     } else {
-        field(s, 4, pack_of(s, o), 1)
+        field(s, PACKS, pack_of(s, o), PACK_CHANNELS)
     }
 }
 
@@ -194,7 +204,7 @@ pub fn bad_channel(s: &[u8], o: u16) -> bool
     let mut found = false;
     let mut c: u16 = 0;
     while c < n {
-        found = found | (how_many_entries(s, 3, o, 1, EntryTest::Ordinal(c)) != 1);
+        found = found | (how_many_entries(s, OBJECTS, o, TRACK_LIST, EntryTest::Ordinal(c)) != 1);
         c += 1;
     }
     found
@@ -204,12 +214,12 @@ pub fn bad_channel(s: &[u8], o: u16) -> bool
 pub fn own_set(s: &[u8], o: u16) -> bool
     ensures { λ r. ⌜ r ≡ ownSet (sheetOf (now (s .entry))) o ⌝ }
 {
-    let from = field(s, 3, o, 14);
-    let n = number(s, 3, o, 14);
+    let from = field(s, OBJECTS, o, SET_SPAN);
+    let n = number(s, OBJECTS, o, SET_SPAN);
     let mut found = false;
     let mut i: u16 = 0;
     while i < n {
-        found = found | (wide_field(s, 7, from as u32 + i as u32, 1) == 1);
+        found = found | (wide_field(s, VALUE_SETS, from as u32 + i as u32, SET_OWN) == 1);
         i += 1;
     }
     found

@@ -4,6 +4,11 @@ use crate::loops::total_times;
 use relations::RecordTest;
 use relations::records::any_record;
 use relations::records::how_many_records;
+use sheet::fields::CHILD_LIST;
+use sheet::fields::CONTENT_LIST;
+use sheet::fields::CONTENTS;
+use sheet::fields::OBJECTS;
+use sheet::fields::PROGRAMMES;
 ghost use mathlib.Core.Path.{_≡_};
 ghost use Rattle.profile.specs.Relations.{namings};
 ghost use Rattle.profile.specs.Rules.{rule11, rule12};
@@ -13,7 +18,8 @@ ghost use Rattle.sheet.specs.Words.{sheetOf};
 fn namings(s: &[u8], o: u16) -> u64
     ensures { λ r. ⌜ r ≡ namings (sheetOf (now (s .entry))) o ⌝ }
 {
-    how_many_records(s, 2, RecordTest::Names(o)) as u64 + total_times(s, 3, o) as u64
+    how_many_records(s, CONTENTS, RecordTest::Names(o)) as u64
+        + total_times(s, CHILD_LIST, o) as u64
 }
 
 pub fn rule11(s: &[u8], section: u8, k: u16) -> bool
@@ -21,7 +27,7 @@ pub fn rule11(s: &[u8], section: u8, k: u16) -> bool
 {
     match section {
         3 => namings(s, k) != 1,
-        7 => how_many_records(s, 3, RecordTest::OwnerOf(k)) != 1,
+        7 => how_many_records(s, OBJECTS, RecordTest::OwnerOf(k)) != 1,
         _ => false,
     }
 }
@@ -30,8 +36,8 @@ pub fn rule12(s: &[u8], section: u8, k: u16) -> bool
     ensures { λ r. ⌜ r ≡ rule12 (sheetOf (now (s .entry))) section k ⌝ }
 {
     match section {
-        1 => repeats(s, 1, k, 1),
-        2 => !any_record(s, 1, RecordTest::HasContent(k)),
+        1 => repeats(s, PROGRAMMES, k, CONTENT_LIST),
+        2 => !any_record(s, PROGRAMMES, RecordTest::HasContent(k)),
         _ => false,
     }
 }

@@ -10,6 +10,13 @@ use relations::objects::has_pack;
 use relations::objects::leader;
 use relations::objects::pack_of;
 use relations::records::top;
+use sheet::fields::CHILD_LIST;
+use sheet::fields::INTERACT;
+use sheet::fields::OBJECT_GAIN;
+use sheet::fields::OBJECT_OFFSET;
+use sheet::fields::OBJECTS;
+use sheet::fields::SET_SPAN;
+use sheet::fields::TRACK_LIST;
 use sheet::layout::field;
 use sheet::layout::number;
 use values::Sort;
@@ -23,14 +30,22 @@ pub fn rule13(s: &[u8], section: u8, o: u16) -> bool
 {
     let pack = has_pack(s, o);
     let children = has_children(s, o);
-    pack & children | !pack & !children | any_entry(s, 3, o, 3, EntryTest::NoObjectsPack)
+    pack & children
+        | !pack & !children
+        | any_entry(s, OBJECTS, o, CHILD_LIST, EntryTest::NoObjectsPack)
 }
 
 pub fn rule14(s: &[u8], section: u8, o: u16) -> bool
     ensures { λ r. ⌜ r ≡ rule14 (sheetOf (now (s .entry))) section o ⌝ }
 {
-    (number(s, 3, o, 1) != channels(s, o))
-        | any_entry(s, 3, o, 1, EntryTest::OtherPack(pack_of(s, o)))
+    (number(s, OBJECTS, o, TRACK_LIST) != channels(s, o))
+        | any_entry(
+            s,
+            OBJECTS,
+            o,
+            TRACK_LIST,
+            EntryTest::OtherPack(pack_of(s, o)),
+        )
         | bad_channel(s, o)
 }
 
@@ -39,10 +54,10 @@ pub fn rule15(s: &[u8], section: u8, o: u16) -> bool
 {
     !top(s, o)
         & (leader(s, o)
-            | (field(s, 3, o, 7) == 1)
-            | (0 < number(s, 3, o, 14))
-            | !is_absent(field(s, 3, o, 8))
-            | !is_absent(field(s, 3, o, 11))
+            | (field(s, OBJECTS, o, INTERACT) == 1)
+            | (0 < number(s, OBJECTS, o, SET_SPAN))
+            | !is_absent(field(s, OBJECTS, o, OBJECT_GAIN))
+            | !is_absent(field(s, OBJECTS, o, OBJECT_OFFSET))
             | object_range(s, o, Sort::Gains)
             | object_range(s, o, Sort::Offsets))
 }
@@ -50,6 +65,6 @@ pub fn rule15(s: &[u8], section: u8, o: u16) -> bool
 pub fn rule16(s: &[u8], section: u8, o: u16) -> bool
     ensures { λ r. ⌜ r ≡ rule16 (sheetOf (now (s .entry))) section o ⌝ }
 {
-    (field(s, 3, o, 7) == 0)
+    (field(s, OBJECTS, o, INTERACT) == 0)
         & (object_range(s, o, Sort::Gains) | object_range(s, o, Sort::Offsets) | own_set(s, o))
 }

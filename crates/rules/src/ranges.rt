@@ -10,6 +10,10 @@ use relations::sets::object_maximum;
 use relations::sets::object_minimum;
 use relations::sets::own_value;
 use relations::sets::set_value;
+use sheet::fields::OBJECT_OFFSET;
+use sheet::fields::OBJECTS;
+use sheet::fields::SET_OFFSET;
+use sheet::fields::VALUE_SETS;
 use sheet::layout::field;
 use values::Sort;
 use values::values::in_range;
@@ -23,11 +27,11 @@ pub fn rule17(s: &[u8], section: u8, k: u16) -> bool
 {
     match section {
         3 => {
-            (!is_absent(field(s, 3, k, 11)) | object_range(s, k, Sort::Offsets))
+            (!is_absent(field(s, OBJECTS, k, OBJECT_OFFSET)) | object_range(s, k, Sort::Offsets))
                 & !has_front_pack(s, k)
         }
         7 => {
-            (!is_absent(field(s, 7, k, 4)) | set_range(s, k, Sort::Offsets))
+            (!is_absent(field(s, VALUE_SETS, k, SET_OFFSET)) | set_range(s, k, Sort::Offsets))
                 & !has_front_pack(s, owner(s, k))
         }
         _ => false,
@@ -48,8 +52,8 @@ fn object_leaves(s: &[u8], o: u16, sort: Sort) -> bool
     leaves(
         sort,
         own_value(s, o, sort),
-        field(s, 3, o, object_minimum(sort)),
-        field(s, 3, o, object_maximum(sort)),
+        field(s, OBJECTS, o, object_minimum(sort)),
+        field(s, OBJECTS, o, object_maximum(sort)),
     )
 }
 
@@ -57,7 +61,7 @@ fn object_leaves(s: &[u8], o: u16, sort: Sort) -> bool
 fn set_leaves(s: &[u8], o: u16, v: u16, sort: Sort) -> bool
     ensures { λ r. ⌜ r ≡ setLeaves (sheetOf (now (s .entry))) o v sort ⌝ }
 {
-    let own = field(s, 7, v, set_value(sort));
+    let own = field(s, VALUE_SETS, v, set_value(sort));
     leaves(
         sort,
         effective_value(s, o, v, sort),
@@ -68,8 +72,8 @@ fn set_leaves(s: &[u8], o: u16, v: u16, sort: Sort) -> bool
             & leaves(
                 sort,
                 own,
-                field(s, 3, o, object_minimum(sort)),
-                field(s, 3, o, object_maximum(sort)),
+                field(s, OBJECTS, o, object_minimum(sort)),
+                field(s, OBJECTS, o, object_maximum(sort)),
             )
 }
 

@@ -1,7 +1,7 @@
 // Rules 23 and 24: what the whole sheet adds up to.
-use profile::limits::COUNTED;
-use profile::limits::GROUPS;
-use profile::limits::UNITS;
+use profile::limits::COUNTED_LIMIT;
+use profile::limits::GROUPS_LIMIT;
+use profile::limits::UNITS_LIMIT;
 use profile::limits::exceeds;
 use relations::records::groups;
 use relations::sizes::counted_tracks;
@@ -13,11 +13,11 @@ ghost use Rattle.sheet.specs.Words.{sheetOf};
 pub fn rule23(s: &[u8], section: u8, k: u16) -> bool
     ensures { λ r. ⌜ r ≡ rule23 (sheetOf (now (s .entry))) section k ⌝ }
 {
-    exceeds(s, GROUPS, groups(s) as u64) | exceeds(s, UNITS, units(s) as u64)
+    exceeds(s, GROUPS_LIMIT, groups(s) as u64) | exceeds(s, UNITS_LIMIT, units(s) as u64)
 }
 
 pub fn rule24(s: &[u8], section: u8, k: u16) -> bool
     ensures { λ r. ⌜ r ≡ rule24 (sheetOf (now (s .entry))) section k ⌝ }
 {
-    exceeds(s, COUNTED, counted_tracks(s))
+    exceeds(s, COUNTED_LIMIT, counted_tracks(s))
 }

@@ -7,6 +7,21 @@ use relations::sets::object_value;
 use relations::sets::set_maximum;
 use relations::sets::set_minimum;
 use relations::sets::set_value;
+use sheet::fields::CONTENT_LABELS;
+use sheet::fields::CONTENT_LANGUAGE;
+use sheet::fields::CONTENT_LOUDNESS;
+use sheet::fields::CONTENTS;
+use sheet::fields::INTERACT;
+use sheet::fields::OBJECTS;
+use sheet::fields::PACK_FRONT;
+use sheet::fields::PACK_KIND;
+use sheet::fields::PACKS;
+use sheet::fields::PROGRAMME_LABELS;
+use sheet::fields::PROGRAMME_LANGUAGE;
+use sheet::fields::PROGRAMME_LOUDNESS;
+use sheet::fields::PROGRAMMES;
+use sheet::fields::SET_OWN;
+use sheet::fields::VALUE_SETS;
 use sheet::layout::field;
 use values::Sort;
 use values::language::language;
@@ -52,9 +67,9 @@ fn bad_object_words(s: &[u8], o: u16, sort: Sort) -> bool
 {
     bad_words(
         sort,
-        field(s, 3, o, object_value(sort)),
-        field(s, 3, o, object_minimum(sort)),
-        field(s, 3, o, object_maximum(sort)),
+        field(s, OBJECTS, o, object_value(sort)),
+        field(s, OBJECTS, o, object_minimum(sort)),
+        field(s, OBJECTS, o, object_maximum(sort)),
     )
 }
 
@@ -63,9 +78,9 @@ fn bad_set_words(s: &[u8], v: u16, sort: Sort) -> bool
 {
     bad_words(
         sort,
-        field(s, 7, v, set_value(sort)),
-        field(s, 7, v, set_minimum(sort)),
-        field(s, 7, v, set_maximum(sort)),
+        field(s, VALUE_SETS, v, set_value(sort)),
+        field(s, VALUE_SETS, v, set_minimum(sort)),
+        field(s, VALUE_SETS, v, set_maximum(sort)),
     )
 }
 
@@ -73,21 +88,22 @@ fn bad_set_words(s: &[u8], v: u16, sort: Sort) -> bool
 pub fn object_range(s: &[u8], o: u16, sort: Sort) -> bool
     ensures { λ r. ⌜ r ≡ objectRange (sheetOf (now (s .entry))) o sort ⌝ }
 {
-    !is_absent(field(s, 3, o, object_minimum(sort)))
-        | !is_absent(field(s, 3, o, object_maximum(sort)))
+    !is_absent(field(s, OBJECTS, o, object_minimum(sort)))
+        | !is_absent(field(s, OBJECTS, o, object_maximum(sort)))
 }
 
 // A range word of that sort is present in a set.
 pub fn set_range(s: &[u8], v: u16, sort: Sort) -> bool
     ensures { λ r. ⌜ r ≡ setRange (sheetOf (now (s .entry))) v sort ⌝ }
 {
-    !is_absent(field(s, 7, v, set_minimum(sort))) | !is_absent(field(s, 7, v, set_maximum(sort)))
+    !is_absent(field(s, VALUE_SETS, v, set_minimum(sort)))
+        | !is_absent(field(s, VALUE_SETS, v, set_maximum(sort)))
 }
 
 fn bad_object(s: &[u8], o: u16) -> bool
     ensures { λ r. ⌜ r ≡ badObject (sheetOf (now (s .entry))) o ⌝ }
 {
-    (1 < field(s, 3, o, 7))
+    (1 < field(s, OBJECTS, o, INTERACT))
         | bad_object_words(s, o, Sort::Gains)
         | bad_object_words(s, o, Sort::Offsets)
 }
@@ -95,14 +111,14 @@ fn bad_object(s: &[u8], o: u16) -> bool
 fn bad_pack(s: &[u8], k: u16) -> bool
     ensures { λ r. ⌜ r ≡ badPack (sheetOf (now (s .entry))) k ⌝ }
 {
-    let kind = field(s, 4, k, 0);
-    !((kind == 1) | (kind == 3)) | (1 < field(s, 4, k, 2))
+    let kind = field(s, PACKS, k, PACK_KIND);
+    !((kind == 1) | (kind == 3)) | (1 < field(s, PACKS, k, PACK_FRONT))
 }
 
 fn bad_set(s: &[u8], v: u16) -> bool
     ensures { λ r. ⌜ r ≡ badSet (sheetOf (now (s .entry))) v ⌝ }
 {
-    let own = field(s, 7, v, 1);
+    let own = field(s, VALUE_SETS, v, SET_OWN);
     (1 < own)
         | bad_set_words(s, v, Sort::Gains)
         | bad_set_words(s, v, Sort::Offsets)
@@ -113,8 +129,22 @@ pub fn rule6(s: &[u8], section: u8, k: u16) -> bool
     ensures { λ r. ⌜ r ≡ rule6 (sheetOf (now (s .entry))) section k ⌝ }
 {
     match section {
-        1 => bad_speech(s, 1, k, 0, 5, 7),
-        2 => bad_speech(s, 2, k, 0, 2, 4),
+        1 => bad_speech(
+            s,
+            PROGRAMMES,
+            k,
+            PROGRAMME_LANGUAGE,
+            PROGRAMME_LABELS,
+            PROGRAMME_LOUDNESS,
+        ),
+        2 => bad_speech(
+            s,
+            CONTENTS,
+            k,
+            CONTENT_LANGUAGE,
+            CONTENT_LABELS,
+            CONTENT_LOUDNESS,
+        ),
         3 => bad_object(s, k),
         4 => bad_pack(s, k),
         7 => bad_set(s, k),

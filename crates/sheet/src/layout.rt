@@ -1,4 +1,5 @@
 // Sections, records and lists.
+use crate::fields::REFERENCES;
 use crate::words::word;
 ghost use Prim.Native.Nat.{_*_, _+_, _<_, _≤_};
 ghost use mathlib.Core.Path.{_≡_};
@@ -94,7 +95,7 @@ pub fn number(s: &[u8], section: u8, k: u16, at: u8) -> u16
 pub fn reference(s: &[u8], i: u32) -> u16
     ensures { λ r. ⌜ r ≡ reference (sheetOf (now (s .entry))) i ⌝ }
 {
-    word(s, offset(s, 6) as usize + i as usize)
+    word(s, offset(s, REFERENCES) as usize + i as usize)
 }
 
 // Entry i of the list at position `at` of a record.
