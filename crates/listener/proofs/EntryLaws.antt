@@ -1,21 +1,20 @@
 -- The entries of a listing: each is a track of the sheet, and a sounding object has each channel of its pack once. Assumes nothing.
-use Prim.Native.Nat.{ℕ, zero, suc, _+_, _<_, _≤_, zero-le}
+use Prim.Native.Nat.{ℕ, zero, suc, _+_, _<_, _≤_}
 use mathlib.Core.Path.{_≡_, refl, sym, ap, ap₂, _∙_}
-use mathlib.Core.Bool.{Bool, true, false, true≢false, cond, not, _&&_, _||_}
+use mathlib.Core.Bool.{Bool, true, false, true≢false, cond, not, _&&_}
 use mathlib.Core.List.{List, [], _∷_, _++_, map}
-use mathlib.Core.Logic.{_⊎_, inl, inr, ⊎-elim}
 use native.Mathlib.Omega.{arith}
 use native.Mathlib.Nat.{le-of-suc-le-suc, add-zero}
 use lib.Dec.{eqb, ltb}
 use lib.ListN.{length, getD}
-use borrow.Author.Tests.{ltb-true, ltb-false, eqb-true, eqb-false, eq-eqb, ne-eqb, not-true, not-false}
+use borrow.Author.Tests.{ltb-true, ltb-false, eqb-true, eqb-false, eq-eqb, ne-eqb, not-true}
 use Rattle.sheet.specs.Words.{Sheet}
 use Rattle.sheet.specs.Layout.{level, count, field, number, entry}
-use Rattle.sheet.specs.Fields.{programmes, contents, objects, packs, tracks, contentObject, trackList, childList, packChannels, trackPack, trackOrdinal}
-use Rattle.profile.specs.Counting.{any, howMany, sum, concatBelow, tabulate}
+use Rattle.sheet.specs.Fields.{objects, packs, tracks, trackList, childList, packChannels, trackPack, trackOrdinal}
+use Rattle.profile.specs.Counting.{howMany, sum, concatBelow, tabulate}
 use Rattle.profile.specs.Relations.{lists, times, packOf, hasPack, hasChildren, top, leader, member, members, whollyIncluded, namings, channels, trackAt}
 use Rattle.profile.specs.AcceptedSheet.{AcceptedSheet}
-use Rattle.profile.proofs.BoolLaws.{and-both, or-false, or-either}
+use Rattle.profile.proofs.BoolLaws.{and-both, or-false}
 use Rattle.profile.proofs.CountingLaws.{any-howMany}
 use Rattle.profile.proofs.SumLaws.{sum-eq, sum-zero, sum-one, sum-two, sum-at, howMany-sum, howMany-eq, any-nowhere}
 use Rattle.profile.proofs.GroupLaws.{any-witness, lists-times, member-index, member-top, top-no-child}

@@ -1,8 +1,8 @@
 -- The listening guarantee: for every sheet accepted at level 1 or 2 and every list of calls. Its statement is specs/Guarantee.antt.
 -- Its hypotheses are acceptance and the level, and nothing else. Assumes nothing.
-use Prim.Native.Nat.{ℕ, zero, suc, _<_, _≤_}
-use mathlib.Core.Path.{_≡_, refl, sym, ap, subst, _∙_}
-use mathlib.Core.Bool.{true, false}
+use Prim.Native.Nat.{ℕ, _≤_}
+use mathlib.Core.Path.{_≡_, subst, _∙_}
+use mathlib.Core.Bool.{true}
 use mathlib.Core.List.{List, [], _∷_}
 use mathlib.Core.Logic.{_⊎_, ⊎-elim}
 use native.Mathlib.Omega.{arith}
@@ -21,9 +21,9 @@ use Rattle.listener.specs.declared.State.{State}
 use Rattle.listener.specs.declared.Answer.the-variants.{Done}
 use Rattle.listener.specs.declared.Refusal.the-variants.{NotAccepted, Unsound}
 use Rattle.listener.specs.Sound.{sound}
-use Rattle.listener.specs.Calls.{opens, answerBy, replyBy, notOpen, notSound, opened}
+use Rattle.listener.specs.Calls.{opens, answerBy, replyBy, notOpen, opened}
 use Rattle.listener.specs.Listing.{entries, listedTracks, tooFewWords, listingAnswer, listedBy, listed, bufferedBy, buffered}
-use Rattle.listener.specs.Run.{Call, after, lastChosen}
+use Rattle.listener.specs.Run.{Call, after}
 use Rattle.listener.specs.Guarantee.{mostEntries, Promises, Listening}
 use Rattle.listener.proofs.RunLaws.{opens-accepted, passes, never, never-refused, after-kept}
 use Rattle.listener.proofs.ValueLaws as values

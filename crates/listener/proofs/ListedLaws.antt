@@ -1,5 +1,5 @@
 -- The listing's entries and the tracks that the code writes are the same. Assumes nothing.
-use Prim.Native.Nat.{ℕ, zero, suc, _+_, _<_, _≤_}
+use Prim.Native.Nat.{ℕ, zero, suc, _+_}
 use mathlib.Core.Path.{_≡_, refl, sym, ap, ap₂, _∙_}
 use mathlib.Core.Bool.{Bool, true, false, cond}
 use mathlib.Core.List.{List, [], _∷_, _++_, map}
@@ -8,7 +8,7 @@ use lib.ListN.{length, length-append, length-map}
 use Rattle.sheet.specs.Words.{Sheet}
 use Rattle.sheet.specs.Layout.{number, entry}
 use Rattle.sheet.specs.Fields.{objects, trackList, childList}
-use Rattle.profile.specs.Counting.{sum, concatBelow, tabulate}
+use Rattle.profile.specs.Counting.{concatBelow, tabulate}
 use Rattle.profile.proofs.ListLaws.{length-concat, length-tabulate}
 use Rattle.profile.proofs.SumLaws.{sum-eq}
 use Rattle.relations.specs.Sizes.{childrenTracks}

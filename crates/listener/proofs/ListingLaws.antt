@@ -1,32 +1,29 @@
 -- The listing of a sound state: how long it is, what is in it, and which members of a group sound. Assumes nothing.
-use Prim.Native.Nat.{ℕ, zero, suc, _+_, _<_, _≤_, zero-le}
+use Prim.Native.Nat.{ℕ, _+_, _<_, _≤_, zero-le}
 use mathlib.Core.Path.{_≡_, refl, sym, ap, ap₂, _∙_}
-use mathlib.Core.Bool.{Bool, true, false, true≢false, cond, not, _&&_, _||_}
-use mathlib.Core.List.{List, [], _∷_, _++_, map}
-use mathlib.Core.Logic.{_⊎_, inl, inr, ⊎-elim}
+use mathlib.Core.Bool.{Bool, true, false, true≢false, cond, not, _&&_}
+use mathlib.Core.List.{List, []}
+use mathlib.Core.Logic.{⊎-elim}
 use native.Mathlib.Omega.{arith}
 use native.Mathlib.Nat.{le-trans}
-use lib.Dec.{eqb, ltb}
-use lib.ListN.{length, getD, length-append}
-use borrow.Author.Tests.{ltb-true, ltb-false, eqb-true, eqb-false, eq-eqb, ne-eqb, not-true, not-false}
+use lib.Dec.{eqb}
+use lib.ListN.{length, length-append}
+use borrow.Author.Tests.{ltb-true, ltb-false, eqb-true, eq-eqb}
 use Rattle.sheet.specs.Words.{Sheet}
 use Rattle.sheet.specs.Layout.{level, count, field, number, entry}
-use Rattle.sheet.specs.Fields.{programmes, contents, objects, packs, tracks, contentList, contentObject, trackList, childList, packChannels, trackPack, trackOrdinal}
-use Rattle.profile.specs.Counting.{any, howMany, sum, largest, concatBelow, tabulate}
-use Rattle.profile.specs.Relations.{lists, times, packOf, hasPack, hasChildren, top, leader, complement, member, members, leaderOf, lone, includes, included, whollyIncluded, size, share, countedTracks, namings, channels, trackAt}
+use Rattle.sheet.specs.Fields.{programmes, contents, objects, contentList, contentObject, trackList, childList}
+use Rattle.profile.specs.Counting.{any, howMany, sum, concatBelow}
+use Rattle.profile.specs.Relations.{hasPack, hasChildren, top, leader, complement, member, members, leaderOf, lone, includes, included, whollyIncluded, size, share, countedTracks, channels, trackAt}
 use Rattle.profile.specs.AcceptedSheet.{AcceptedSheet}
-use Rattle.profile.proofs.BoolLaws.{and-both, or-false, or-either}
 use Rattle.profile.proofs.CountingLaws.{any-howMany}
 use Rattle.profile.proofs.ListLaws.{length-concat, length-tabulate}
-use Rattle.profile.proofs.SumLaws.{sum-le, sum-eq, sum-zero, sum-one, sum-two, sum-swap, sum-at, sum-more, howMany-sum, howMany-eq, any-one, any-nowhere, largest-one, unit-bound}
-use Rattle.profile.proofs.GroupLaws.{any-witness, any-count, lists-times, lists-leader, leader-lists, own-leader, no-leader, member-of, member-at, member-zero, member-leader, member-index, member-top, leads-itself, leader-index, included-top, whole-member, top-no-child}
-use Rattle.listener.specs.declared.Setting.{Setting}
+use Rattle.profile.proofs.SumLaws.{sum-le, sum-eq, sum-one, sum-swap, sum-at, sum-more, howMany-sum, any-one, largest-one, unit-bound}
+use Rattle.profile.proofs.GroupLaws.{any-witness, lists-leader, leader-lists, no-leader, member-of, member-at, member-zero, member-index, leads-itself, leader-index, included-top, whole-member}
 use Rattle.listener.specs.declared.State.{State}
 use Rattle.listener.specs.State.{stateObjects, setting, active}
 use Rattle.listener.specs.Programme.{inWholeGroup}
 use Rattle.listener.specs.Sound.{activeMembers, soundActivity, sound}
-use Rattle.listener.specs.Listing.{Entry, sounds, ownEntries, objectEntries, entries, listedTracks}
-use Rattle.listener.specs.Guarantee.{howManyIn, isChannel}
+use Rattle.listener.specs.Listing.{ownEntries, objectEntries, entries}
 use Rattle.listener.proofs.SoundLaws.{few-objects, sound-programme, sound-object, included-parts, rest-parts}
 use Rattle.listener.proofs.ValueLaws.{resting-parts}
 

@@ -1,10 +1,9 @@
 -- After every list of calls the state is sound, and its programme is that of the last choice not refused. Assumes nothing.
-use Prim.Native.Nat.{ℕ, zero, suc, _<_, _≤_}
-use mathlib.Core.Path.{_≡_, refl, sym, ap, _∙_}
-use mathlib.Core.Bool.{Bool, true, false, true≢false, cond, not, _&&_, _||_}
+use Prim.Native.Nat.{ℕ, _<_, _≤_}
+use mathlib.Core.Path.{_≡_, refl, sym, _∙_}
+use mathlib.Core.Bool.{Bool, true, false}
 use mathlib.Core.List.{List, [], _∷_}
 use native.Mathlib.Omega.{arith}
-use lib.Dec.{eqb, leb}
 use lib.IntN.{ℤ}
 use lib.ListN.{length, length-set}
 use borrow.Author.Tests.{leb-false, not-false, ne-eqb, lt-ltb}
@@ -17,7 +16,6 @@ use Rattle.values.specs.declared.Sort.the-variants.{Gains, Offsets}
 use Rattle.values.specs.Signed.{signedOf}
 use Rattle.values.specs.Gain.{gainOf}
 use Rattle.profile.specs.declared.Verdict.the-variants.{Accepted}
-use Rattle.profile.specs.Counting.{tabulate}
 use Rattle.profile.specs.Relations.{includes}
 use Rattle.profile.specs.Verdict.{verdict}
 use Rattle.profile.specs.AcceptedSheet.{AcceptedSheet}
@@ -27,10 +25,8 @@ use Rattle.profile.proofs.GroupLaws.{included-top}
 use Rattle.listener.specs.declared.Setting.{Setting}
 use Rattle.listener.specs.declared.State.{State}
 use Rattle.listener.specs.declared.Refusal.{Refusal}
-use Rattle.listener.specs.declared.Refusal.the-variants.{NotAccepted, Unsound, NoProgramme, NotInGroup, NoRange, Outside, TooFewWords}
 use Rattle.listener.specs.declared.Answer.{Answer}
 use Rattle.listener.specs.declared.Answer.the-variants.{Done, Refused}
-use Rattle.listener.specs.declared.Reply.{Reply}
 use Rattle.listener.specs.State.{stateObjects, setting, sameGain, sameOffset, refusalNumber}
 use Rattle.listener.specs.Programme.{startValue, grants, inWholeGroup, startSetting, started}
 use Rattle.listener.specs.Sound.{sound, gainFits, offsetFits, soundGain, soundOffset}

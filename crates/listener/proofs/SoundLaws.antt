@@ -1,17 +1,14 @@
 -- A started state is sound, and the calls keep it so. Assumes nothing.
-use Prim.Native.Nat.{ℕ, zero, suc, _+_, _<_, _≤_}
+use Prim.Native.Nat.{ℕ, zero, suc, _<_, _≤_}
 use mathlib.Core.Path.{_≡_, refl, sym, ap, ap₂, _∙_}
-use mathlib.Core.Bool.{Bool, true, false, true≢false, cond, not, _&&_, _||_}
-use mathlib.Core.List.{List}
-use mathlib.Core.Logic.{⊎-elim}
+use mathlib.Core.Bool.{Bool, true, false, cond, not, _&&_}
 use native.Mathlib.Omega.{arith}
-use native.Mathlib.Nat.{le-of-suc-le-suc}
 use lib.Dec.{eqb, ltb}
-use lib.IntN.{ℤ, pos}
+use lib.IntN.{ℤ}
 use lib.Signed.{leZ}
-use lib.ListN.{length, getD, set, length-set}
+use lib.ListN.{length}
 use lib.Seq.{getD-set-same, getD-set-other}
-use borrow.Author.Tests.{ltb-true, lt-ltb, eqb-true, eqb-false, eq-eqb, ne-eqb, not-true}
+use borrow.Author.Tests.{ltb-true, lt-ltb, eqb-true, eqb-false, eq-eqb, ne-eqb}
 use Rattle.sheet.specs.Words.{Sheet}
 use Rattle.sheet.specs.Layout.{level, count, number, entry}
 use Rattle.sheet.specs.Fields.{programmes, objects, complementList}
@@ -25,14 +22,14 @@ use Rattle.profile.specs.Limits.{limit, limits, objectsLimit}
 use Rattle.profile.specs.Relations.{leader, member, members, leaderOf, includes, whollyIncluded}
 use Rattle.profile.specs.AcceptedSheet.{AcceptedSheet}
 use Rattle.profile.proofs.BoolLaws.{and-both, or-true}
-use Rattle.profile.proofs.ListLaws.{length-tabulate, getD-tabulate, every-at, every-all}
+use Rattle.profile.proofs.ListLaws.{getD-tabulate, every-at, every-all}
 use Rattle.profile.proofs.SumLaws.{howMany-eq}
-use Rattle.profile.proofs.GroupLaws.{member-zero, member-suc, member-of, member-leader, member-index, member-once, complement-leader, leads-itself, leader-index, included-top, whole-member}
+use Rattle.profile.proofs.GroupLaws.{member-zero, member-suc, member-of, member-leader, member-index, member-once, complement-leader, leader-index, included-top, whole-member}
 use Rattle.listener.specs.declared.Setting.{Setting}
 use Rattle.listener.specs.declared.State.{State}
 use Rattle.listener.specs.State.{stateObjects, resting, blank, setting, active, sameGain, sameOffset, isResting}
-use Rattle.listener.specs.Programme.{startValue, grants, inWholeGroup, startsActive, startSetting, started}
-use Rattle.listener.specs.Sound.{gainFits, offsetFits, soundGain, soundOffset, activeMembers, soundActivity, soundAt, sound}
+use Rattle.listener.specs.Programme.{startValue, inWholeGroup, startsActive, startSetting, started}
+use Rattle.listener.specs.Sound.{soundGain, soundOffset, activeMembers, soundActivity, soundAt, sound}
 use Rattle.listener.specs.Calls.{movedSetting, withSetting}
 
 -- the same gain, the same offset

@@ -1,19 +1,18 @@
 -- What a programme starts its objects with is legal and in the range that it grants them. Assumes nothing.
-use Prim.Native.Nat.{ℕ, zero, suc, _+_, _<_, _≤_}
+use Prim.Native.Nat.{ℕ, _<_}
 use mathlib.Core.Path.{_≡_, refl, sym, ap, _∙_}
-use mathlib.Core.Bool.{Bool, true, false, true≢false, cond, not, _&&_, _||_}
-use mathlib.Core.Logic.{⊎-elim}
+use mathlib.Core.Bool.{Bool, true, false, cond}
 use native.Mathlib.Omega.{arith}
 use lib.Dec.{eqb, ltb}
-use borrow.Author.Tests.{ltb-true, ltb-false, not-true}
+use borrow.Author.Tests.{ltb-true, ltb-false}
 use Rattle.sheet.specs.Words.{Sheet}
-use Rattle.sheet.specs.Layout.{count, field, number, entry}
+use Rattle.sheet.specs.Layout.{count, field, number}
 use Rattle.sheet.specs.Fields.{programmes, objects, valueSets, setList, setOwn}
 use Rattle.values.specs.declared.Sort.{Sort}
-use Rattle.values.specs.Values.{isAbsent, orElse, isValue, isMinimum, isMaximum, inRange}
+use Rattle.values.specs.Values.{isAbsent, orElse, isValue}
 use Rattle.values.proofs.Zero.{zero-value, zero-in-range}
-use Rattle.profile.specs.Counting.{any, howMany, sum, lowest}
-use Rattle.profile.specs.Relations.{hasSet, owner, namedSet, namesSet, setFor, objectValue, objectMinimum, objectMaximum, setValue, setMinimum, setMaximum, ownValue, effectiveValue, effectiveMinimum, effectiveMaximum}
+use Rattle.profile.specs.Counting.{howMany, sum, lowest}
+use Rattle.profile.specs.Relations.{hasSet, owner, namedSet, namesSet, setFor, objectValue, setValue, ownValue, effectiveValue, effectiveMinimum, effectiveMaximum}
 use Rattle.profile.specs.AcceptedSheet.{AcceptedSheet, Legal, LegalRange, Within}
 use Rattle.profile.proofs.CountingLaws.{finds, lowest-holds}
 use Rattle.profile.proofs.SumLaws.{howMany-sum, sum-two}

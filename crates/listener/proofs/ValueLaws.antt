@@ -1,15 +1,14 @@
 -- Gains and offsets of a sound state: legal, in the granted range, at their start value where none is granted. Assumes nothing.
-use Prim.Native.Nat.{ℕ, _<_, _≤_}
+use Prim.Native.Nat.{ℕ, _<_}
 use mathlib.Core.Path.{_≡_, refl, sym, ap, _∙_}
-use mathlib.Core.Bool.{Bool, true, false, true≢false, not, _&&_, _||_}
+use mathlib.Core.Bool.{true, false, true≢false, not, _&&_}
 use mathlib.Core.Logic.{_⊎_, inl, inr, ⊎-elim}
 use native.Mathlib.Omega.{arith}
-use lib.IntN.{ℤ, pos}
-use borrow.Author.Tests.{not-true, not-false}
+use lib.IntN.{pos}
+use borrow.Author.Tests.{not-true}
 use Rattle.sheet.specs.Words.{Sheet}
 use Rattle.sheet.specs.Layout.{level, count}
 use Rattle.sheet.specs.Fields.{programmes, objects}
-use Rattle.values.specs.declared.Gain.{Gain}
 use Rattle.values.specs.declared.Gain.the-variants.{Tenths}
 use Rattle.values.specs.declared.Sort.{Sort}
 use Rattle.values.specs.declared.Sort.the-variants.{Gains, Offsets}
@@ -22,7 +21,7 @@ use Rattle.profile.specs.AcceptedSheet.{AcceptedSheet}
 use Rattle.profile.proofs.BoolLaws.{and-both, or-either}
 use Rattle.listener.specs.declared.Setting.{Setting}
 use Rattle.listener.specs.declared.State.{State}
-use Rattle.listener.specs.State.{stateObjects, resting, setting, sameGain, sameOffset, isResting}
+use Rattle.listener.specs.State.{setting, sameGain, sameOffset, isResting}
 use Rattle.listener.specs.Programme.{startValue, grantedMinimum, grantedMaximum, grants, startSetting}
 use Rattle.listener.specs.Sound.{gainFits, offsetFits, soundGain, soundOffset, soundAt, sound}
 use Rattle.listener.proofs.StartLaws.{start-legal, start-within, zero-within}

@@ -1,7 +1,7 @@
 -- The listening guarantee, demand 3: "after every list of calls from a fresh opening" on a sheet accepted at level 1 or 2. "Demand 3 is
 -- a single claim about the whole list, not one for each call." The record has
 -- a field for each promise; `listening` in proofs/Guaranteed.antt makes it for every such sheet and every list of calls. Assumes nothing.
-use Prim.Native.Nat.{ℕ, suc, _+_, _<_, _≤_}
+use Prim.Native.Nat.{ℕ, _+_, _<_, _≤_}
 use mathlib.Core.Path.{_≡_}
 use mathlib.Core.Bool.{Bool, true, false, cond, _&&_}
 use mathlib.Core.List.{List, [], _∷_}

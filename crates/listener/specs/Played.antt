@@ -1,6 +1,5 @@
 -- The machine with every definition open, so that the scripts of specs/Scripts.antt compute. Assumes nothing.
 use Prim.Native.Nat.{ℕ}
-use mathlib.Core.Bool.{Bool}
 use mathlib.Core.List.{List, [], _∷_}
 use lib.ListN.{length}
 use Rattle.sheet.specs.Words.{Sheet, sheetOf}

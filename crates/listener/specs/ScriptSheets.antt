@@ -3,7 +3,7 @@ use Prim.Native.Nat.{ℕ, _+_, _-_}
 use mathlib.Core.List.{List, [], _∷_, _++_, map}
 use lib.ListN.{replicate, set}
 use Rattle.sheet.specs.Fields.{tracks, trackOrdinal}
-use Rattle.profile.specs.Build.{Row, Parts, build, put, bytesOf, absent, programme, content, plain, object, still, slider, leaf, below, speakers, frontPack, sidePack, channelTracks, gainSet}
+use Rattle.profile.specs.Build.{build, put, bytesOf, absent, programme, content, plain, object, slider, leaf, below, speakers, frontPack, sidePack, channelTracks, gainSet}
 
 -- the word of a number below 0
 abbrev minus : ℕ → ℕ

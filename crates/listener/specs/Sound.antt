@@ -15,7 +15,6 @@ use Rattle.values.specs.Gain.{gainOf, gainInRange, legalGain}
 use Rattle.values.specs.Offset.{offsetInRange, legalOffset}
 use Rattle.profile.specs.Counting.{howMany, every}
 use Rattle.profile.specs.Relations.{member, members, leaderOf, includes}
-use Rattle.listener.specs.declared.Setting.{Setting}
 use Rattle.listener.specs.declared.State.{State}
 use Rattle.listener.specs.State.{stateObjects, setting, active, sameGain, sameOffset, isResting}
 use Rattle.listener.specs.Programme.{startValue, grantedMinimum, grantedMaximum, grants, inWholeGroup}

@@ -1,8 +1,7 @@
 -- The listener's state. Document 01, "The listener": "The state is a value that each call takes and hands back: a programme, and for
 -- 84 objects active, gain, offset. Refused opening gives programme 0 and 84 times inactive, 0, 0." Assumes nothing.
 use Prim.Native.Nat.{ℕ}
-use mathlib.Core.Bool.{Bool, true, false, cond, not, _&&_}
-use mathlib.Core.List.{List}
+use mathlib.Core.Bool.{Bool, false, cond, not, _&&_}
 use lib.Dec.{ltb}
 use lib.ListN.{getD, replicate}
 use lib.IntN.{ℤ, pos}

@@ -1,13 +1,13 @@
 -- An accepted sheet has what acceptance grants: each fact from the rule that grants it. Assumes nothing.
-use Prim.Native.Nat.{ℕ, zero, suc, _+_, _<_, _≤_}
+use Prim.Native.Nat.{ℕ, _<_, _≤_}
 use mathlib.Core.Path.{_≡_, refl, sym, ap, _∙_}
 use mathlib.Core.Bool.{Bool, true, false, true≢false, not, _&&_, _||_}
 use mathlib.Core.Logic.{_⊎_, inl, inr, ⊎-elim}
 use native.Mathlib.Omega.{arith}
 use lib.Dec.{eqb, ltb, leb}
-use borrow.Author.Tests.{ltb-true, ltb-false, leb-true, leb-false, eqb-true, eqb-false, not-true, not-false, ne-eqb, eq-eqb, lt-ltb}
+use borrow.Author.Tests.{ltb-false, leb-false, eqb-true, not-true, not-false, ne-eqb}
 use Rattle.sheet.specs.Words.{Sheet}
-use Rattle.sheet.specs.Layout.{edition, level, count, field, first, number, entry}
+use Rattle.sheet.specs.Layout.{edition, level, count, field, number, entry}
 use Rattle.sheet.specs.Fields.{header, programmes, programmeLabels, contents, objects, packs, tracks, valueSets, contentList, setList, contentObject, trackList, childList, complementList, setSpan, interact, packKind, packChannels, packFront, setOwn, trackPack, trackOrdinal}
 use Rattle.values.specs.declared.Sort.{Sort}
 use Rattle.values.specs.declared.Sort.the-variants.{Gains, Offsets}
@@ -15,7 +15,7 @@ use Rattle.values.specs.Values.{isAbsent, isValue, isMinimum, isMaximum, inRang
 use Rattle.profile.specs.declared.Verdict.the-variants.{Accepted}
 use Rattle.profile.specs.Counting.{any, howMany, sum}
 use Rattle.profile.specs.Limits.{limit, exceeds, programmesLimit, objectsLimit, programmeContentsLimit, programmeSetsLimit, labelsLimit, channelsLimit, countedLimit}
-use Rattle.profile.specs.Relations.{times, packOf, hasPack, hasChildren, hasObjectsPack, top, leader, included, whollyIncluded, hasSet, owner, namedSet, objectValue, objectMinimum, objectMaximum, setValue, setMinimum, setMaximum, ownValue, effectiveValue, effectiveMinimum, effectiveMaximum, countedTracks, namings, channels, trackAt}
+use Rattle.profile.specs.Relations.{times, packOf, hasPack, hasChildren, hasObjectsPack, top, leader, included, whollyIncluded, hasSet, owner, namedSet, objectValue, objectMinimum, objectMaximum, setValue, effectiveValue, effectiveMinimum, effectiveMaximum, countedTracks, namings, channels, trackAt}
 use Rattle.profile.specs.Rules.{rule2, rule5, rule6, rule7, rule8, rule10, rule11, rule13, rule14, rule15, rule18, rule19, rule21, rule24, lacks, listLacks, badWords, badObject, badObjectWords, badPack, badSet, badSetWords, objectRange, setRange, outside, badComplement, leaves, objectLeaves, setLeaves}
 use Rattle.profile.specs.Verdict.{ruleCount, sectionCount, breaks, rules, subjects, subjectKind, subjectTable, verdict}
 use Rattle.profile.specs.AcceptedSheet.{AcceptedSheet, Legal, LegalRange, Within}

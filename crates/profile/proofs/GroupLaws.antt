@@ -1,8 +1,8 @@
 -- Leaders, members, inclusion and naming on a sheet that has what acceptance grants. Assumes nothing.
-use Prim.Native.Nat.{ℕ, zero, suc, _+_, _<_, _≤_, zero-le}
+use Prim.Native.Nat.{ℕ, zero, suc, _+_, _<_, _≤_}
 use mathlib.Core.Path.{_≡_, refl, sym, ap, subst, _∙_}
 use mathlib.Core.Bool.{Bool, true, false, true≢false, cond, not}
-use mathlib.Core.Logic.{_⊎_, ⊎-elim, inl, inr}
+use mathlib.Core.Logic.{⊎-elim}
 use native.Mathlib.Omega.{arith}
 use native.Mathlib.Nat.{le-of-suc-le-suc, eq-zero-or-pos}
 use lib.Dec.{eqb, ltb}
@@ -13,7 +13,7 @@ use Rattle.sheet.specs.Fields.{programmes, contents, objects, contentList, cont
 use Rattle.profile.specs.Counting.{any, howMany, sum, lowest}
 use Rattle.profile.specs.Relations.{lists, times, top, leader, complement, member, members, leaderOf, includes, included, whollyIncluded, namings}
 use Rattle.profile.specs.AcceptedSheet.{AcceptedSheet}
-use Rattle.profile.proofs.CountingLaws.{any-howMany, any-none, lowest-holds, lowest-le, finds}
+use Rattle.profile.proofs.CountingLaws.{any-howMany, any-none, lowest-holds, finds}
 use Rattle.profile.proofs.SumLaws.{sum-one, sum-two, any-one, howMany-all, howMany-shift}
 
 -- where some number has the test, one can be named

@@ -2,7 +2,6 @@
 use Prim.Native.Nat.{ℕ, zero, suc, _<_}
 use mathlib.Core.Path.{_≡_, refl, sym}
 use native.Mathlib.Omega.{arith}
-use Rattle.profile.specs.declared.Place.{Place}
 use Rattle.profile.specs.declared.Place.the-variants.{Header}
 use Rattle.profile.specs.Verdict.{sectionOf, recordOf, placeAt, sectionCount}
 

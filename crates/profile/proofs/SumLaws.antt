@@ -1,12 +1,12 @@
 -- Laws of finite sums and counts, over any function and any test. Assumes nothing.
-use Prim.Native.Nat.{ℕ, zero, suc, _+_, _*_, _<_, _≤_, zero-le, max}
+use Prim.Native.Nat.{ℕ, zero, suc, _+_, _<_, _≤_, zero-le, max}
 use mathlib.Core.Path.{_≡_, refl, ap, sym, _∙_}
-use mathlib.Core.Bool.{Bool, true, false, true≢false, cond, _&&_}
-use mathlib.Core.Logic.{_⊎_, ⊎-elim, inl, inr}
+use mathlib.Core.Bool.{Bool, true, false, cond, _&&_}
+use mathlib.Core.Logic.{⊎-elim}
 use native.Mathlib.Omega.{arith}
 use native.Mathlib.Nat.{eq-or-lt-of-le, le-of-suc-le-suc, zero-add, add-zero, le-trans}
 use lib.Dec.{eqb}
-use borrow.Author.Tests.{eqb-true, eqb-false, eq-eqb, ne-eqb}
+use borrow.Author.Tests.{eq-eqb, ne-eqb}
 use Rattle.profile.proofs.BoolLaws.{or-true}
 use Rattle.profile.proofs.CountingLaws.{howMany-le}
 use Rattle.profile.specs.Counting.{any, howMany, sum, largest}

@@ -1,20 +1,20 @@
 -- The verdict is acceptance exactly when no rule is broken at any place, and otherwise the first broken rule with its place. Both
 -- follow from the laws of the search alone. Assumes nothing.
-use Prim.Native.Nat.{ℕ, zero, suc, _+_, _-_, _<_, _≤_}
-use mathlib.Core.Path.{_≡_, refl, sym, ap, _∙_}
-use mathlib.Core.Bool.{Bool, true, false, true≢false, cond, not}
+use Prim.Native.Nat.{ℕ, zero, suc, _-_, _<_, _≤_}
+use mathlib.Core.Path.{_≡_, refl, sym, _∙_}
+use mathlib.Core.Bool.{Bool, true, false, true≢false, not}
 use mathlib.Core.Logic.{⊎-elim}
 use mathlib.Core.List.{[], _∷_}
 use native.Mathlib.Omega.{arith}
 use lib.Dec.{ltb, leb}
 use lib.ListN.{getD}
-use borrow.Author.Tests.{ltb-true, ltb-false, lt-ltb, leb-true, not-false}
+use borrow.Author.Tests.{ltb-true, leb-true, not-false}
 use Rattle.sheet.specs.Words.{Sheet}
 use Rattle.sheet.specs.Layout.{count}
 use Rattle.profile.specs.declared.Place.{Place}
 use Rattle.profile.specs.declared.Verdict.{Verdict}
 use Rattle.profile.specs.declared.Verdict.the-variants.{Accepted, Broken}
-use Rattle.profile.specs.Counting.{any, lowest}
+use Rattle.profile.specs.Counting.{any}
 use Rattle.profile.specs.Verdict.{sectionOf, recordOf, placeAt, ruleCount, sectionCount, breaks, subjectTable, subjectKind, subjects, brokenRecord, sectionBroken, brokenSection, ruleBroken, brokenRule, brokenAt, verdict}
 use Rattle.profile.specs.FirstBroken.{BrokenAt, Earlier, FirstBroken}
 use Rattle.profile.proofs.PlaceLaws.{place-back}

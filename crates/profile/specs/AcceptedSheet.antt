@@ -1,12 +1,12 @@
 -- What acceptance grants: the only thing of the checker that the listener's proofs use, beside the relations. Assumes nothing.
 use Prim.Native.Nat.{ℕ, _<_, _≤_}
 use mathlib.Core.Path.{_≡_}
-use mathlib.Core.Bool.{Bool, true, false, not, _||_}
+use mathlib.Core.Bool.{true, false, not, _||_}
 use mathlib.Core.Logic.{_⊎_}
 use lib.Dec.{eqb}
 use Rattle.sheet.specs.Words.{Sheet}
 use Rattle.sheet.specs.Layout.{level, count, field, number, entry}
-use Rattle.sheet.specs.Fields.{programmes, contents, objects, packs, tracks, valueSets, contentList, setList, contentObject, trackList, childList, complementList, trackPack, trackOrdinal}
+use Rattle.sheet.specs.Fields.{programmes, contents, objects, tracks, valueSets, contentList, setList, contentObject, trackList, childList, complementList, trackPack, trackOrdinal}
 use Rattle.values.specs.declared.Sort.{Sort}
 use Rattle.values.specs.Values.{isAbsent, isValue, isMinimum, isMaximum, inRange}
 use Rattle.profile.specs.Counting.{howMany, sum}

@@ -2,7 +2,6 @@
 use Prim.Native.Nat.{ℕ, zero, suc, _+_, _*_, _/_, _%_}
 use mathlib.Core.List.{List, [], _∷_, _++_, map}
 use lib.ListN.{length, set, replicate}
-use Rattle.sheet.specs.Words.{Sheet}
 use Rattle.sheet.specs.Layout.{start, size}
 
 -- a part of a record: a word, or a list, which is two words and entries in section 6

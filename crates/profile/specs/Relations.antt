@@ -1,6 +1,6 @@
 -- What the rules and the listener share. Document 01, "The sheet", last paragraph, and "Level limits", last paragraph. Assumes nothing.
 use Prim.Native.Nat.{ℕ, zero, suc, _+_}
-use mathlib.Core.Bool.{Bool, true, false, cond, not, _&&_, _||_}
+use mathlib.Core.Bool.{Bool, cond, not, _&&_}
 use lib.Dec.{eqb, leb, ltb}
 use Rattle.sheet.specs.Words.{Sheet}
 use Rattle.sheet.specs.Layout.{count, field, first, number, entry}

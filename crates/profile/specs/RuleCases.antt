@@ -5,13 +5,13 @@ use mathlib.Core.Path.{_≡_, refl}
 use mathlib.Core.List.{List, [], _∷_, _++_, map}
 use lib.ListN.{take, set, replicate}
 use Rattle.sheet.specs.Words.{sheetOf}
-use Rattle.sheet.specs.Fields.{programmes, contents, objects, packs, tracks, references, contentList, setList, programmeLabels, objectGainMinimum, objectGainMaximum, packChannels, packKind, trackPack}
+use Rattle.sheet.specs.Fields.{programmes, contents, objects, packs, tracks, references, contentList, setList, programmeLabels, objectGainMinimum, packChannels, packKind, trackPack}
 use Rattle.profile.specs.declared.Place.the-variants.{Header, Programme, Content, Object, Pack, Track, ValueSet}
 use Rattle.profile.specs.declared.Verdict.{Verdict}
 use Rattle.profile.specs.declared.Verdict.the-variants.{Accepted, Broken}
 use Rattle.profile.specs.Verdict.{verdict}
 use Rattle.profile.specs.Judged.{judged}
-use Rattle.profile.specs.Build.{Part, Row, Parts, build, put, bytesOf, absent, eng, programme, content, object, still, slider, leaf, parent, below, speakers, frontPack, sidePack, channelTracks, gainSet, plain, entries, rowWords, sectionWords, sectionEntries, pairs}
+use Rattle.profile.specs.Build.{Row, Parts, build, put, bytesOf, absent, eng, programme, content, object, still, slider, leaf, parent, below, speakers, frontPack, sidePack, channelTracks, gainSet, plain, entries, rowWords, sectionWords, sectionEntries, pairs}
 use Rattle.profile.specs.Build.Part.{word, list}
 use Rattle.profile.specs.Cases.{Case, sheetA}
 

@@ -1,8 +1,8 @@
 -- Document 01, "Broken rules, in checking order": rules 1 to 24, each under its sentence. `ruleN s section k` says that record k of
 -- the section breaks rule N; where the header or a section is the subject, k is 0 and is not read. What a rule says of a sheet that
 -- breaks an earlier one does not matter. Assumes nothing.
-use Prim.Native.Nat.{ℕ, zero, suc, _+_, _-_, _%_}
-use mathlib.Core.Bool.{Bool, true, false, cond, not, _&&_, _||_}
+use Prim.Native.Nat.{ℕ, _+_, _-_, _%_}
+use mathlib.Core.Bool.{Bool, not, _&&_, _||_}
 use lib.Dec.{eqb, leb, ltb}
 use Rattle.sheet.specs.Words.{Sheet, wordCount}
 use Rattle.sheet.specs.Layout.{edition, level, count, offset, end, field, first, number, entry}

@@ -6,7 +6,7 @@ use mathlib.Core.Bool.{Bool, false, cond}
 use mathlib.Core.List.{List, [], _∷_}
 use lib.Dec.{ltb}
 use lib.ListN.{getD}
-use Rattle.sheet.specs.Words.{Sheet, sheetOf}
+use Rattle.sheet.specs.Words.{Sheet}
 use Rattle.sheet.specs.Layout.{count}
 use Rattle.profile.specs.declared.Place.{Place}
 use Rattle.profile.specs.declared.Place.the-variants.{Header, Programme, Content, Object, Pack, Track, Reference, ValueSet}

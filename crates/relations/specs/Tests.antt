@@ -1,7 +1,7 @@
 -- The tests that one loop over a list's entries and one over a section's records make. Assumes nothing.
 use Prim.Native.Nat.{ℕ}
 use mathlib.Core.Bool.{Bool, not}
-use lib.Dec.{eqb, leb}
+use lib.Dec.{eqb}
 use Rattle.sheet.specs.Words.{Sheet}
 use Rattle.sheet.specs.Layout.{count, field, number, entry}
 use Rattle.sheet.specs.Fields.{programmes, contents, objects, packs, tracks, contentList, contentObject, complementList, packKind, trackPack, trackOrdinal}

@@ -1,10 +1,10 @@
 -- The words of a list of bytes: which bytes a word is made of, and how many words there are. Assumes nothing.
 use Prim.Native.Nat.{ℕ, zero, suc, _+_, _*_, _/_, _<_, _≤_}
-use mathlib.Core.Path.{_≡_, refl, ap, sym, _∙_}
+use mathlib.Core.Path.{_≡_, refl}
 use mathlib.Core.List.{List, [], _∷_}
 use native.Mathlib.Omega.{arith}
 use lib.ListN.{length, getD}
-use Rattle.sheet.specs.Words.{words, sheetOf, word, wordCount}
+use Rattle.sheet.specs.Words.{words}
 
 twice : (i : ℕ) → 2 * suc i ≡ suc (suc (2 * i))
 twice i = omega arith

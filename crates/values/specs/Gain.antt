@@ -4,7 +4,7 @@
 use Prim.Native.Nat.{ℕ}
 use mathlib.Core.Bool.{Bool, true, false, cond, _&&_}
 use lib.Dec.{eqb}
-use lib.IntN.{ℤ, pos, negsuc}
+use lib.IntN.{pos, negsuc}
 use lib.Signed.{leZ}
 use Rattle.values.specs.declared.Gain.{Gain}
 use Rattle.values.specs.declared.Gain.the-variants.{Silent, Tenths}

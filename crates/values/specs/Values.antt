@@ -1,7 +1,7 @@
 -- Value and range words of either sort. Document 01, "The sheet": "In gain, offset and range words 32767 means absent".
 -- A sort, gains or offsets, is a term of document 01 ("No effective range of that sort"). Assumes nothing.
 use Prim.Native.Nat.{ℕ}
-use mathlib.Core.Bool.{Bool, cond, _||_}
+use mathlib.Core.Bool.{Bool, cond}
 use lib.Dec.{eqb}
 use Rattle.values.specs.declared.Sort.{Sort}
 use Rattle.values.specs.declared.Sort.the-variants.{Gains, Offsets}

@@ -1,5 +1,4 @@
 -- The first broken rule with its place, or acceptance. Assumes nothing.
-use mathlib.Core.Path.{sym}
 use native.Mathlib.Numerals.{add-one}
 use borrow.Author.Tests.{lt-ltb, le-ltb}
 use Rattle.profile.specs.Verdict.{verdict}

@@ -1,5 +1,4 @@
 -- Each rule by its number. Assumes nothing.
-use native.Mathlib.Omega.{arith}
 use Rattle.profile.specs.Verdict.{breaks, rules}
 use Rattle.checker.proofs.SubjectLaws.{no-rule, above}
 use borrow.Author.Needs.{needs}

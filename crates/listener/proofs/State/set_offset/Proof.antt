@@ -1,6 +1,5 @@
 -- The machine's reply, with its refusals up to 31. Assumes nothing.
-use mathlib.Core.Path.{_≡_, sym, _∙_}
-use lib.IntN.{ℤ}
+use mathlib.Core.Path.{_≡_}
 use mir.Val.{toZ, ofZ}
 use mir.Syntax.{w16}
 use Rattle.listener.specs.Calls.{offsetSet, valueAnswer, noRange, outsideRange, rangeAnswer, answerBy, notOpen, notSound, notIncluded, behind}

@@ -13,15 +13,15 @@ sound-requires c κs = search needs
 
 returns : tie.Need-returns
 unfolding behind
-returns c = simp (sym (c .before .sound .ensures) ∙ c .if2 .taken, sym (c .before .before .before .opens .ensures) ∙ c .before .before .if1 .taken, c .before .sound .ensures, c .before .before .before .opens .ensures)
+returns c = simp (sym (c .before .sound .ensures) ∙ c .if2 .taken, sym (c .before .before .before .opens .ensures) ∙ c .before .before .if1 .taken)
 
 returns-2 : tie.Need-returns-2
 unfolding behind
-returns-2 c = simp (sym (c .before .sound .ensures) ∙ c .if2 .left, sym (c .before .before .before .opens .ensures) ∙ c .before .before .if1 .taken, c .before .sound .ensures, c .before .before .before .opens .ensures)
+returns-2 c = simp (sym (c .before .sound .ensures) ∙ c .if2 .left, sym (c .before .before .before .opens .ensures) ∙ c .before .before .if1 .taken)
 
 returns-3 : tie.Need-returns-3
 unfolding behind
-returns-3 c = simp (sym (c .before .opens .ensures) ∙ c .if1 .left, c .before .opens .ensures)
+returns-3 c = simp (sym (c .before .opens .ensures) ∙ c .if1 .left)
 
 pub behind-spec : {M : Type 1} → statement M
 behind-spec = tie.close (tie.spec opens-requires sound-requires returns returns-2 returns-3)

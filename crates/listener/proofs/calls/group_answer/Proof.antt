@@ -13,15 +13,15 @@ in-whole-group-requires c κs = search needs
 
 returns : tie.Need-returns
 unfolding groupAnswer
-returns c = simp (sym (c .before .in-whole-group .ensures) ∙ c .if2 .taken, sym (c .before .before .before .includes .ensures) ∙ c .before .before .if1 .taken, c .before .in-whole-group .ensures, c .before .before .before .includes .ensures)
+returns c = simp (sym (c .before .in-whole-group .ensures) ∙ c .if2 .taken, sym (c .before .before .before .includes .ensures) ∙ c .before .before .if1 .taken)
 
 returns-2 : tie.Need-returns-2
 unfolding groupAnswer
-returns-2 c = simp (sym (c .before .in-whole-group .ensures) ∙ c .if2 .left, sym (c .before .before .before .includes .ensures) ∙ c .before .before .if1 .taken, c .before .in-whole-group .ensures, c .before .before .before .includes .ensures)
+returns-2 c = simp (sym (c .before .in-whole-group .ensures) ∙ c .if2 .left, sym (c .before .before .before .includes .ensures) ∙ c .before .before .if1 .taken)
 
 returns-3 : tie.Need-returns-3
 unfolding groupAnswer
-returns-3 c = simp (sym (c .before .includes .ensures) ∙ c .if1 .left, c .before .includes .ensures)
+returns-3 c = simp (sym (c .before .includes .ensures) ∙ c .if1 .left)
 
 pub group-answer-spec : {M : Type 1} → statement M
 group-answer-spec =

@@ -1,9 +1,8 @@
 -- Moved in the group, kept elsewhere. Assumes nothing.
 use mathlib.Core.Path.{_≡_, sym, _∙_}
-use lib.IntN.{ℤ}
 use mir.Val.{toZ, ofZ}
 use mir.Syntax.{w16}
-use borrow.Author.Tests.{eq-eqb, ne-eqb, le-leb, lt-leb, lt-ltb, le-ltb}
+use borrow.Author.Tests.{eq-eqb, ne-eqb}
 use Rattle.listener.specs.Calls.{movedSetting}
 use borrow.Author.Needs.{needs}
 use Rattle.listener.proofs.calls.moved_setting.Statement.{statement}

@@ -1,5 +1,5 @@
 -- 27, or done. Assumes nothing.
-use borrow.Author.Tests.{eq-eqb, ne-eqb, le-leb, lt-leb, lt-ltb, le-ltb}
+use borrow.Author.Tests.{le-leb, lt-leb}
 use Rattle.listener.specs.Calls.{numberAnswer}
 use borrow.Author.Needs.{needs}
 use Rattle.listener.proofs.calls.number_answer.Statement.{statement}

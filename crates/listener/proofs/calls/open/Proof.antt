@@ -16,11 +16,11 @@ resting-state-requires c κs = search needs
 
 returns : tie.Need-returns
 unfolding opened answerBy notOpen replyBy
-returns c = simp (sym (c .before .before .opens .ensures) ∙ c .before .if1 .taken, c .started .ensures, c .before .before .opens .ensures)
+returns c = simp (sym (c .before .before .opens .ensures) ∙ c .before .if1 .taken, c .started .ensures)
 
 returns-2 : tie.Need-returns-2
 unfolding opened answerBy notOpen replyBy
-returns-2 c = simp (sym (c .before .before .opens .ensures) ∙ c .before .if1 .left, c .resting-state .ensures, c .before .before .opens .ensures)
+returns-2 c = simp (sym (c .before .before .opens .ensures) ∙ c .before .if1 .left, c .resting-state .ensures)
 
 pub open-spec : {M : Type 1} → statement M
 open-spec =

@@ -1,5 +1,5 @@
 -- Accepted, and not of level 0. Assumes nothing.
-use mathlib.Core.Path.{_≡_, refl, sym, ap, _∙_}
+use mathlib.Core.Path.{sym, _∙_}
 use Rattle.checker.specs.Checked.{checked}
 use Rattle.listener.specs.Calls.{opens}
 use borrow.Author.Needs.{needs}

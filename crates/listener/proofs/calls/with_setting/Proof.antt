@@ -1,5 +1,5 @@
 -- The element replaced, nothing past the end. Assumes nothing.
-use borrow.Author.Tests.{eq-eqb, ne-eqb, le-leb, lt-leb, lt-ltb, le-ltb}
+use borrow.Author.Tests.{lt-ltb, le-ltb}
 use Rattle.listener.specs.Calls.{withSetting}
 use borrow.Author.Needs.{needs}
 use Rattle.listener.proofs.calls.with_setting.Statement.{statement}

@@ -22,11 +22,11 @@ field-requires c κs = search needs
 
 returns : tie.Need-returns
 unfolding grantedMaximum
-returns c = simp (sym (c .before .before .before .names-set .ensures) ∙ c .before .before .if1 .taken, c .effective-maximum .ensures, c .before .set-for .ensures, c .before .before .before .names-set .ensures)
+returns c = simp (sym (c .before .before .before .names-set .ensures) ∙ c .before .before .if1 .taken, c .effective-maximum .ensures, c .before .set-for .ensures)
 
 returns-2 : tie.Need-returns-2
 unfolding grantedMaximum
-returns-2 c = simp (sym (c .before .before .before .names-set .ensures) ∙ c .before .before .if1 .left, c .field .ensures, c .before .object-maximum .ensures, c .before .before .before .names-set .ensures)
+returns-2 c = simp (sym (c .before .before .before .names-set .ensures) ∙ c .before .before .if1 .left, c .field .ensures, c .before .object-maximum .ensures)
 
 pub granted-maximum-spec : {M : Type 1} → statement M
 granted-maximum-spec =

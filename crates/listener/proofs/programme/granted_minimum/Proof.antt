@@ -22,11 +22,11 @@ field-requires c κs = search needs
 
 returns : tie.Need-returns
 unfolding grantedMinimum
-returns c = simp (sym (c .before .before .before .names-set .ensures) ∙ c .before .before .if1 .taken, c .effective-minimum .ensures, c .before .set-for .ensures, c .before .before .before .names-set .ensures)
+returns c = simp (sym (c .before .before .before .names-set .ensures) ∙ c .before .before .if1 .taken, c .effective-minimum .ensures, c .before .set-for .ensures)
 
 returns-2 : tie.Need-returns-2
 unfolding grantedMinimum
-returns-2 c = simp (sym (c .before .before .before .names-set .ensures) ∙ c .before .before .if1 .left, c .field .ensures, c .before .object-minimum .ensures, c .before .before .before .names-set .ensures)
+returns-2 c = simp (sym (c .before .before .before .names-set .ensures) ∙ c .before .before .if1 .left, c .field .ensures, c .before .object-minimum .ensures)
 
 pub granted-minimum-spec : {M : Type 1} → statement M
 granted-minimum-spec =

@@ -35,7 +35,7 @@ returns c =
 
 returns-2 : tie.Need-returns-2
 unfolding startSetting
-returns-2 c = simp (sym (c .before .before .includes .ensures) ∙ c .before .if1 .left, c .resting .ensures, c .before .before .includes .ensures)
+returns-2 c = simp (sym (c .before .before .includes .ensures) ∙ c .before .if1 .left, c .resting .ensures)
 
 pub start-setting-spec : {M : Type 1} → statement M
 start-setting-spec =

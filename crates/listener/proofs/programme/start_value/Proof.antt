@@ -19,11 +19,11 @@ own-value-requires c κs = search needs
 
 returns : tie.Need-returns
 unfolding startValue
-returns c = simp (sym (c .before .before .before .names-set .ensures) ∙ c .before .before .if1 .taken, c .effective-value .ensures, c .before .set-for .ensures, c .before .before .before .names-set .ensures)
+returns c = simp (sym (c .before .before .before .names-set .ensures) ∙ c .before .before .if1 .taken, c .effective-value .ensures, c .before .set-for .ensures)
 
 returns-2 : tie.Need-returns-2
 unfolding startValue
-returns-2 c = simp (sym (c .before .before .names-set .ensures) ∙ c .before .if1 .left, c .own-value .ensures, c .before .before .names-set .ensures)
+returns-2 c = simp (sym (c .before .before .names-set .ensures) ∙ c .before .if1 .left, c .own-value .ensures)
 
 pub start-value-spec : {M : Type 1} → statement M
 start-value-spec =

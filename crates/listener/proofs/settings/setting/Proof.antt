@@ -1,10 +1,7 @@
 -- The state's element, blank past its end. Assumes nothing.
 use borrow.Author.Tests.{lt-ltb, le-ltb}
 use Rattle.listener.specs.State.{setting}
-use mathlib.Core.Path.{refl, sym}
-use lib.ListN.{List·getD-eq-default}
-use Rattle.listener.specs.State.{blank, setting}
-use mathlib.Core.Path.{sym}
+use Rattle.listener.specs.State.{setting}
 use borrow.Author.Needs.{needs}
 use Rattle.listener.proofs.settings.setting.Statement.{statement}
 use Rattle.listener.proofs.settings.setting.Tie as tie

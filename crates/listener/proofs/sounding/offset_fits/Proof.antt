@@ -1,6 +1,5 @@
 -- Legal, and in the granted range. Assumes nothing.
-use mathlib.Core.Path.{_≡_, sym, _∙_}
-use lib.IntN.{ℤ}
+use mathlib.Core.Path.{_≡_}
 use mir.Val.{toZ, ofZ}
 use mir.Syntax.{w16}
 use Rattle.listener.specs.Sound.{offsetFits}

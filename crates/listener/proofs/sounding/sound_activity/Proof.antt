@@ -19,11 +19,11 @@ active-requires c κs = search needs
 
 returns : tie.Need-returns
 unfolding soundActivity
-returns c = simp (sym (c .before .before .before .in-whole-group .ensures) ∙ c .before .before .if1 .taken, c .active-members .ensures, c .before .leader-of .ensures, c .before .before .before .in-whole-group .ensures)
+returns c = simp (sym (c .before .before .before .in-whole-group .ensures) ∙ c .before .before .if1 .taken, c .active-members .ensures, c .before .leader-of .ensures)
 
 returns-2 : tie.Need-returns-2
 unfolding soundActivity
-returns-2 c = simp (sym (c .before .before .in-whole-group .ensures) ∙ c .before .if1 .left, c .active .ensures, c .before .before .in-whole-group .ensures)
+returns-2 c = simp (sym (c .before .before .in-whole-group .ensures) ∙ c .before .if1 .left, c .active .ensures)
 
 pub sound-activity-spec : {M : Type 1} → statement M
 sound-activity-spec =

@@ -1,6 +1,5 @@
 -- An included object, or rest. Assumes nothing.
 use mathlib.Core.Path.{_≡_, sym, _∙_}
-use lib.IntN.{ℤ}
 use mir.Val.{toZ, ofZ}
 use mir.Syntax.{w16}
 use Rattle.listener.specs.Sound.{soundAt}
@@ -36,7 +35,7 @@ returns c =
 
 returns-2 : tie.Need-returns-2
 unfolding soundAt
-returns-2 c = simp (sym (c .before .before .includes .ensures) ∙ c .before .if1 .left, c .is-resting .ensures, c .before .before .includes .ensures, c .before .before .before .setting .ensures)
+returns-2 c = simp (sym (c .before .before .includes .ensures) ∙ c .before .if1 .left, c .is-resting .ensures, c .before .before .before .setting .ensures)
 
 pub sound-at-spec : {M : Type 1} → statement M
 sound-at-spec =

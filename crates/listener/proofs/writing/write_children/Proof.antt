@@ -1,7 +1,6 @@
 -- The children passed are written, one behind the other. Assumes nothing.
 use Prim.Native.Nat.{ℕ, _+_, _-_}
-use mathlib.Core.Path.{_≡_, refl, sym, ap, _∙_}
-use native.Mathlib.Omega.{arith}
+use mathlib.Core.Path.{ap, _∙_}
 use lib.ListN.{length}
 use lib.Seq.{sets}
 use Rattle.sheet.specs.Words.{sheetOf}

@@ -1,10 +1,10 @@
 -- The tracks passed are written, one behind the other. Assumes nothing.
 use Prim.Native.Nat.{ℕ, _-_}
-use mathlib.Core.Path.{_≡_, refl, sym, ap, _∙_}
+use mathlib.Core.Path.{refl, ap}
 use mathlib.Core.List.{[], _∷_}
 use native.Mathlib.Omega.{arith}
 use lib.ListN.{set}
-use Rattle.profile.specs.Counting.{concatBelow, tabulate}
+use Rattle.profile.specs.Counting.{tabulate}
 use Rattle.sheet.specs.Words.{sheetOf}
 use Rattle.profile.specs.Relations.{trackAt}
 use Rattle.listener.specs.Written.{ownTracks}

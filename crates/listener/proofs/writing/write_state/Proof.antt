@@ -1,10 +1,8 @@
 -- The objects passed are written, one behind the other. Assumes nothing.
-use Prim.Native.Nat.{ℕ, _+_, _-_}
-use mathlib.Core.Path.{_≡_, refl, sym, ap, _∙_}
+use Prim.Native.Nat.{_-_}
+use mathlib.Core.Path.{_∙_}
 use native.Mathlib.Nat.{zero-add}
 use native.Mathlib.Omega.{arith}
-use lib.ListN.{length}
-use lib.Seq.{sets}
 use Rattle.sheet.specs.Words.{sheetOf}
 use Rattle.listener.specs.Written.{tracksWhen, stateTracks}
 use Rattle.listener.proofs.WrittenLaws.{Written, written-none, written-more, room, same-long, written-all}

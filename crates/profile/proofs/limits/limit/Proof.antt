@@ -3,9 +3,7 @@ use mathlib.Core.Path.{sym}
 use borrow.Author.Needs.{needs}
 use Rattle.profile.specs.Limits.{limit, limits}
 use Rattle.profile.proofs.LimitLaws.{past-columns, past-rows}
-use mathlib.Core.Path.{_≡_, sym, ap, _∙_}
-use mathlib.Core.List.{List, []}
-use lib.ListN.{getD, List·getD-eq-default}
+use mathlib.Core.Path.{sym}
 use Rattle.profile.proofs.limits.limit.Statement.{statement}
 use Rattle.profile.proofs.limits.limit.Tie as tie
 

@@ -14,11 +14,11 @@ lowest-record-requires c κs = search needs
 
 returns : tie.Need-returns
 unfolding leaderOf lowestRecord
-returns c = simp (sym (c .before .before .complement .ensures) ∙ c .before .if1 .taken, c .lowest-record .ensures, c .before .before .complement .ensures)
+returns c = simp (sym (c .before .before .complement .ensures) ∙ c .before .if1 .taken, c .lowest-record .ensures)
 
 returns-2 : tie.Need-returns-2
 unfolding leaderOf lowestRecord
-returns-2 c = simp (sym (c .before .complement .ensures) ∙ c .if1 .left, c .before .complement .ensures)
+returns-2 c = simp (sym (c .before .complement .ensures) ∙ c .if1 .left)
 
 pub leader-of-spec : {M : Type 1} → statement M
 leader-of-spec = tie.close (tie.spec complement-requires lowest-record-requires returns returns-2)

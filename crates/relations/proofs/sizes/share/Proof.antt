@@ -20,15 +20,15 @@ size-requires c κs = search needs
 
 returns : tie.Need-returns
 unfolding share largestMember
-returns c = simp (sym (c .before .before .leader .ensures) ∙ c .before .if1 .taken, c .largest-member .ensures, c .before .before .leader .ensures)
+returns c = simp (sym (c .before .before .leader .ensures) ∙ c .before .if1 .taken, c .largest-member .ensures)
 
 returns-2 : tie.Need-returns-2
 unfolding share largestMember
-returns-2 c = simp (sym (c .before .before .lone .ensures) ∙ c .before .if2 .taken, sym (c .before .before .before .before .leader .ensures) ∙ c .before .before .before .if1 .left, c .size .ensures, c .before .before .lone .ensures, c .before .before .before .before .leader .ensures)
+returns-2 c = simp (sym (c .before .before .lone .ensures) ∙ c .before .if2 .taken, sym (c .before .before .before .before .leader .ensures) ∙ c .before .before .before .if1 .left, c .size .ensures)
 
 returns-3 : tie.Need-returns-3
 unfolding share largestMember
-returns-3 c = simp (sym (c .before .lone .ensures) ∙ c .if2 .left, sym (c .before .before .before .leader .ensures) ∙ c .before .before .if1 .left, c .before .lone .ensures, c .before .before .before .leader .ensures)
+returns-3 c = simp (sym (c .before .lone .ensures) ∙ c .if2 .left, sym (c .before .before .before .leader .ensures) ∙ c .before .before .if1 .left)
 
 pub share-spec : {M : Type 1} → statement M
 share-spec =

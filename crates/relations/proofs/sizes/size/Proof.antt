@@ -20,11 +20,11 @@ cast-result c = search needs
 
 returns : tie.Need-returns
 unfolding size childrenTracks
-returns c = simp (sym (c .before .before .has-children .ensures) ∙ c .before .if1 .taken, c .children-tracks .ensures, c .before .before .has-children .ensures)
+returns c = simp (sym (c .before .before .has-children .ensures) ∙ c .before .if1 .taken, c .children-tracks .ensures)
 
 returns-2 : tie.Need-returns-2
 unfolding size childrenTracks
-returns-2 c = simp (sym (c .before .before .has-children .ensures) ∙ c .before .if1 .left, c .number .ensures, c .before .before .has-children .ensures)
+returns-2 c = simp (sym (c .before .before .has-children .ensures) ∙ c .before .if1 .left, c .number .ensures)
 
 pub size-spec : {M : Type 1} → statement M
 size-spec =

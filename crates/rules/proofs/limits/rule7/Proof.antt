@@ -58,7 +58,7 @@ returns-4 c = simp (c .exceeds .ensures, c .before .how-many-records .ensures .0
 
 returns-5 : tie.Need-returns-5
 unfolding rule7 howManyRecords
-returns-5 c = simp (c .outside4 .ensures, c .before .count4 .ensures, c .before .before .match .keys5, or-false)
+returns-5 c = simp (c .outside4 .ensures, c .before .count4 .ensures, c .before .before .match .keys5)
 
 returns-6 : tie.Need-returns-6
 unfolding rule7 howManyRecords

@@ -76,7 +76,7 @@ returns-2 c = simp (c .exceeds3 .ensures, c .before .number4 .ensures, c .before
 
 returns-3 : tie.Need-returns-3
 unfolding rule8
-returns-3 c = simp (c .exceeds6 .ensures, c .before .number7 .ensures, c .before .before .exceeds5 .ensures, c .before .before .before .number6 .ensures, c .before .before .before .before .exceeds4 .ensures, c .before .before .before .before .before .number5 .ensures, c .before .before .before .before .before .before .match .keys3, or-false)
+returns-3 c = simp (c .exceeds6 .ensures, c .before .number7 .ensures, c .before .before .exceeds5 .ensures, c .before .before .before .number6 .ensures, c .before .before .before .before .exceeds4 .ensures, c .before .before .before .before .before .number5 .ensures, c .before .before .before .before .before .before .match .keys3)
 
 returns-4 : tie.Need-returns-4
 unfolding rule8

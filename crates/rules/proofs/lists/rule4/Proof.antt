@@ -40,7 +40,7 @@ returns-2 c = simp (c .beyond4 .ensures, c .before .match .keys2, or-false)
 
 returns-3 : tie.Need-returns-3
 unfolding rule4
-returns-3 c = simp (c .beyond8 .ensures, c .before .beyond7 .ensures, c .before .before .beyond6 .ensures, c .before .before .before .beyond5 .ensures, c .before .before .before .before .match .keys3, or-false)
+returns-3 c = simp (c .beyond8 .ensures, c .before .beyond7 .ensures, c .before .before .beyond6 .ensures, c .before .before .before .beyond5 .ensures, c .before .before .before .before .match .keys3)
 
 returns-4 : tie.Need-returns-4
 unfolding rule4

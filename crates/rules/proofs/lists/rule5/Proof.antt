@@ -56,7 +56,7 @@ returns-3 c = simp (c .list-lacks5 .ensures, c .before .list-lacks4 .ensures, c 
 
 returns-4 : tie.Need-returns-4
 unfolding rule5
-returns-4 c = simp (c .lacks3 .ensures, c .before .field2 .ensures, c .before .before .match .keys4, or-false)
+returns-4 c = simp (c .lacks3 .ensures, c .before .field2 .ensures, c .before .before .match .keys4)
 
 returns-5 : tie.Need-returns-5
 unfolding rule5

@@ -18,7 +18,7 @@ returns c = simp (c .repeats .ensures, c .before .match .keys1, or-false)
 
 returns-2 : tie.Need-returns-2
 unfolding rule9
-returns-2 c = simp (c .repeats2 .ensures, c .before .match .keys2, or-false)
+returns-2 c = simp (c .repeats2 .ensures, c .before .match .keys2)
 
 returns-3 : tie.Need-returns-3
 unfolding rule9

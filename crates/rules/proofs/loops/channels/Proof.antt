@@ -16,11 +16,11 @@ field-requires c κs = search needs
 
 returns : tie.Need-returns
 unfolding channels
-returns c = simp (sym (c .before .has-children .ensures) ∙ c .if1 .taken, c .before .has-children .ensures)
+returns c = simp (sym (c .before .has-children .ensures) ∙ c .if1 .taken)
 
 returns-2 : tie.Need-returns-2
 unfolding channels
-returns-2 c = simp (sym (c .before .before .before .has-children .ensures) ∙ c .before .before .if1 .left, c .field .ensures, c .before .pack-of .ensures, c .before .before .before .has-children .ensures)
+returns-2 c = simp (sym (c .before .before .before .has-children .ensures) ∙ c .before .before .if1 .left, c .field .ensures, c .before .pack-of .ensures)
 
 pub channels-spec : {M : Type 1} → statement M
 channels-spec =

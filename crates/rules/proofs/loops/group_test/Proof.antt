@@ -31,7 +31,7 @@ members-requires : tie.Need-members-requires
 members-requires c κs = search needs
 
 returns : tie.Need-returns
-returns c = simp (c .wholly-included .ensures, c .before .leader .ensures, c .before .before .included .ensures, c .before .before .before .before .test .given .1, c .before .before .before .before .before .match .keys1)
+returns c = simp (c .wholly-included .ensures, c .before .leader .ensures, c .before .before .included .ensures, c .before .before .before .before .test .given .1)
 
 returns-2 : tie.Need-returns-2
 returns-2 c = simp (c .members .ensures .0, c .before .wholly-included2 .ensures, c .before .before .leader2 .ensures, c .before .before .before .sets-named .ensures, c .before .before .before .before .before .test2 .given .1, c .before .before .before .before .before .before .match .keys2)

@@ -25,13 +25,13 @@ includes-requires : tie.Need-includes-requires
 includes-requires c κs = search needs
 
 returns : tie.Need-returns
-returns c = simp (c .bad-complement .ensures, c .before .enum-told .given .1, c .before .before .match .keys1)
+returns c = simp (c .bad-complement .ensures, c .before .enum-told .given .1)
 
 returns-2 : tie.Need-returns-2
-returns-2 c = simp (c .differs .ensures, c .before .before .test .given .1, c .before .before .before .match .keys2)
+returns-2 c = simp (c .differs .ensures, c .before .before .test .given .1)
 
 returns-3 : tie.Need-returns-3
-returns-3 c = simp (c .includes .ensures, c .before .owner .ensures, c .before .before .before .test2 .given .1, c .before .before .before .before .match .keys3)
+returns-3 c = simp (c .includes .ensures, c .before .owner .ensures, c .before .before .before .test2 .given .1)
 
 pub listed-test-spec : {M : Type 1} → statement M
 listed-test-spec =

@@ -34,10 +34,10 @@ sets-differ-requires : tie.Need-sets-differ-requires
 sets-differ-requires c κs = search needs
 
 returns : tie.Need-returns
-returns c = simp (c .enum-told .given .1, c .before .match .keys1)
+returns c = simp (c .enum-told .given .1)
 
 returns-2 : tie.Need-returns-2
-returns-2 c = simp (c .owner2 .ensures, c .before .owner .ensures, c .before .before .enum-told2 .given .1, c .before .before .before .match .keys2)
+returns-2 c = simp (c .owner2 .ensures, c .before .owner .ensures, c .before .before .enum-told2 .given .1)
 
 returns-3 : tie.Need-returns-3
 returns-3 c = simp (c .sets-differ .ensures, c .before .leader-of2 .ensures, c .before .before .owner4 .ensures, c .before .before .before .leader-of .ensures, c .before .before .before .before .owner3 .ensures, c .before .before .before .before .before .enum-told3 .given .1, c .before .before .before .before .before .before .match .keys3)

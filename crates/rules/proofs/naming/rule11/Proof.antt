@@ -19,7 +19,7 @@ returns c = simp (c .namings .ensures, c .before .match .keys1, or-false)
 
 returns-2 : tie.Need-returns-2
 unfolding rule11 howManyRecords
-returns-2 c = simp (c .how-many-records .ensures .0, c .before .match .keys2, or-false)
+returns-2 c = simp (c .how-many-records .ensures .0, c .before .match .keys2)
 
 returns-3 : tie.Need-returns-3
 unfolding rule11 howManyRecords

@@ -19,7 +19,7 @@ returns c = simp (c .repeats .ensures, c .before .match .keys1, or-false)
 
 returns-2 : tie.Need-returns-2
 unfolding rule12 anyRecord
-returns-2 c = simp (c .any-record .ensures, c .before .match .keys2, or-false)
+returns-2 c = simp (c .any-record .ensures, c .before .match .keys2)
 
 returns-3 : tie.Need-returns-3
 unfolding rule12 anyRecord

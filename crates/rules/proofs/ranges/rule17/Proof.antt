@@ -39,7 +39,7 @@ returns c = simp (c .has-front-pack .ensures, c .before .object-range .ensures, 
 
 returns-2 : tie.Need-returns-2
 unfolding rule17
-returns-2 c = simp (c .has-front-pack2 .ensures, c .before .owner .ensures, c .before .before .set-range .ensures, c .before .before .before .is-absent2 .ensures, c .before .before .before .before .field2 .ensures, c .before .before .before .before .before .match .keys2, or-false)
+returns-2 c = simp (c .has-front-pack2 .ensures, c .before .owner .ensures, c .before .before .set-range .ensures, c .before .before .before .is-absent2 .ensures, c .before .before .before .before .field2 .ensures, c .before .before .before .before .before .match .keys2)
 
 returns-3 : tie.Need-returns-3
 unfolding rule17

@@ -27,7 +27,7 @@ returns c = simp (c .object-leaves2 .ensures, c .before .object-leaves .ensures,
 
 returns-2 : tie.Need-returns-2
 unfolding rule18
-returns-2 c = simp (c .set-leaves2 .ensures, c .before .set-leaves .ensures, c .before .before .owner .ensures, c .before .before .before .match .keys2, or-false)
+returns-2 c = simp (c .set-leaves2 .ensures, c .before .set-leaves .ensures, c .before .before .owner .ensures, c .before .before .before .match .keys2)
 
 returns-3 : tie.Need-returns-3
 unfolding rule18

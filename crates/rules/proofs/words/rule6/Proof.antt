@@ -39,7 +39,7 @@ returns-4 c = simp (c .bad-pack .ensures, c .before .match .keys4, or-false)
 
 returns-5 : tie.Need-returns-5
 unfolding rule6
-returns-5 c = simp (c .bad-set .ensures, c .before .match .keys5, or-false)
+returns-5 c = simp (c .bad-set .ensures, c .before .match .keys5)
 
 returns-6 : tie.Need-returns-6
 unfolding rule6
