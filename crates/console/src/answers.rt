@@ -45,6 +45,11 @@ pub fn say_signed(z: i16) {
     }
 }
 
+// The answer to a line that is no command.
+pub fn say_unknown() {
+    say(b"?\n");
+}
+
 // `refused 28`, and no end of line.
 pub fn say_refusal(refusal: Refusal) {
     say(b"refused ");

@@ -3,6 +3,7 @@ use crate::answers::say;
 use crate::answers::say_answer;
 use crate::answers::say_refusal;
 use crate::answers::say_state;
+use crate::answers::say_unknown;
 use crate::answers::say_words;
 use crate::commands::Command;
 use listener::Answer;
@@ -56,7 +57,7 @@ pub fn obey(sheet: &[u8], state: State, command: Command) -> State {
             state
         }
         Command::Unknown => {
-            say(b"?\n");
+            say_unknown();
             state
         }
     }

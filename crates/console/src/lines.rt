@@ -69,3 +69,18 @@ pub fn field_count(line: &[u8]) -> u8 {
     }
     n
 }
+
+// Writes more bytes behind the first `count` of a line, as many as it has room for, and gives the new count.
+pub fn extend(line: &mut [u8; 257], count: usize, more: &[u8]) -> usize {
+    let mut n = count;
+    let mut i = 0;
+    while i < more.len() {
+        if n >= 257 {
+            return n;
+        }
+        line[n] = more[i];
+        n += 1;
+        i += 1;
+    }
+    n
+}
