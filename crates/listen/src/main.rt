@@ -1,4 +1,4 @@
-// The listening bench: `listen FILE` opens a sheet, then answers each line of standard input with a line. See console for the commands.
+// The listening bench: `listen FILE` opens a sheet, then answers each line of standard input. console::commands has the commands.
 use bytes::scan::find;
 use console::bench::obey;
 use console::bench::opened;
