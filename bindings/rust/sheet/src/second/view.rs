@@ -108,7 +108,7 @@ impl Place {
 }
 
 /// The words "first and count" of a list or a set span.
-#[derive(Clone, Copy)]
+#[derive(Clone, Copy, PartialEq, Eq)]
 pub struct List {
     /// The first index.
     pub first: usize,
