@@ -14,7 +14,6 @@ pub fn rule_22(sheet: &Sections, totals: &Totals, tables: &mut Tables) -> Result
         return Ok(());
     }
     enter_owners(sheet, tables.spans);
-    tables.tallies.clear();
     let mut judged = None;
     let bad = |(stamp, programme): (u32, &Programme)| {
         let sets = list(programme, programme::SETS);

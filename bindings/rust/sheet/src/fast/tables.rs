@@ -23,7 +23,9 @@ pub struct Tables<'a> {
     pub included: &'a mut [u32],
     /// For each object the stamp of the last programme that names a set of it.
     pub named: &'a mut [u32],
-    /// For each leader, how many of its group are included or have a set.
+    /// For each leader how many of its group are included.
+    pub members: &'a mut [u32],
+    /// For each leader how many of its group have a set.
     pub tallies: Tallies<'a>,
     /// For each leader the first set that a programme names in its group.
     pub first_sets: &'a mut [u32],
@@ -34,7 +36,7 @@ impl<'a> Tables<'a> {
     pub fn over(stack: &'a mut [u32], heap: &'a mut Vec<u32>, sheet: &Sections) -> Tables<'a> {
         let [contents, objects] = [sheet.contents.len(), sheet.objects.len()];
         let spans = sheet.value_sets.len() + 1;
-        let size = contents + 6 * objects + spans;
+        let size = contents + 7 * objects + spans;
         let mut rest = stack;
         if size > rest.len() {
             *heap = vec![0; size];
@@ -47,6 +49,7 @@ impl<'a> Tables<'a> {
             spans: take(&mut rest, spans),
             included: take(&mut rest, objects),
             named: take(&mut rest, objects),
+            members: take(&mut rest, objects),
             tallies: Tallies(take(&mut rest, objects)),
             first_sets: take(&mut rest, objects),
         }
@@ -79,10 +82,5 @@ impl Tallies<'_> {
         } else {
             0
         }
-    }
-
-    /// Forgets all counts.
-    pub fn clear(&mut self) {
-        self.0.fill(0);
     }
 }

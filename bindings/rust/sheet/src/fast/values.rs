@@ -12,29 +12,13 @@ use crate::second::Verdict;
 /// The gain, offset and range words of an object.
 #[inline(always)]
 pub fn values_of_object(object: &Object) -> Values {
-    let fields = [
-        object::GAIN,
-        object::GAIN_MINIMUM,
-        object::GAIN_MAXIMUM,
-        object::OFFSET,
-        object::OFFSET_MINIMUM,
-        object::OFFSET_MAXIMUM,
-    ];
-    Values::from_words(fields.map(|field| word(object, field)))
+    Values::from_words(object::VALUES.map(|field| word(object, field)))
 }
 
 /// The gain, offset and range words of a value set.
 #[inline(always)]
 pub fn values_of_set(set: &ValueSet) -> Values {
-    let fields = [
-        value_set::GAIN,
-        value_set::GAIN_MINIMUM,
-        value_set::GAIN_MAXIMUM,
-        value_set::OFFSET,
-        value_set::OFFSET_MINIMUM,
-        value_set::OFFSET_MAXIMUM,
-    ];
-    Values::from_words(fields.map(|field| word(set, field)))
+    Values::from_words(value_set::VALUES.map(|field| word(set, field)))
 }
 
 pub fn rule_16(sheet: &Sections) -> Result<(), Verdict> {
@@ -81,7 +65,7 @@ fn first_set<'a, Bad: Fn(&ValueSet) -> bool>(
 
 pub fn rule_18(sheet: &Sections) -> Result<(), Verdict> {
     at(18, OBJECT, sheet.objects.iter().position(object_leaves))?;
-    at(18, VALUE_SET, first_set(sheet, sheet.objects.iter(), |object| set_leaves(object)))
+    at(18, VALUE_SET, first_set(sheet, sheet.objects.iter(), set_leaves))
 }
 
 fn object_leaves(object: &Object) -> bool {
