@@ -3,10 +3,10 @@
 use super::at;
 use super::lists::Totals;
 use super::runs::{each_covered, first_with};
-use super::sections::{has_children, index, is_leader, list, word, Object, Sections};
+use super::sections::{has_children, index, is_leader, list, word, Object, Programme, Sections};
 use super::tables::{Tables, TOP};
 use crate::second::terms::KIND_OBJECTS;
-use crate::second::view::{content, object, pack, programme, List, OBJECT, PROGRAMME};
+use crate::second::view::{content, object, pack, programme, OBJECT, PROGRAMME};
 use crate::second::Verdict;
 
 /// Lists with more entries than there are objects name one twice.
@@ -66,23 +66,17 @@ fn kind(sheet: &Sections, object: &Object) -> Option<u16> {
     }
 }
 
-/// A group of two can't be included in part, so only larger ones are counted.
 pub fn rule_21(sheet: &Sections, tables: &mut Tables) -> Result<(), Verdict> {
-    if !sheet.objects.iter().any(|object| group_size(object) > 2) {
+    if !has_large_group(sheet) {
         return Ok(());
     }
-    let mut window = Window {
-        sheet,
-        leaders: tables.leaders,
-        included: tables.members,
-        list: List { first: 0, count: 0 },
-        in_part: 0,
-    };
-    let bad = |programme| {
-        window.slide(list(programme, programme::CONTENTS));
-        window.in_part > 0
-    };
-    at(21, PROGRAMME, sheet.programmes.iter().position(bad))
+    let bad = |(stamp, programme)| includes_part_of_group(sheet, tables, programme, stamp);
+    at(21, PROGRAMME, (1..).zip(sheet.programmes).position(bad))
+}
+
+/// Whether a group has more than two members: others can't be included in part.
+pub fn has_large_group(sheet: &Sections) -> bool {
+    sheet.objects.iter().any(|object| group_size(object) > 2)
 }
 
 /// The number of objects in the group of a leader.
@@ -90,42 +84,23 @@ pub fn group_size(leader: &Object) -> usize {
     1 + list(leader, object::COMPLEMENTS).count
 }
 
-/// The contents of one programme, a window over section 6. It moves from list to list, so
-/// that lists which differ little are not counted anew.
-struct Window<'a> {
-    sheet: &'a Sections<'a>,
-    /// For each object of a group its leader, counted from 1.
-    leaders: &'a [u32],
-    /// For each leader how many of its group are included.
-    included: &'a mut [u32],
-    list: List,
-    /// The number of groups of which some, but neither one nor all, are included.
-    in_part: usize,
-}
-
-impl Window<'_> {
-    fn slide(&mut self, to: List) {
-        outside(self.list, to).for_each(|entry| self.count(entry, -1));
-        outside(to, self.list).for_each(|entry| self.count(entry, 1));
-        self.list = to;
+fn includes_part_of_group(
+    sheet: &Sections,
+    tables: &mut Tables,
+    programme: &Programme,
+    stamp: u32,
+) -> bool {
+    let leaders = &*tables.leaders;
+    let leader = |content: usize| {
+        let leader = leaders[index(&sheet.contents[content], content::OBJECT)];
+        (leader as usize).checked_sub(1)
+    };
+    let mut leaders = sheet.entries(list(programme, programme::CONTENTS)).filter_map(leader);
+    for leader in leaders.clone() {
+        tables.members.add(leader, stamp);
     }
-
-    /// Counts an entry that comes in (1) or goes out (-1).
-    fn count(&mut self, entry: usize, change: i32) {
-        let content = &self.sheet.contents[index(&self.sheet.references[entry], 0)];
-        let leader = self.leaders[index(content, content::OBJECT)] as usize;
-        let Some(leader) = leader.checked_sub(1) else { return };
-        let size = group_size(&self.sheet.objects[leader]) as u32;
-        let is_part = |included| usize::from(1 < included && included < size);
-        let included = &mut self.included[leader];
-        self.in_part -= is_part(*included);
-        *included = included.wrapping_add_signed(change);
-        self.in_part += is_part(*included);
-    }
-}
-
-/// The indices in a list that are not in another.
-fn outside(list: List, other: List) -> impl Iterator<Item = usize> {
-    let [end, other_end] = [list, other].map(|list| list.first + list.count);
-    (list.first..end.min(other.first)).chain(other_end.max(list.first)..end)
+    leaders.any(|leader| {
+        let included = tables.members.count(leader, stamp);
+        included > 1 && included < group_size(&sheet.objects[leader])
+    })
 }

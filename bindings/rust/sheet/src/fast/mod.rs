@@ -14,6 +14,7 @@ mod objects;
 mod runs;
 mod sections;
 mod sets;
+mod sweep;
 mod tables;
 mod tracks;
 mod values;
@@ -53,8 +54,13 @@ fn first_broken(bytes: &[u8]) -> Result<(), Verdict> {
     values::rule_18(&sheet)?;
     groups::rule_19(&sheet, &totals, &mut tables)?;
     groups::rule_20(&sheet, &totals)?;
-    groups::rule_21(&sheet, &mut tables)?;
-    sets::rule_22(&sheet, &totals, &mut tables)?;
+    match totals.contents + totals.sets <= sheet.references.len() {
+        true => {
+            groups::rule_21(&sheet, &mut tables)?;
+            sets::rule_22(&sheet, &totals, &mut tables)?;
+        }
+        false => sweep::rules_21_and_22(&sheet, &totals, &mut tables)?,
+    }
     limits::rule_23(&sheet, &totals)?;
     limits::rule_24(&sheet, &tables)
 }

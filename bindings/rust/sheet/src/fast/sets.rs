@@ -8,24 +8,19 @@ use super::tables::Tables;
 use crate::second::view::{content, object, programme, PROGRAMME};
 use crate::second::Verdict;
 
-/// A programme with the contents and sets of the one before breaks nothing new.
 pub fn rule_22(sheet: &Sections, totals: &Totals, tables: &mut Tables) -> Result<(), Verdict> {
     if totals.sets == 0 {
         return Ok(());
     }
     enter_owners(sheet, tables.spans);
-    let mut judged = None;
-    let bad = |(stamp, programme): (u32, &Programme)| {
-        let sets = list(programme, programme::SETS);
-        let lists = Some((list(programme, programme::CONTENTS), sets));
-        let again = lists == std::mem::replace(&mut judged, lists);
-        !again && sets.count > 0 && sets_are_bad(sheet, tables, programme, stamp)
+    let bad = |(stamp, programme)| {
+        list(programme, programme::SETS).count > 0 && sets_are_bad(sheet, tables, programme, stamp)
     };
     at(22, PROGRAMME, (1..).zip(sheet.programmes).position(bad))
 }
 
 /// Every set is in one span (rule 11), so has one owner.
-fn enter_owners(sheet: &Sections, owners: &mut [u32]) {
+pub fn enter_owners(sheet: &Sections, owners: &mut [u32]) {
     for (number, object) in (0..).zip(sheet.objects) {
         let span = list(object, object::SETS);
         owners[span.first..span.first + span.count].fill(number);
@@ -51,7 +46,7 @@ fn enters(sheet: &Sections, tables: &mut Tables, set: usize, stamp: u32) -> bool
         return false;
     }
     let Some(leader) = (tables.leaders[owner] as usize).checked_sub(1) else { return true };
-    if tables.tallies.add(leader, stamp) == 1 {
+    if tables.sets.add(leader, stamp) == 1 {
         tables.first_sets[leader] = set as u32;
     }
     sheet.value_sets[tables.first_sets[leader] as usize] == sheet.value_sets[set]
@@ -65,7 +60,7 @@ fn is_for_some_but_not_all(sheet: &Sections, tables: &Tables, set: usize, stamp:
     let group = &sheet.objects[leader];
     let first_complement = list(group, object::COMPLEMENTS).first;
     let first_complement = index(&sheet.references[first_complement], 0);
-    tables.tallies.count(leader, stamp) < group_size(group)
+    tables.sets.count(leader, stamp) < group_size(group)
         && tables.included[leader] == stamp
         && tables.included[first_complement] == stamp
 }

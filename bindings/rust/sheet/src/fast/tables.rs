@@ -24,9 +24,9 @@ pub struct Tables<'a> {
     /// For each object the stamp of the last programme that names a set of it.
     pub named: &'a mut [u32],
     /// For each leader how many of its group are included.
-    pub members: &'a mut [u32],
+    pub members: Tallies<'a>,
     /// For each leader how many of its group have a set.
-    pub tallies: Tallies<'a>,
+    pub sets: Tallies<'a>,
     /// For each leader the first set that a programme names in its group.
     pub first_sets: &'a mut [u32],
 }
@@ -49,8 +49,8 @@ impl<'a> Tables<'a> {
             spans: take(&mut rest, spans),
             included: take(&mut rest, objects),
             named: take(&mut rest, objects),
-            members: take(&mut rest, objects),
-            tallies: Tallies(take(&mut rest, objects)),
+            members: Tallies(take(&mut rest, objects)),
+            sets: Tallies(take(&mut rest, objects)),
             first_sets: take(&mut rest, objects),
         }
     }
