@@ -21,7 +21,7 @@ const SMALL_SIZES: [usize; 2] = [512, 1024];
 /// The hostile sheets on which the proved checker's plain bodies take 10 seconds or much longer.
 /// They are left out here, but not in smaller sizes; the benchmark has them, with a limit on the
 /// time.
-const TOO_SLOW: [&str; 23] = [
+const TOO_SLOW: [&str; 24] = [
     "hostile programme labels",
     "hostile content labels",
     "hostile complements",
@@ -32,6 +32,7 @@ const TOO_SLOW: [&str; 23] = [
     "hostile one set",
     "hostile shifted complements",
     "hostile alternating packs",
+    "hostile jumping sets",
     "hostile shifted programme labels",
     "hostile shifted content labels",
     "hostile shifted contents",

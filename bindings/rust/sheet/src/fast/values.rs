@@ -12,13 +12,21 @@ use crate::second::Verdict;
 /// The gain, offset and range words of an object.
 #[inline(always)]
 pub fn values_of_object(object: &Object) -> Values {
-    Values::from_words(object::VALUES.map(|field| word(object, field)))
+    values(object, object::VALUES)
 }
 
 /// The gain, offset and range words of a value set.
 #[inline(always)]
 pub fn values_of_set(set: &ValueSet) -> Values {
-    Values::from_words(value_set::VALUES.map(|field| word(set, field)))
+    values(set, value_set::VALUES)
+}
+
+/// Written out, as the words are read in every set.
+#[inline(always)]
+fn values<const BYTES: usize>(record: &[u8; BYTES], fields: [usize; 6]) -> Values {
+    let [a, b, c, d, e, f] = fields;
+    let at = |field| word(record, field);
+    Values::from_words([at(a), at(b), at(c), at(d), at(e), at(f)])
 }
 
 pub fn rule_16(sheet: &Sections) -> Result<(), Verdict> {

@@ -3,8 +3,8 @@
 
 use super::shared::languages;
 use super::{
-    a_with_run, broken, copy_programme, copy_top_object, generated, top_objects, with_lists,
-    Generated, Size,
+    a_with_run, broken, copy_programme, copy_top_object, generated, set_lists, top_objects,
+    with_lists, Generated, Size,
 };
 use crate::build::{bytes, word, Pack, Plan, Track, ValueSet};
 use crate::second::view::{content, object, programme, CONTENT, OBJECT, PROGRAMME};
@@ -12,7 +12,7 @@ use crate::second::Verdict::{self, Accepted};
 
 /// The sheets with shifted or alternating lists.
 pub fn sheets(size: Size) -> Vec<Generated> {
-    let mut sheets = vec![complements(size), alternating_packs(size)];
+    let mut sheets = vec![complements(size), alternating_packs(size), jumping_sets(size)];
     sheets.extend(labels(size));
     sheets.extend(contents(size));
     sheets.extend(sets(size));
@@ -104,6 +104,21 @@ fn sets(size: Size) -> Vec<Generated> {
         sheet("shifted sets, one of a pair left out", first_sets, &not_all, broken(22, 1, last)),
         sheet("alternating sets", both_sets, &|number| (number % 2 * objects, objects), Accepted),
     ]
+}
+
+/// Programmes of which contents and sets are shifted by different steps, so that in no
+/// order of the programmes both lists stay near.
+fn jumping_sets(size: Size) -> Generated {
+    let plan = pairs_with_sets(size);
+    let objects = plan.objects.len();
+    let mut run = twice(objects);
+    run.extend(twice(objects).iter().map(|object| 2 * object));
+    let plan = with_programmes(plan, run, size);
+    let contents = |number| (number % objects, objects);
+    let sets = |number| (2 * objects + number * (objects / 2 + 1) % objects, objects);
+    let mut words = with_lists(&plan, (PROGRAMME, programme::CONTENTS), contents);
+    set_lists(&mut words, 4 * objects, (PROGRAMME, programme::SETS), sets);
+    generated("jumping sets", bytes(&words), Accepted)
 }
 
 /// Pairs of objects with two sets each.
