@@ -11,8 +11,9 @@ use sheet::{fast, second};
 
 /// A checker that takes longer on one sheet isn't waited for.
 pub const LIMIT: Duration = Duration::from_secs(20);
-/// Calls are repeated until they take so long together.
-const ROUND: Duration = Duration::from_millis(20);
+/// Calls are repeated until they take so long together: short, so that some rounds pass without
+/// another program on the core.
+const ROUND: Duration = Duration::from_millis(2);
 /// The first argument of the process that times one sheet, which it reads from standard input.
 const TIME_ONE: &str = "--time-one";
 
