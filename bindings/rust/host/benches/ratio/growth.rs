@@ -58,7 +58,7 @@ fn print_growth(sheets: &[Vec<u8>]) -> io::Result<()> {
 }
 
 fn print_row(cells: [String; 6]) {
-    println!("{}", cells.map(|cell| format!("{cell:>12}")).concat());
+    println!("{}", cells.map(|cell| format!(" {cell:>12}")).concat());
 }
 
 fn shown_per_byte(time: Option<Duration>, bytes: usize) -> String {

@@ -14,6 +14,8 @@ pub const LIMIT: Duration = Duration::from_secs(20);
 /// Calls are repeated until they take so long together: short, so that some rounds pass without
 /// another program on the core.
 const ROUND: Duration = Duration::from_millis(2);
+/// A checker's turn: rounds for so long, one at least, of which the least time counts.
+const TURN: Duration = Duration::from_millis(40);
 /// The first argument of the process that times one sheet, which it reads from standard input.
 const TIME_ONE: &str = "--time-one";
 
@@ -114,8 +116,8 @@ pub fn time_one(request: Request) -> io::Result<()> {
     let mut sheet = Vec::new();
     io::stdin().read_to_end(&mut sheet)?;
     let in_rust: [fn(&[u8]) -> Duration; 2] =
-        [|sheet| time_per_sheet(sheet, fast::check), |sheet| time_per_sheet(sheet, second::check)];
-    let proved: fn(&[u8]) -> Duration = |sheet| time_per_sheet(sheet, host::check);
+        [|sheet| turn(sheet, fast::check), |sheet| turn(sheet, second::check)];
+    let proved: fn(&[u8]) -> Duration = |sheet| turn(sheet, host::check);
     take_turns(&sheet, &in_rust, request.turns / 2);
     if request.with_proved {
         take_turns(&sheet, &[in_rust[0], in_rust[1], proved], request.turns);
@@ -132,8 +134,18 @@ fn take_turns(sheet: &[u8], checkers: &[fn(&[u8]) -> Duration], turns: Duration)
     }
 }
 
-/// Twice as many calls each time, until they take long enough.
-fn time_per_sheet<Verdict>(sheet: &[u8], check: fn(&[u8]) -> Verdict) -> Duration {
+/// The least time per sheet in one turn.
+fn turn<Verdict>(sheet: &[u8], check: fn(&[u8]) -> Verdict) -> Duration {
+    let start = Instant::now();
+    let mut least = Duration::MAX;
+    while least == Duration::MAX || start.elapsed() < TURN {
+        least = least.min(round(sheet, check));
+    }
+    least
+}
+
+/// The time per sheet in one round: twice as many calls each time, until they take long enough.
+fn round<Verdict>(sheet: &[u8], check: fn(&[u8]) -> Verdict) -> Duration {
     let mut calls = 1;
     loop {
         let start = Instant::now();
