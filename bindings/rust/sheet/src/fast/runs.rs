@@ -3,9 +3,8 @@
 use super::sections::{index, word, Reference};
 use crate::second::view::List;
 
-/// The first of the lists, one for each record, that holds a bad entry. The lists have
-/// `total` entries together; all but the bad ones are walked, unless they are more than
-/// section 6 has.
+/// The first of the lists, one for each record, that holds a bad entry. They are walked,
+/// unless they have more entries together, `total`, than section 6.
 pub fn first_with(
     references: &[Reference],
     total: usize,
@@ -44,8 +43,8 @@ fn next_bad(references: &[Reference], bad: impl Fn(u16) -> bool) -> Vec<u16> {
     next
 }
 
-/// For each index of section 6, the least one by which the key of an entry from there on
-/// has come twice. Entries without a key below `keys` are passed over.
+/// For each index of section 6, the least one whose entry has the key of an earlier entry
+/// from there on. Entries without a key below `keys` are passed over.
 pub fn next_repeats(
     references: &[Reference],
     keys: usize,

@@ -8,24 +8,17 @@ use crate::second::Verdict;
 
 pub fn rule_14(sheet: &Sections) -> Result<(), Verdict> {
     let mut runs = None;
-    let bad = |object: &Object| {
-        let tracks = list(object, object::TRACKS);
-        match sheet.pack_of(object) {
-            None => tracks.count != 0,
-            Some(pack) => !tracks_fit(sheet, &mut runs, word(object, object::PACK), pack, tracks),
-        }
+    let bad = |object: &Object| match sheet.pack_of(object) {
+        None => list(object, object::TRACKS).count != 0,
+        Some(pack) => !tracks_fit(sheet, &mut runs, object, pack),
     };
     at(14, OBJECT, sheet.objects.iter().position(bad))
 }
 
 /// Up to 64 tracks are walked, with a bit for each ordinal.
-fn tracks_fit(
-    sheet: &Sections,
-    runs: &mut Option<Runs>,
-    number: u16,
-    pack: &Pack,
-    tracks: List,
-) -> bool {
+fn tracks_fit(sheet: &Sections, runs: &mut Option<Runs>, object: &Object, pack: &Pack) -> bool {
+    let tracks = list(object, object::TRACKS);
+    let number = word(object, object::PACK);
     tracks.count == index(pack, pack::CHANNELS)
         && match tracks.count {
             0..=64 => are_channels(sheet, number, tracks),

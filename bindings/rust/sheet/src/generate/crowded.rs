@@ -3,7 +3,7 @@
 
 use super::random::Random;
 use super::Generated;
-use crate::build::{bytes, language, overwrite, word, Plan, Track, ValueSet};
+use crate::build::{bytes, language, overwrite, position, word, Plan, ValueSet};
 use crate::second::view::{content, object, programme, CONTENT, OBJECT, PROGRAMME};
 
 /// The sheets of a seed, without end.
@@ -46,11 +46,20 @@ impl Crowd<'_> {
         let mut tracks: Vec<u16> = (0..word(channels)).collect();
         random.shuffle(&mut indices);
         random.shuffle(&mut tracks);
+        if random.chance(10) {
+            // Ordinals that come twice, with the sum of all.
+            let twice = |track: &mut u16| *track = if *track < 3 { 1 } else { *track };
+            tracks.iter_mut().take_while(|_| channels > 2).for_each(twice);
+        }
         plan.stray_entries = [&indices[..], &indices, &tracks, &tracks].concat();
         plan.stray_entries.extend((0..languages).map(|number| match random.chance(2) {
             true => language("aaa"),
             false => language("aaa") + word(number),
         }));
+        if random.chance(15) {
+            let track = 2 * objects + random.below(2 * channels);
+            plan.stray_entries[track] += word(channels);
+        }
         if random.chance(30) {
             let entry = random.below(plan.stray_entries.len());
             plan.stray_entries[entry] = random.pick(&[0, 1, word(objects), 64, 65_535]);
@@ -65,20 +74,35 @@ impl Crowd<'_> {
         let tracks = 2 * objects;
         let labels = tracks + 2 * channels;
         let all = |number| (number, number);
-        self.set((PROGRAMME, programme::CONTENTS), 0, tracks, all(objects));
+        let least = if self.random.chance(30) { 1 } else { objects };
+        self.set((PROGRAMME, programme::CONTENTS), 0, tracks, (least, objects));
         self.set((PROGRAMME, programme::LABELS), labels, self.languages, (0, self.languages));
         self.set((CONTENT, content::LABELS), labels, self.languages, (0, self.languages));
         if channels > 1 {
             self.set((OBJECT, object::TRACKS), tracks, 2 * channels, all(channels));
         }
-        if self.random.chance(70) {
-            self.set((PROGRAMME, programme::SETS), 0, tracks, all(objects));
+        match self.random.below(4) {
+            0 => {}
+            1 => self.set((PROGRAMME, programme::SETS), 0, tracks, all(objects)),
+            _ => self.set_sets_by_contents(),
         }
         if self.random.chance(10) {
             self.set((OBJECT, object::COMPLEMENTS), 0, tracks, (0, 2));
         }
         if self.random.chance(5) {
             self.set((OBJECT, object::CHILDREN), 0, tracks, (0, 2));
+        }
+    }
+
+    /// Set lists that are the content lists, as set n is of the object that content n
+    /// names; few are shorter.
+    fn set_sets_by_contents(&mut self) {
+        for record in 0..usize::from(self.words[2 * usize::from(PROGRAMME)]) {
+            let contents = position(&self.words, PROGRAMME, record, programme::CONTENTS);
+            let [first, count] = [self.words[contents], self.words[contents + 1]];
+            let less = u16::from(count > 0 && self.random.chance(5));
+            overwrite(&mut self.words, PROGRAMME, record, programme::SETS, first);
+            overwrite(&mut self.words, PROGRAMME, record, programme::SETS + 1, count - less);
         }
     }
 
@@ -108,7 +132,7 @@ impl Crowd<'_> {
 fn plan(random: &mut Random, objects: usize, channels: usize) -> Plan {
     let mut plan = Plan::new(0);
     plan.add_pack(1, word(channels), 0);
-    plan.tracks = (0..word(channels)).map(|ordinal| Track { pack: 0, ordinal }).collect();
+    plan.add_pack(1, word(channels), 0);
     for number in 0..objects {
         let object = plan.add_object(0);
         plan.add_content(object);
