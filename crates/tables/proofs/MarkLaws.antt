@@ -93,15 +93,15 @@ module _ (f : ℕ → ℕ) (t₀ t t′ : List ℕ) (long : length t′ ≡ leng
 -- the records from q on, and the one before them
 pub first-more : (s : Sheet) (kind : Naming) (t₀ t t′ : List ℕ) (q n : ℕ) → length t′ ≡ length t
     → Standing (λ x. firstFrom (λ j. namesBy s kind j x) (getD t₀ x 0) (suc q) n) t
-    → Standing (λ x. repeat (marked (Store q)) (timesBy s kind q x) (getD t x 0)) t′
+    → Standing (λ x. repeat (marked (Store (suc q))) (timesBy s kind q x) (getD t x 0)) t′
     → Standing (λ x. firstFrom (λ j. namesBy s kind j x) (getD t₀ x 0) q (suc n)) t′
 unfolding firstFrom namesBy timesBy
 first-more s kind t₀ t t′ q n long before now x l =
     now x l
-    ∙ repeat-store q (timesBy s kind q x) (getD t x 0)
-    ∙ ap (λ (c : ℕ). cond (eqb (timesBy s kind q x) 0) c q) (before x (rw long at l))
-    ∙ swap (eqb (timesBy s kind q x) 0) (firstFrom (λ j. namesBy s kind j x) (getD t₀ x 0) (suc q) n) q
-    ∙ ap (λ (b : Bool). cond b q (firstFrom (λ j. namesBy s kind j x) (getD t₀ x 0) (suc q) n)) (sym (any-howMany (λ i. eqb (item s kind q i) x) (items s kind q)))
+    ∙ repeat-store (suc q) (timesBy s kind q x) (getD t x 0)
+    ∙ ap (λ (c : ℕ). cond (eqb (timesBy s kind q x) 0) c (suc q)) (before x (rw long at l))
+    ∙ swap (eqb (timesBy s kind q x) 0) (firstFrom (λ j. namesBy s kind j x) (getD t₀ x 0) (suc q) n) (suc q)
+    ∙ ap (λ (b : Bool). cond b (suc q) (firstFrom (λ j. namesBy s kind j x) (getD t₀ x 0) (suc q) n)) (sym (any-howMany (λ i. eqb (item s kind q i) x) (items s kind q)))
   where
     swap : (b : Bool) (c d : ℕ) → cond b c d ≡ cond (not b) d c
     swap true c d = refl

@@ -1,2 +1,3 @@
 pub mod Namings
 pub mod Marks
+pub mod Right

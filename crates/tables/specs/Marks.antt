@@ -38,11 +38,11 @@ namedBy s kind x = sum (λ q. timesBy s kind q x) (namers s kind)
 unfoldable pub namesBy : Sheet → Naming → ℕ → ℕ → Bool
 namesBy s kind q x = any (λ i. eqb (item s kind q i) x) (items s kind q)
 
--- the first of the n numbers from i on that has p, else d
+-- one more than the first of the n numbers from i on that has p, else d
 unfoldable pub firstFrom : (ℕ → Bool) → ℕ → ℕ → ℕ → ℕ
 firstFrom p d i zero = d
-firstFrom p d i (suc n) = let rest = firstFrom p d (suc i) n in cond (p i) i rest
+firstFrom p d i (suc n) = let rest = firstFrom p d (suc i) n in cond (p i) (suc i) rest
 
--- the first record that names x, else d
+-- one more than the number of the first record that names x, else d
 unfoldable pub firstBy : Sheet → Naming → ℕ → ℕ → ℕ
 firstBy s kind x d = firstFrom (λ q. namesBy s kind q x) d 0 (namers s kind)

@@ -2,6 +2,7 @@
 // What stands at each index is the contract of the function that fills the table.
 pub mod marks;
 pub mod namings;
+pub mod reads;
 
 // What names a record of another section, or of its own.
 pub enum Naming {

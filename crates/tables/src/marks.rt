@@ -11,6 +11,7 @@ ghost use mathlib.Core.Bool.{cond};
 ghost use mathlib.Core.Path.{_≡_};
 ghost use Rattle.sheet.specs.Words.{sheetOf};
 ghost use Rattle.tables.specs.Marks.{Standing, firstBy, marked, namedBy, repeat, timesBy};
+ghost use Rattle.tables.specs.Right.{Included};
 ghost use Rattle.tables.specs.declared.Mark.the-variants.{Count};
 
 // What a place has after a mark.
@@ -57,13 +58,32 @@ pub fn count_namings(s: &[u8], kind: Naming, table: &mut [u16])
     }
 }
 
-// Writes for each record the first that names it; where none does, what stood there stays.
+// Writes for each record one more than the number of the first that names it; where none does, what stood there stays.
 pub fn first_namers(s: &[u8], kind: Naming, table: &mut [u16])
     ensures { λ r. ⌜ (length (now (table .exit)) ≡ length (now (table .entry))) × Standing (λ x. firstBy (sheetOf (now (s .entry))) kind x (getD (now (table .entry)) x 0)) (now (table .exit)) ⌝ }
 {
     let mut q: u16 = namers(s, kind);
     while 0 < q {
+        mark_items(s, kind, q - 1, Mark::Store(q), table);
         q -= 1;
-        mark_items(s, kind, q, Mark::Store(q), table);
     }
+}
+
+// Writes 0 everywhere.
+fn clear(table: &mut [u16])
+    ensures { λ r. ⌜ (length (now (table .exit)) ≡ length (now (table .entry))) × Standing (λ x. 0) (now (table .exit)) ⌝ }
+{
+    let mut i: usize = 0;
+    while i < table.len() {
+        table[i] = 0;
+        i += 1;
+    }
+}
+
+// Writes 1 for the objects that a programme includes, and 0 for the others.
+pub fn mark_included(s: &[u8], p: u16, table: &mut [u16])
+    ensures { λ r. ⌜ (length (now (table .exit)) ≡ length (now (table .entry))) × Included (sheetOf (now (s .entry))) p (now (table .exit)) ⌝ }
+{
+    clear(table);
+    mark_items(s, Naming::Included, p, Mark::Store(1), table);
 }

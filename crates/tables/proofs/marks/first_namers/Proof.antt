@@ -4,8 +4,9 @@ use mathlib.Core.Path.{_≡_, refl, sym, ap, _∙_}
 use native.Mathlib.Omega.{arith}
 use lib.ListN.{length, getD}
 use Rattle.sheet.specs.Words.{sheetOf}
+use Rattle.tables.specs.declared.Mark.the-variants.{Store}
 use Rattle.tables.specs.Namings.{namers}
-use Rattle.tables.specs.Marks.{Standing, namesBy, firstFrom, firstBy}
+use Rattle.tables.specs.Marks.{Standing, marked, repeat, timesBy, namesBy, firstFrom, firstBy}
 use Rattle.tables.proofs.MarkLaws.{first-more}
 use Rattle.tables.proofs.marks.first_namers.Statement.{statement}
 use Rattle.tables.proofs.marks.first_namers.Tie as tie
@@ -24,17 +25,20 @@ loop-holds : tie.Need-loop-holds Inv-loop μ-loop
 unfolding firstFrom
 loop-holds c = let e : namers (sheetOf (c .before .before .before .args .s .now)) (c .before .before .before .args .kind) - c .namers .result ≡ 0 = omega (arith, c .namers .ensures) in (omega (arith, c .namers .ensures), refl, λ x l. ap (λ (n : ℕ). firstFrom (λ j. namesBy (sheetOf (c .before .before .before .args .s .now)) (c .before .before .before .args .kind) j x) (getD (c .before .before .before .args .table .now) x 0) (c .namers .result) n) (sym e))
 
-sub-q : tie.Need-sub-q Inv-loop μ-loop
-sub-q c = search needs
+sub-mark-items : tie.Need-sub-mark-items Inv-loop μ-loop
+sub-mark-items c = search needs
 
 mark-items-requires : tie.Need-mark-items-requires Inv-loop μ-loop
 mark-items-requires c κs = search needs
+
+sub-q : tie.Need-sub-q Inv-loop μ-loop
+sub-q c = search needs
 
 loop-less : tie.Need-loop-less Inv-loop μ-loop
 loop-less c = search needs
 
 loop-again : tie.Need-loop-again Inv-loop μ-loop
-loop-again c = let q = c .before .before .before .before .before .loop .q - 1 in let e : suc q ≡ c .before .before .before .before .before .loop .q = omega (arith, c .before .before .before .before .loop-test .taken) in let f : namers (sheetOf (c .before .before .before .before .before .before .before .before .before .args .s .now)) (c .before .before .before .before .before .before .before .before .before .args .kind) - q ≡ suc (namers (sheetOf (c .before .before .before .before .before .before .before .before .before .args .s .now)) (c .before .before .before .before .before .before .before .before .before .args .kind) - c .before .before .before .before .before .loop .q) = omega (arith, c .before .before .before .before .before .loop .inv .0, c .before .before .before .before .loop-test .taken) in (omega (arith, c .before .before .before .before .before .loop .inv .0), c .before .before .mark-items .ensures .0 ∙ c .before .before .before .before .before .loop .inv .1, rw f (first-more (sheetOf (c .before .before .before .before .before .before .before .before .before .args .s .now)) (c .before .before .before .before .before .before .before .before .before .args .kind) (c .before .before .before .before .before .before .before .before .before .args .table .now) (c .before .before .before .before .before .loop .table) (c .before .before .mark-items .last .1 .1 .1 .1 .0) q (namers (sheetOf (c .before .before .before .before .before .before .before .before .before .args .s .now)) (c .before .before .before .before .before .before .before .before .before .args .kind) - c .before .before .before .before .before .loop .q) (c .before .before .mark-items .ensures .0) (rw e (c .before .before .before .before .before .loop .inv .2)) (c .before .before .mark-items .ensures .1)))
+loop-again c = let q = c .before .before .before .before .before .loop .q - 1 in let e : suc q ≡ c .before .before .before .before .before .loop .q = omega (arith, c .before .before .before .before .loop-test .taken) in let f : namers (sheetOf (c .before .before .before .before .before .before .before .before .before .args .s .now)) (c .before .before .before .before .before .before .before .before .before .args .kind) - q ≡ suc (namers (sheetOf (c .before .before .before .before .before .before .before .before .before .args .s .now)) (c .before .before .before .before .before .before .before .before .before .args .kind) - c .before .before .before .before .before .loop .q) = omega (arith, c .before .before .before .before .before .loop .inv .0, c .before .before .before .before .loop-test .taken) in (omega (arith, c .before .before .before .before .before .loop .inv .0), c .before .before .mark-items .ensures .0 ∙ c .before .before .before .before .before .loop .inv .1, rw f (first-more (sheetOf (c .before .before .before .before .before .before .before .before .before .args .s .now)) (c .before .before .before .before .before .before .before .before .before .args .kind) (c .before .before .before .before .before .before .before .before .before .args .table .now) (c .before .before .before .before .before .loop .table) (c .before .before .mark-items .last .1 .1 .1 .1 .0) q (namers (sheetOf (c .before .before .before .before .before .before .before .before .before .args .s .now)) (c .before .before .before .before .before .before .before .before .before .args .kind) - c .before .before .before .before .before .loop .q) (c .before .before .mark-items .ensures .0) (rw e (c .before .before .before .before .before .loop .inv .2)) (λ x l. c .before .before .mark-items .ensures .1 x l ∙ ap (λ (v : ℕ). repeat (marked (Store v)) (timesBy (sheetOf (c .before .before .before .before .before .before .before .before .before .args .s .now)) (c .before .before .before .before .before .before .before .before .before .args .kind) q x) (getD (c .before .before .before .before .before .loop .table) x 0)) (sym e))))
 
 same-length : tie.Need-same-length Inv-loop μ-loop
 same-length c = c .before .loop .inv .1
@@ -51,8 +55,9 @@ first-namers-spec =
     μ-loop
     namers-requires
     loop-holds
-    sub-q
+    sub-mark-items
     mark-items-requires
+    sub-q
     loop-less
     loop-again
     same-length

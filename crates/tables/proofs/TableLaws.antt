@@ -1,0 +1,235 @@
+-- What the passes leave is what the rules and relations ask. Assumes nothing.
+use Prim.Native.Nat.{ℕ, zero, suc, _+_, _-_, _<_, _≤_}
+use mathlib.Core.Path.{_≡_, refl, sym, ap, ap₂, _∙_}
+use mathlib.Core.Logic.{⊎-elim}
+use mathlib.Core.Bool.{Bool, true, false, cond, not, _&&_, _||_}
+use native.Mathlib.Omega.{arith}
+use native.Mathlib.Nat.{zero-add, add-zero, eq-or-lt-of-le}
+use borrow.Author.Tests.{eq-eqb, ne-eqb, lt-ltb, le-ltb, le-leb, lt-leb, ltb-true, ltb-false, leb-true, eqb-true, eqb-false}
+use lib.Dec.{eqb, leb, ltb}
+use Rattle.sheet.specs.Words.{Sheet}
+use Rattle.sheet.specs.Layout.{count, field, first, number, entry}
+use Rattle.sheet.specs.Fields.{programmes, contents, objects, contentList, contentObject, childList, complementList, setSpan}
+use Rattle.profile.specs.Counting.{any, howMany, sum, lowest, lowestFrom}
+use Rattle.profile.specs.Relations.{lists, times, top, complement, leaderOf, includes, hasSet, owner, namings}
+use Rattle.profile.proofs.CountingLaws.{any-howMany, any-none, found, nothing, lowest-le}
+use Rattle.profile.proofs.SumLaws.{sum-eq}
+use Rattle.tables.specs.declared.Naming.{Naming}
+use Rattle.tables.specs.declared.Naming.the-variants.{ContentObjects, Children, Complements, ContentLists, Included, SetSpans}
+use Rattle.tables.specs.declared.Mark.the-variants.{Count, Store}
+use Rattle.tables.specs.Namings.{namers, items, item}
+use Rattle.tables.specs.Marks.{Standing, marked, repeat, timesBy, namedBy, namesBy, firstFrom, firstBy}
+use Rattle.tables.specs.Right.{counted, told}
+use Rattle.tables.proofs.MarkLaws.{repeat-add, repeat-store}
+
+-- a count tells none, one and more apart
+counted-two : (n : ℕ) → counted (suc (suc n)) ≡ 2
+unfolding counted repeat
+counted-two zero = refl
+counted-two (suc n) = ap (marked Count) (unfold counted repeat in counted-two n)
+
+pub counted-zero : (n : ℕ) → eqb (counted n) 0 ≡ eqb n 0
+unfolding counted repeat
+counted-zero zero = refl
+counted-zero (suc zero) = refl
+counted-zero (suc (suc n)) = ap (λ (c : ℕ). eqb c 0) (counted-two n) ∙ sym (ne-eqb (suc (suc n)) 0 (λ q. let z : suc (suc n) ≡ 0 = q in omega arith))
+
+pub counted-one : (n : ℕ) → eqb (counted n) 1 ≡ eqb n 1
+unfolding counted repeat
+counted-one zero = refl
+counted-one (suc zero) = refl
+counted-one (suc (suc n)) = ap (λ (c : ℕ). eqb c 1) (counted-two n) ∙ sym (ne-eqb (suc (suc n)) 1 (λ q. let z : suc (suc n) ≡ 1 = q in omega arith))
+
+pub counted-more : (n : ℕ) → ltb 1 (counted n) ≡ ltb 1 n
+unfolding counted repeat
+counted-more zero = refl
+counted-more (suc zero) = refl
+counted-more (suc (suc n)) = ap (λ (c : ℕ). ltb 1 c) (counted-two n) ∙ sym (lt-ltb 1 (suc (suc n)) (omega arith))
+
+-- a sum of counts of 0 or 1 is a count
+pub sum-flags : (p : ℕ → Bool) (n : ℕ) → sum (λ i. cond (p i) 1 0) n ≡ howMany p n
+unfolding sum howMany
+sum-flags p zero = refl
+sum-flags p (suc n) = ap (λ (c : ℕ). c + cond (p n) 1 0) (sum-flags p n)
+
+-- something in some list: the counts of all lists are not 0
+pub any-sum : (p : ℕ → ℕ → Bool) (m : ℕ → ℕ) (n : ℕ) → any (λ q. any (p q) (m q)) n ≡ not (eqb (sum (λ q. howMany (p q) (m q)) n) 0)
+unfolding any sum
+any-sum p m zero = refl
+any-sum p m (suc n) =
+    ap (λ (b : Bool). b || any (p n) (m n)) (any-sum p m n)
+    ∙ ap (λ (b : Bool). not (eqb (sum (λ q. howMany (p q) (m q)) n) 0) || b) (any-howMany (p n) (m n))
+    ∙ both (sum (λ q. howMany (p q) (m q)) n) (howMany (p n) (m n))
+  where
+    both : (a b : ℕ) → (not (eqb a 0) || not (eqb b 0)) ≡ not (eqb (a + b) 0)
+    both zero b = ap (λ (n : ℕ). not (eqb n 0)) (sym (zero-add b))
+    both (suc a) b = rw (ne-eqb (suc a) 0 (λ q. let z : suc a ≡ 0 = q in omega arith), ne-eqb (suc a + b) 0 (λ q. let z : suc a + b ≡ 0 = q in omega arith)) refl
+
+-- a run names each of its numbers once
+run-times : (f v n : ℕ) → howMany (λ i. eqb (f + i) v) n ≡ cond (leb f v && ltb v (f + n)) 1 0
+unfolding howMany
+run-times f v zero =
+    (elim (leb f v) as (λ b. leb f v ≡ b → _≡_ {A = ℕ} 0 (cond (leb f v && ltb v (f + 0)) 1 0)) [
+      | true ↦ λ e. let l : f ≤ v = leb-true f v e in rw (e, le-ltb v (f + 0) (omega arith)) refl
+      | false ↦ λ e. rw e refl
+    ]) refl
+run-times f v (suc n) =
+    ap (λ (c : ℕ). c + cond (eqb (f + n) v) 1 0) (run-times f v n)
+    ∙ (elim (eqb (f + n) v) as (λ b. eqb (f + n) v ≡ b → cond (leb f v && ltb v (f + n)) 1 0 + cond (eqb (f + n) v) 1 0 ≡ cond (leb f v && ltb v (f + suc n)) 1 0) [
+      | true ↦ λ e.
+          let q : f + n ≡ v = eqb-true (f + n) v e in
+          rw (e, le-leb f v (omega arith), le-ltb v (f + n) (omega arith), lt-ltb v (f + suc n) (omega arith)) refl
+      | false ↦ λ e. rw (e, next e) (add-zero (cond (leb f v && ltb v (f + suc n)) 1 0))
+    ]) refl
+  where
+    next : eqb (f + n) v ≡ false → ltb v (f + n) ≡ ltb v (f + suc n)
+    next e =
+        (elim (ltb v (f + n)) as (λ b. ltb v (f + n) ≡ b → b ≡ ltb v (f + suc n)) [
+          | true ↦ λ h. let l : v < f + n = ltb-true v (f + n) h in sym (lt-ltb v (f + suc n) (omega arith))
+          | false ↦ λ h.
+              let l : f + n ≤ v = ltb-false v (f + n) h in
+              let m : f + n ≡ v → ⊥ = eqb-false (f + n) v e in
+              sym (le-ltb v (f + suc n) (⊎-elim (λ q. absurd (m q)) (λ k. omega arith) (eq-or-lt-of-le l)))
+        ]) refl
+
+pub flag : (b : Bool) → not (eqb (cond b 1 0) 0) ≡ b
+flag true = refl
+flag false = refl
+
+-- it has those from its first on
+run-has : (f v n : ℕ) → any (λ i. eqb (f + i) v) n ≡ (leb f v && ltb v (f + n))
+run-has f v n = any-howMany (λ i. eqb (f + i) v) n ∙ ap (λ (c : ℕ). not (eqb c 0)) (run-times f v n) ∙ flag (leb f v && ltb v (f + n))
+
+-- tests that agree
+any-same : (p q : ℕ → Bool) (n : ℕ) → ((i : ℕ) → p i ≡ q i) → any p n ≡ any q n
+unfolding any
+any-same p q zero h = refl
+any-same p q (suc n) h = ap₂ (λ (a b : Bool). a || b) (any-same p q n h) (h n)
+
+lowest-same : (p q : ℕ → Bool) (i n : ℕ) → ((j : ℕ) → p j ≡ q j) → lowestFrom p i n ≡ lowestFrom q i n
+unfolding lowestFrom
+lowest-same p q i zero h = refl
+lowest-same p q i (suc n) h = ap₂ (λ (b : Bool) (c : ℕ). cond b i c) (h i) (lowest-same p q (suc i) n h)
+
+none-any : (p : ℕ → Bool) (n : ℕ) → ((k : ℕ) → k < n → p k ≡ false) → any p n ≡ false
+unfolding any
+none-any p zero h = refl
+none-any p (suc n) h = rw (none-any p n (λ k l. h k (omega arith)), h n (omega arith)) refl
+
+-- the first, by the lowest
+first-any : (p : ℕ → Bool) (d i n : ℕ) → firstFrom p d i n ≡ cond (ltb (lowestFrom p i n) (i + n)) (suc (lowestFrom p i n)) d
+unfolding firstFrom lowestFrom
+first-any p d i zero = let e : i ≡ i + 0 = omega arith in rw (le-ltb i (i + 0) (omega arith)) refl
+first-any p d i (suc n) =
+    (elim (p i) as (λ b. p i ≡ b → firstFrom p d i (suc n) ≡ cond (ltb (lowestFrom p i (suc n)) (i + suc n)) (suc (lowestFrom p i (suc n))) d) [
+      | true ↦ λ e. rw (e, lt-ltb i (i + suc n) (omega arith)) refl
+      | false ↦ λ e. let z : i + suc n ≡ suc i + n = omega arith in rw (e, z) (first-any p d (suc i) n)
+    ]) refl
+
+lowest-any : (p : ℕ → Bool) (n : ℕ) → ltb (lowest p n) n ≡ any p n
+lowest-any p n =
+    (elim (ltb (lowest p n) n) as (λ b. ltb (lowest p n) n ≡ b → b ≡ any p n) [
+      | true ↦ λ e. (elim (any p n) as (λ b. any p n ≡ b → true ≡ b) [
+        | true ↦ λ f. refl
+        | false ↦ λ f. sym (found p n e) ∙ any-none p n f (lowest p n) (ltb-true (lowest p n) n e)
+      ]) refl
+      | false ↦ λ e. sym (none-any p n (nothing p n e))
+    ]) refl
+
+-- what stands in a table, read
+told-read : (d : ℕ) (b : Bool) (l : ℕ) → told d (cond b (suc l) 0) ≡ cond b l d
+unfolding told
+told-read d true l = let e : suc l - 1 ≡ l = omega arith in rw (ne-eqb (suc l) 0 (λ q. let z : suc l ≡ 0 = q in omega arith), e) refl
+told-read d false l = refl
+
+told-first : (p : ℕ → Bool) (d n : ℕ) → told d (firstFrom p 0 0 n) ≡ cond (ltb (lowest p n) n) (lowest p n) d
+unfolding lowest
+told-first p d n =
+    ap (told d) (first-any p 0 0 n)
+    ∙ ap (λ (m : ℕ). told d (cond (ltb (lowestFrom p 0 n) m) (suc (lowestFrom p 0 n)) 0)) (zero-add n)
+    ∙ told-read d (ltb (lowestFrom p 0 n) n) (lowestFrom p 0 n)
+
+-- the end stands for none
+end-lowest : (p : ℕ → Bool) (n : ℕ) → cond (ltb (lowest p n) n) (lowest p n) n ≡ lowest p n
+end-lowest p n =
+    (elim (ltb (lowest p n) n) as (λ b. ltb (lowest p n) n ≡ b → cond b (lowest p n) n ≡ lowest p n) [
+      | true ↦ λ e. refl
+      | false ↦ λ e. let l : n ≤ lowest p n = ltb-false (lowest p n) n e in omega (arith, lowest-le p n)
+    ]) refl
+
+module _ (s : Sheet) where
+  -- contents
+  content-namings : (o : ℕ) → namedBy s ContentObjects o ≡ howMany (λ c. eqb (field s contents c contentObject) o) (count s contents)
+  unfolding namedBy timesBy howMany
+  content-namings o =
+      sum-eq (λ c. 0 + cond (eqb (field s contents c contentObject) o) 1 0) (λ c. cond (eqb (field s contents c contentObject) o) 1 0) (count s contents) (λ i l. zero-add _)
+      ∙ sum-flags (λ c. eqb (field s contents c contentObject) o) (count s contents)
+
+  pub top-counted : (o : ℕ) → top s o ≡ not (eqb (counted (namedBy s ContentObjects o)) 0)
+  unfolding top
+  top-counted o =
+      any-howMany (λ c. eqb (field s contents c contentObject) o) (count s contents)
+      ∙ ap (λ (n : ℕ). not (eqb n 0)) (sym (content-namings o))
+      ∙ ap not (sym (counted-zero (namedBy s ContentObjects o)))
+
+  -- contents and child lists
+  pub namings-added : (o : ℕ) → repeat (marked Count) (namedBy s Children o) (repeat (marked Count) (namedBy s ContentObjects o) 0) ≡ counted (namings s o)
+  unfolding counted namings
+  namings-added o =
+      sym (repeat-add (marked Count) (namedBy s ContentObjects o) (namedBy s Children o) 0)
+      ∙ ap (λ (n : ℕ). repeat (marked Count) n 0) (ap₂ (λ (a b : ℕ). a + b) (content-namings o) (unfold namedBy timesBy times in refl))
+
+  -- complement lists
+  pub complement-counted : (o : ℕ) → complement s o ≡ not (eqb (counted (namedBy s Complements o)) 0)
+  unfolding complement lists namedBy timesBy
+  complement-counted o =
+      any-sum (λ l i. eqb (entry s objects l complementList i) o) (λ l. number s objects l complementList) (count s objects)
+      ∙ ap not (sym (counted-zero (namedBy s Complements o)))
+
+  pub complement-times : (o : ℕ) → sum (λ l. times s objects l complementList o) (count s objects) ≡ namedBy s Complements o
+  unfolding namedBy timesBy times
+  complement-times o = refl
+
+  pub leader-told : (o : ℕ) → told o (firstBy s Complements o 0) ≡ leaderOf s o
+  unfolding firstBy leaderOf complement namesBy lists
+  leader-told o =
+      told-first (λ l. namesBy s Complements l o) o (count s objects)
+      ∙ ap (λ (b : Bool). cond b (lowest (λ l. namesBy s Complements l o) (count s objects)) o) (lowest-any (λ l. namesBy s Complements l o) (count s objects))
+
+  -- spans
+  has-run : (v o : ℕ) → namesBy s SetSpans o v ≡ hasSet s o v
+  unfolding namesBy hasSet
+  has-run v o = run-has (first s objects o setSpan) v (number s objects o setSpan)
+
+  pub span-namings : (v : ℕ) → namedBy s SetSpans v ≡ howMany (λ o. hasSet s o v) (count s objects)
+  unfolding namedBy timesBy hasSet
+  span-namings v =
+      sum-eq (λ o. howMany (λ i. eqb (first s objects o setSpan + i) v) (number s objects o setSpan)) (λ o. cond (leb (first s objects o setSpan) v && ltb v (first s objects o setSpan + number s objects o setSpan)) 1 0) (count s objects)
+      (λ o l. run-times (first s objects o setSpan) v (number s objects o setSpan))
+      ∙ sum-flags (λ o. leb (first s objects o setSpan) v && ltb v (first s objects o setSpan + number s objects o setSpan)) (count s objects)
+
+  pub owner-told : (v : ℕ) → told (count s objects) (firstBy s SetSpans v 0) ≡ owner s v
+  unfolding firstBy owner
+  owner-told v =
+      told-first (λ o. namesBy s SetSpans o v) (count s objects) (count s objects)
+      ∙ end-lowest (λ o. namesBy s SetSpans o v) (count s objects)
+      ∙ unfold lowest in lowest-same (λ o. namesBy s SetSpans o v) (λ o. hasSet s o v) 0 (count s objects) (has-run v)
+
+  -- content lists
+  pub listed-counted : (c : ℕ) → any (λ p. lists s programmes p contentList c) (count s programmes) ≡ not (eqb (counted (namedBy s ContentLists c)) 0)
+  unfolding lists namedBy timesBy
+  listed-counted c =
+      any-sum (λ p i. eqb (entry s programmes p contentList i) c) (λ p. number s programmes p contentList) (count s programmes)
+      ∙ ap not (sym (counted-zero (namedBy s ContentLists c)))
+
+  -- what a programme includes
+  pub included-marked : (p o : ℕ) → repeat (marked (Store 1)) (timesBy s Included p o) 0 ≡ cond (includes s p o) 1 0
+  unfolding timesBy includes
+  included-marked p o =
+      repeat-store 1 (timesBy s Included p o) 0
+      ∙ flip (eqb (timesBy s Included p o) 0)
+      ∙ ap (λ (b : Bool). cond b 1 0) (sym (any-howMany (λ i. eqb (field s contents (entry s programmes p contentList i) contentObject) o) (number s programmes p contentList)))
+    where
+      flip : (b : Bool) → _≡_ {A = ℕ} (cond b 0 1) (cond (not b) 1 0)
+      flip true = refl
+      flip false = refl

@@ -1,0 +1,27 @@
+-- On a table of noughts. Assumes nothing.
+use Prim.Native.Nat.{ℕ}
+use mathlib.Core.Path.{_≡_, ap, _∙_}
+use lib.ListN.{length}
+use Rattle.sheet.specs.Words.{sheetOf}
+use Rattle.tables.specs.declared.Naming.the-variants.{Included}
+use Rattle.tables.specs.declared.Mark.the-variants.{Store}
+use Rattle.tables.specs.Marks.{marked, repeat, timesBy}
+use Rattle.tables.proofs.TableLaws.{included-marked}
+use borrow.Author.Needs.{needs}
+use Rattle.tables.proofs.marks.mark_included.Statement.{statement}
+use Rattle.tables.proofs.marks.mark_included.Tie as tie
+
+clear-requires : tie.Need-clear-requires
+clear-requires c κs = search needs
+
+mark-items-requires : tie.Need-mark-items-requires
+mark-items-requires c κs = search needs
+
+same-length : tie.Need-same-length
+same-length c = search needs
+
+returns : tie.Need-returns
+returns c = (c .before .before .mark-items .ensures .0 ∙ c .before .before .before .before .before .before .clear .ensures .0, λ x l. c .before .before .mark-items .ensures .1 x l ∙ ap (repeat (marked (Store 1)) (timesBy (sheetOf (c .before .before .before .before .before .before .before .before .before .before .args .s .now)) Included (c .before .before .before .before .before .before .before .before .before .before .args .p) x)) (c .before .before .before .before .before .before .clear .ensures .1 x (rw (c .before .before .mark-items .ensures .0) at l)) ∙ included-marked (sheetOf (c .before .before .before .before .before .before .before .before .before .before .args .s .now)) (c .before .before .before .before .before .before .before .before .before .before .args .p) x)
+
+pub mark-included-spec : {M : Type 1} → statement M
+mark-included-spec = tie.close (tie.spec clear-requires mark-items-requires same-length returns)

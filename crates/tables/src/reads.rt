@@ -1,0 +1,87 @@
+// Relations read from a table, or found by their own search where the table ends before: with an empty table, always.
+use relations::groups::leader_of;
+use relations::objects::leader;
+use relations::programmes::includes;
+use relations::records::complement;
+use relations::records::owner;
+use relations::records::top;
+use sheet::fields::OBJECTS;
+use sheet::layout::count;
+ghost use mathlib.Core.Path.{_≡_};
+ghost use Rattle.profile.specs.Relations.{complement, includes, leaderOf, lone, owner, top};
+ghost use Rattle.sheet.specs.Words.{sheetOf};
+ghost use Rattle.tables.specs.Right.{Complemented, Included, Leaders, Owners, Tops, told};
+
+// "A top object is one that a content names."
+pub fn top_by(s: &[u8], tops: &[u16], o: u16) -> bool
+    ensures { λ r. ⌜ (Tops (sheetOf (now (s .entry))) (now (tops .entry)) → r ≡ top (sheetOf (now (s .entry))) o) ⌝ }
+{
+    let i = o as usize;
+    if i < tops.len() {
+        tops[i] != 0
+    } else {
+        top(s, o)
+    }
+}
+
+// Some complement list names the object.
+pub fn complement_by(s: &[u8], complements: &[u16], o: u16) -> bool
+    ensures { λ r. ⌜ (Complemented (sheetOf (now (s .entry))) (now (complements .entry)) → r ≡ complement (sheetOf (now (s .entry))) o) ⌝ }
+{
+    let i = o as usize;
+    if i < complements.len() {
+        complements[i] != 0
+    } else {
+        complement(s, o)
+    }
+}
+
+// A top object in no group.
+pub fn lone_by(s: &[u8], tops: &[u16], complements: &[u16], o: u16) -> bool
+    ensures { λ r. ⌜ (Tops (sheetOf (now (s .entry))) (now (tops .entry)) → Complemented (sheetOf (now (s .entry))) (now (complements .entry)) → r ≡ lone (sheetOf (now (s .entry))) o) ⌝ }
+{
+    top_by(s, tops, o) & !leader(s, o) & !complement_by(s, complements, o)
+}
+
+// What stands for a number: one more than it, or 0 for none.
+fn told(d: u16, c: u16) -> u16
+    ensures { λ r. ⌜ r ≡ told d c ⌝ }
+{
+    if c == 0 { d } else { c - 1 }
+}
+
+// The leader of an object's group.
+pub fn leader_by(s: &[u8], leaders: &[u16], o: u16) -> u16
+    ensures { λ r. ⌜ (Leaders (sheetOf (now (s .entry))) (now (leaders .entry)) → r ≡ leaderOf (sheetOf (now (s .entry))) o) ⌝ }
+{
+    let i = o as usize;
+    if i < leaders.len() {
+        told(o, leaders[i])
+    } else {
+        leader_of(s, o)
+    }
+}
+
+// The object whose set v is, the number of objects where there is none.
+pub fn owner_by(s: &[u8], owners: &[u16], v: u16) -> u16
+    ensures { λ r. ⌜ (Owners (sheetOf (now (s .entry))) (now (owners .entry)) → r ≡ owner (sheetOf (now (s .entry))) v) ⌝ }
+{
+    let i = v as usize;
+    if i < owners.len() {
+        told(count(s, OBJECTS), owners[i])
+    } else {
+        owner(s, v)
+    }
+}
+
+// "A programme includes the top objects of its contents"
+pub fn included_by(s: &[u8], p: u16, marks: &[u16], o: u16) -> bool
+    ensures { λ r. ⌜ (Included (sheetOf (now (s .entry))) p (now (marks .entry)) → r ≡ includes (sheetOf (now (s .entry))) p o) ⌝ }
+{
+    let i = o as usize;
+    if i < marks.len() {
+        marks[i] != 0
+    } else {
+        includes(s, p, o)
+    }
+}
