@@ -1,21 +1,16 @@
-// Sizes in tracks, and the units of a sheet.
-use crate::entries::one;
-use crate::groups::lone;
+// Sizes in tracks.
 use crate::groups::member;
 use crate::groups::members;
 use crate::objects::has_children;
-use crate::objects::leader;
-use crate::records::groups;
 use sheet::fields::CHILD_LIST;
 use sheet::fields::OBJECTS;
 use sheet::fields::TRACK_LIST;
-use sheet::layout::count;
 use sheet::layout::entry;
 use sheet::layout::number;
 ghost use Prim.Native.Nat.{max};
 ghost use mathlib.Core.Path.{_≡_};
-ghost use Rattle.profile.specs.Relations.{countedTracks, share, size, units};
-ghost use Rattle.relations.specs.Sizes.{childrenTracks, largestMember, loneObjects};
+ghost use Rattle.profile.specs.Relations.{size};
+ghost use Rattle.relations.specs.Sizes.{childrenTracks, largestMember};
 ghost use Rattle.sheet.specs.Words.{sheetOf};
 
 // The tracks of an object's children.
@@ -51,7 +46,7 @@ fn larger(a: u32, b: u32) -> u32
 }
 
 // The size of the largest member of a leader's group.
-fn largest_member(s: &[u8], l: u16) -> u32
+pub fn largest_member(s: &[u8], l: u16) -> u32
     ensures { λ r. ⌜ r ≡ largestMember (sheetOf (now (s .entry))) l ⌝ }
 {
     let n = members(s, l);
@@ -62,52 +57,4 @@ fn largest_member(s: &[u8], l: u16) -> u32
         i += 1;
     }
     most
-}
-
-// What an object adds to the counted tracks.
-pub fn share(s: &[u8], o: u16) -> u32
-    ensures { λ r. ⌜ r ≡ share (sheetOf (now (s .entry))) o ⌝ }
-{
-    if leader(s, o) {
-        largest_member(s, o)
-    } else if lone(s, o) {
-        size(s, o)
-    } else {
-        0
-    }
-}
-
-// The counted tracks of the sheet.
-pub fn counted_tracks(s: &[u8]) -> u64
-    ensures { λ r. ⌜ r ≡ countedTracks (sheetOf (now (s .entry))) ⌝ }
-{
-    let n = count(s, OBJECTS);
-    let mut total: u64 = 0;
-    let mut o: u16 = 0;
-    while o < n {
-        total += share(s, o) as u64;
-        o += 1;
-    }
-    total
-}
-
-// How many top objects are in no group.
-fn lone_objects(s: &[u8]) -> u16
-    ensures { λ r. ⌜ r ≡ loneObjects (sheetOf (now (s .entry))) ⌝ }
-{
-    let n = count(s, OBJECTS);
-    let mut found: u16 = 0;
-    let mut o: u16 = 0;
-    while o < n {
-        found += one(lone(s, o));
-        o += 1;
-    }
-    found
-}
-
-// "groups plus top objects in no group"
-pub fn units(s: &[u8]) -> u32
-    ensures { λ r. ⌜ r ≡ units (sheetOf (now (s .entry))) ⌝ }
-{
-    groups(s) as u32 + lone_objects(s) as u32
 }

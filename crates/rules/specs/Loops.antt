@@ -1,6 +1,7 @@
 -- What each loop of the rules computes, over any of its tests. Assumes nothing.
 use Prim.Native.Nat.{ℕ, _+_}
 use mathlib.Core.Bool.{Bool, not, _&&_}
+use mathlib.Core.List.{List}
 use lib.Dec.{eqb}
 use Rattle.sheet.specs.Words.{Sheet}
 use Rattle.sheet.specs.Layout.{count, field, first, number, entry}
@@ -8,12 +9,13 @@ use Rattle.sheet.specs.Fields.{objects, tracks, valueSets, trackList, setSpan, 
 use Rattle.profile.specs.Counting.{any, howMany, sum, twoOf}
 use Rattle.profile.specs.Relations.{times, leader, leaderOf, members, includes, included, whollyIncluded, owner, channels, trackAt}
 use Rattle.profile.specs.Rules.{badComplement, differs, setsNamed, setsDiffer}
+use Rattle.tables.specs.Right.{Tops, Complemented, Leaders, Owners, Included}
 use Rattle.rules.specs.declared.PairTest.{PairTest}
 use Rattle.rules.specs.declared.PairTest.the-variants.{Same, OneOwner, DifferInGroup}
 use Rattle.rules.specs.declared.ListedTest.{ListedTest}
 use Rattle.rules.specs.declared.ListedTest.the-variants.{BadComplement, DiffersFrom, NotIncluded}
 use Rattle.rules.specs.declared.GroupTest.{GroupTest}
-use Rattle.rules.specs.declared.GroupTest.the-variants.{SplitBy, PartlySetBy}
+use Rattle.rules.specs.declared.GroupTest.the-variants.{Split, PartlySet}
 
 -- two entries pass the test
 abbrev pub pairTest : Sheet → PairTest → ℕ → ℕ → Bool
@@ -29,24 +31,36 @@ earlierEntry s section k at test j = any (λ i. pairTest s test (entry s section
 unfoldable pub twoEntries : Sheet → ℕ → ℕ → ℕ → PairTest → Bool
 twoEntries s section k at test = twoOf (λ i j. pairTest s test (entry s section k at i) (entry s section k at j)) (number s section k at)
 
+-- the tables that a test of two entries reads are right
+abbrev pub pairRight : Sheet → PairTest → List ℕ → List ℕ → Type 0
+pairRight s Same owners leaders = Unit {0}
+pairRight s OneOwner owners leaders = Owners s owners
+pairRight s DifferInGroup owners leaders = Owners s owners × Leaders s leaders
+
 -- an entry passes the test
 abbrev pub listedTest : Sheet → ListedTest → ℕ → Bool
 listedTest s BadComplement e = badComplement s e
 listedTest s (DiffersFrom l) e = differs s l e
 listedTest s (NotIncluded p) e = not (includes s p (owner s e))
 
+-- the tables that the test reads are right
+abbrev pub listedRight : Sheet → ListedTest → List ℕ → List ℕ → Type 0
+listedRight s BadComplement tops complements = Tops s tops × Complemented s complements
+listedRight s (DiffersFrom l) a b = Unit {0}
+listedRight s (NotIncluded p) owners marks = Owners s owners × Included s p marks
+
 -- some entry of the list passes it
 unfoldable pub anyListed : Sheet → ℕ → ℕ → ℕ → ListedTest → Bool
 anyListed s section k at test = any (λ i. listedTest s test (entry s section k at i)) (number s section k at)
 
--- a leader passes the test
-abbrev pub groupTest : Sheet → GroupTest → ℕ → Bool
-groupTest s (SplitBy p) l = leader s l && not (eqb (included s p l) 0) && not (eqb (included s p l) 1) && not (whollyIncluded s p l)
-groupTest s (PartlySetBy p) l = leader s l && whollyIncluded s p l && not (eqb (setsNamed s p l) 0) && not (eqb (setsNamed s p l) (members s l))
+-- a leader passes the test, for a programme
+abbrev pub groupTest : Sheet → ℕ → GroupTest → ℕ → Bool
+groupTest s p Split l = leader s l && not (eqb (included s p l) 0) && not (eqb (included s p l) 1) && not (whollyIncluded s p l)
+groupTest s p PartlySet l = leader s l && whollyIncluded s p l && not (eqb (setsNamed s p l) 0) && not (eqb (setsNamed s p l) (members s l))
 
 -- some leader does
-unfoldable pub anyGroup : Sheet → GroupTest → Bool
-anyGroup s test = any (groupTest s test) (count s objects)
+unfoldable pub anyGroup : Sheet → ℕ → GroupTest → Bool
+anyGroup s p test = any (groupTest s p test) (count s objects)
 
 -- two records of a section differ in one of the seven words from a position on
 unfoldable pub fieldsDiffer : Sheet → ℕ → ℕ → ℕ → ℕ → Bool

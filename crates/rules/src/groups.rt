@@ -8,21 +8,40 @@ use sheet::fields::OBJECTS;
 ghost use mathlib.Core.Path.{_≡_};
 ghost use Rattle.profile.specs.Rules.{rule19, rule20, rule21};
 ghost use Rattle.sheet.specs.Words.{sheetOf};
+ghost use Rattle.tables.specs.Right.{Complemented, Included, Tops};
 
-pub fn rule19(s: &[u8], section: u8, o: u16) -> bool
-    ensures { λ r. ⌜ r ≡ rule19 (sheetOf (now (s .entry))) section o ⌝ }
+pub fn rule19(s: &[u8], tops: &[u16], complements: &[u16], section: u8, o: u16) -> bool
+    ensures { λ r. ⌜ (Tops (sheetOf (now (s .entry))) (now (tops .entry)) → Complemented (sheetOf (now (s .entry))) (now (complements .entry)) → r ≡ rule19 (sheetOf (now (s .entry))) section o) ⌝ }
 {
-    any_listed(s, OBJECTS, o, COMPLEMENT_LIST, ListedTest::BadComplement)
+    any_listed(
+        s,
+        tops,
+        complements,
+        OBJECTS,
+        o,
+        COMPLEMENT_LIST,
+        ListedTest::BadComplement,
+    )
 }
 
+// It reads no table.
 pub fn rule20(s: &[u8], section: u8, o: u16) -> bool
     ensures { λ r. ⌜ r ≡ rule20 (sheetOf (now (s .entry))) section o ⌝ }
 {
-    any_listed(s, OBJECTS, o, COMPLEMENT_LIST, ListedTest::DiffersFrom(o))
+    let none: [u16; 1] = [0];
+    any_listed(
+        s,
+        &none,
+        &none,
+        OBJECTS,
+        o,
+        COMPLEMENT_LIST,
+        ListedTest::DiffersFrom(o),
+    )
 }
 
-pub fn rule21(s: &[u8], section: u8, p: u16) -> bool
-    ensures { λ r. ⌜ r ≡ rule21 (sheetOf (now (s .entry))) section p ⌝ }
+pub fn rule21(s: &[u8], marks: &[u16], section: u8, p: u16) -> bool
+    ensures { λ r. ⌜ (Included (sheetOf (now (s .entry))) p (now (marks .entry)) → r ≡ rule21 (sheetOf (now (s .entry))) section p) ⌝ }
 {
-    any_group(s, GroupTest::SplitBy(p))
+    any_group(s, p, marks, GroupTest::Split)
 }

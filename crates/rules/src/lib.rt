@@ -33,8 +33,8 @@ pub enum ListedTest {
 
 // What a leader is tested for.
 pub enum GroupTest {
-    // this programme includes some of the group, but neither one nor all
-    SplitBy(u16),
-    // this programme includes the whole group and names sets for some of it, but not all
-    PartlySetBy(u16),
+    // the programme includes some of the group, but neither one nor all
+    Split,
+    // the programme includes the whole group and names sets for some of it, but not all
+    PartlySet,
 }

@@ -84,7 +84,8 @@ pub fn rule5(s: &[u8], section: u8, k: u16) -> bool
 pub fn repeats(s: &[u8], section: u8, k: u16, at: u8) -> bool
     ensures { λ r. ⌜ r ≡ repeats (sheetOf (now (s .entry))) section k at ⌝ }
 {
-    two_entries(s, section, k, at, PairTest::Same)
+    let none: [u16; 1] = [0];
+    two_entries(s, &none, &none, section, k, at, PairTest::Same)
 }
 
 pub fn rule9(s: &[u8], section: u8, k: u16) -> bool

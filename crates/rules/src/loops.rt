@@ -6,18 +6,13 @@ use relations::EntryTest;
 use relations::entries::how_many_entries;
 use relations::entries::one;
 use relations::entries::times;
-use relations::groups::included;
-use relations::groups::leader_of;
+use relations::groups::member;
 use relations::groups::members;
 use relations::groups::sets_named;
-use relations::groups::wholly_included;
 use relations::objects::has_children;
 use relations::objects::kind;
 use relations::objects::leader;
 use relations::objects::pack_of;
-use relations::programmes::includes;
-use relations::records::owner;
-use relations::records::top;
 use sheet::fields::COMPLEMENT_LIST;
 use sheet::fields::INTERACT;
 use sheet::fields::OBJECTS;
@@ -33,12 +28,19 @@ use sheet::layout::entry;
 use sheet::layout::field;
 use sheet::layout::number;
 use sheet::layout::wide_field;
+use tables::reads::included_by;
+use tables::reads::leader_by;
+use tables::reads::owner_by;
+use tables::reads::top_by;
 ghost use Prim.Native.Nat.{_*_, _≤_};
+ghost use lib.Dec.{ltb};
 ghost use mathlib.Core.Path.{_≡_};
-ghost use Rattle.profile.specs.Relations.{channels};
+ghost use Rattle.profile.specs.Relations.{channels, included};
 ghost use Rattle.profile.specs.Rules.{badComplement, differs, setsDiffer};
-ghost use Rattle.rules.specs.Loops.{anyGroup, anyListed, badChannel, earlierEntry, fieldsDiffer, groupTest, listedTest, ownSet, pairTest, totalTimes, twoEntries};
+ghost use Rattle.rules.specs.Loops.{anyGroup, anyListed, badChannel, earlierEntry, fieldsDiffer, groupTest, listedRight, listedTest, ownSet, pairRight, pairTest, totalTimes, twoEntries};
+ghost use Rattle.sheet.specs.Fields.{complementList};
 ghost use Rattle.sheet.specs.Words.{sheetOf};
+ghost use Rattle.tables.specs.Right.{Complemented, Included, Tops};
 
 // Whether two records of a section differ in one of the seven words from a position on.
 fn fields_differ(s: &[u8], section: u8, from: u8, a: u16, b: u16) -> bool
@@ -82,104 +84,167 @@ pub fn total_times(s: &[u8], at: u8, x: u16) -> u32
     total
 }
 
-// A complement that isn't top, that itself lists some, or that complement lists name more than once.
-pub fn bad_complement(s: &[u8], q: u16) -> bool
-    ensures { λ r. ⌜ r ≡ badComplement (sheetOf (now (s .entry))) q ⌝ }
+// Whether complement lists name an object more than once.
+fn named_more(s: &[u8], complements: &[u16], q: u16) -> bool
+    ensures { λ r. ⌜ (Complemented (sheetOf (now (s .entry))) (now (complements .entry)) → r ≡ ltb 1 (totalTimes (sheetOf (now (s .entry))) complementList q)) ⌝ }
 {
-    !top(s, q) | leader(s, q) | (1 < total_times(s, COMPLEMENT_LIST, q))
+    let i = q as usize;
+    if i < complements.len() {
+        1 < complements[i]
+    } else {
+        1 < total_times(s, COMPLEMENT_LIST, q)
+    }
 }
 
-// Whether an entry passes the test.
-pub fn listed_test(s: &[u8], test: ListedTest, e: u16) -> bool
-    ensures { λ r. ⌜ r ≡ listedTest (sheetOf (now (s .entry))) test e ⌝ }
+// A complement that isn't top, that itself lists some, or that complement lists name more than once.
+pub fn bad_complement(s: &[u8], tops: &[u16], complements: &[u16], q: u16) -> bool
+    ensures { λ r. ⌜ (Tops (sheetOf (now (s .entry))) (now (tops .entry)) → Complemented (sheetOf (now (s .entry))) (now (complements .entry)) → r ≡ badComplement (sheetOf (now (s .entry))) q) ⌝ }
+{
+    !top_by(s, tops, q) | leader(s, q) | named_more(s, complements, q)
+}
+
+// Whether an entry passes the test, with the two tables that the test reads.
+pub fn listed_test(s: &[u8], a: &[u16], b: &[u16], test: ListedTest, e: u16) -> bool
+    ensures { λ r. ⌜ (listedRight (sheetOf (now (s .entry))) test (now (a .entry)) (now (b .entry)) → r ≡ listedTest (sheetOf (now (s .entry))) test e) ⌝ }
 {
     match test {
-        ListedTest::BadComplement => bad_complement(s, e),
+        ListedTest::BadComplement => bad_complement(s, a, b, e),
         ListedTest::DiffersFrom(l) => differs(s, l, e),
-        ListedTest::NotIncluded(p) => !includes(s, p, owner(s, e)),
+        ListedTest::NotIncluded(p) => !included_by(s, p, b, owner_by(s, a, e)),
     }
 }
 
 // Whether some entry of the list at a position of a record passes the test.
-pub fn any_listed(s: &[u8], section: u8, k: u16, at: u8, test: ListedTest) -> bool
-    ensures { λ r. ⌜ r ≡ anyListed (sheetOf (now (s .entry))) section k at test ⌝ }
+pub fn any_listed(
+    s: &[u8],
+    a: &[u16],
+    b: &[u16],
+    section: u8,
+    k: u16,
+    at: u8,
+    test: ListedTest,
+) -> bool
+    ensures { λ r. ⌜ (listedRight (sheetOf (now (s .entry))) test (now (a .entry)) (now (b .entry)) → r ≡ anyListed (sheetOf (now (s .entry))) section k at test) ⌝ }
 {
     let n = number(s, section, k, at);
     let mut found = false;
     let mut i: u16 = 0;
     while i < n {
-        found = found | listed_test(s, test, entry(s, section, k, at, i));
+        found = found | listed_test(s, a, b, test, entry(s, section, k, at, i));
         i += 1;
     }
     found
 }
 
 // Whether two entries pass the test.
-pub fn pair_test(s: &[u8], test: PairTest, a: u16, b: u16) -> bool
-    ensures { λ r. ⌜ r ≡ pairTest (sheetOf (now (s .entry))) test a b ⌝ }
+pub fn pair_test(s: &[u8], owners: &[u16], leaders: &[u16], test: PairTest, x: u16, y: u16) -> bool
+    ensures { λ r. ⌜ (pairRight (sheetOf (now (s .entry))) test (now (owners .entry)) (now (leaders .entry)) → r ≡ pairTest (sheetOf (now (s .entry))) test x y) ⌝ }
 {
     match test {
-        PairTest::Same => a == b,
-        PairTest::OneOwner => owner(s, a) == owner(s, b),
+        PairTest::Same => x == y,
+        PairTest::OneOwner => owner_by(s, owners, x) == owner_by(s, owners, y),
         PairTest::DifferInGroup => {
-            (leader_of(s, owner(s, a)) == leader_of(s, owner(s, b))) & sets_differ(s, a, b)
+            if leader_by(s, leaders, owner_by(s, owners, x))
+                == leader_by(s, leaders, owner_by(s, owners, y))
+            {
+                sets_differ(s, x, y)
+            } else {
+                false
+            }
         }
     }
 }
 
 // Whether an entry before place j of the list passes the test with the one there.
-fn earlier_entry(s: &[u8], section: u8, k: u16, at: u8, test: PairTest, j: u16) -> bool
-    ensures { λ r. ⌜ r ≡ earlierEntry (sheetOf (now (s .entry))) section k at test j ⌝ }
+fn earlier_entry(
+    s: &[u8],
+    owners: &[u16],
+    leaders: &[u16],
+    section: u8,
+    k: u16,
+    at: u8,
+    test: PairTest,
+    j: u16,
+) -> bool
+    ensures { λ r. ⌜ (pairRight (sheetOf (now (s .entry))) test (now (owners .entry)) (now (leaders .entry)) → r ≡ earlierEntry (sheetOf (now (s .entry))) section k at test j) ⌝ }
 {
-    let b = entry(s, section, k, at, j);
+    let y = entry(s, section, k, at, j);
     let mut found = false;
     let mut i: u16 = 0;
     while i < j {
-        found = found | pair_test(s, test, entry(s, section, k, at, i), b);
+        found = found | pair_test(s, owners, leaders, test, entry(s, section, k, at, i), y);
         i += 1;
     }
     found
 }
 
 // Whether two entries of the list pass the test.
-pub fn two_entries(s: &[u8], section: u8, k: u16, at: u8, test: PairTest) -> bool
-    ensures { λ r. ⌜ r ≡ twoEntries (sheetOf (now (s .entry))) section k at test ⌝ }
+pub fn two_entries(
+    s: &[u8],
+    owners: &[u16],
+    leaders: &[u16],
+    section: u8,
+    k: u16,
+    at: u8,
+    test: PairTest,
+) -> bool
+    ensures { λ r. ⌜ (pairRight (sheetOf (now (s .entry))) test (now (owners .entry)) (now (leaders .entry)) → r ≡ twoEntries (sheetOf (now (s .entry))) section k at test) ⌝ }
 {
     let n = number(s, section, k, at);
     let mut found = false;
     let mut j: u16 = 0;
     while j < n {
-        found = found | earlier_entry(s, section, k, at, test, j);
+        found = found | earlier_entry(s, owners, leaders, section, k, at, test, j);
         j += 1;
     }
     found
 }
 
-// Whether an object passes the test as a leader.
-pub fn group_test(s: &[u8], test: GroupTest, l: u16) -> bool
-    ensures { λ r. ⌜ r ≡ groupTest (sheetOf (now (s .entry))) test l ⌝ }
+// How many members of a leader's group the programme includes.
+fn included_members(s: &[u8], p: u16, marks: &[u16], l: u16) -> u32
+    ensures { λ r. ⌜ (Included (sheetOf (now (s .entry))) p (now (marks .entry)) → r ≡ included (sheetOf (now (s .entry))) p l) ⌝ }
 {
+    let n = members(s, l);
+    let mut found: u32 = 0;
+    let mut i: u32 = 0;
+    while i < n {
+        found += one(included_by(s, p, marks, member(s, l, i as u16))) as u32;
+        i += 1;
+    }
+    found
+}
+
+// Whether an object passes the test as a leader.
+pub fn group_test(s: &[u8], p: u16, marks: &[u16], test: GroupTest, l: u16) -> bool
+    ensures { λ r. ⌜ (Included (sheetOf (now (s .entry))) p (now (marks .entry)) → r ≡ groupTest (sheetOf (now (s .entry))) p test l) ⌝ }
+{
+    if !leader(s, l) {
+        return false;
+    }
+    let n = included_members(s, p, marks, l);
+    let all = members(s, l);
     match test {
-        GroupTest::SplitBy(p) => {
-            let n = included(s, p, l);
-            leader(s, l) & (n != 0) & (n != 1) & !wholly_included(s, p, l)
-        }
-        GroupTest::PartlySetBy(p) => {
-            let n = sets_named(s, p, l);
-            leader(s, l) & wholly_included(s, p, l) & (n != 0) & (n != members(s, l))
+        GroupTest::Split => (n != 0) & (n != 1) & (n != all),
+        GroupTest::PartlySet => {
+            if n == all {
+                let m = sets_named(s, p, l);
+                (m != 0) & (m != all)
+            } else {
+                false
+            }
         }
     }
 }
 
 // Whether some leader passes the test.
-pub fn any_group(s: &[u8], test: GroupTest) -> bool
-    ensures { λ r. ⌜ r ≡ anyGroup (sheetOf (now (s .entry))) test ⌝ }
+pub fn any_group(s: &[u8], p: u16, marks: &[u16], test: GroupTest) -> bool
+    ensures { λ r. ⌜ (Included (sheetOf (now (s .entry))) p (now (marks .entry)) → r ≡ anyGroup (sheetOf (now (s .entry))) p test) ⌝ }
 {
     let n = count(s, OBJECTS);
     let mut found = false;
     let mut l: u16 = 0;
     while l < n {
-        found = found | group_test(s, test, l);
+        found = found | group_test(s, p, marks, test, l);
         l += 1;
     }
     found

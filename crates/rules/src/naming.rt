@@ -9,10 +9,15 @@ use sheet::fields::CONTENT_LIST;
 use sheet::fields::CONTENTS;
 use sheet::fields::OBJECTS;
 use sheet::fields::PROGRAMMES;
+ghost use lib.Dec.{eqb};
 ghost use mathlib.Core.Path.{_≡_};
-ghost use Rattle.profile.specs.Relations.{namings};
+ghost use Rattle.profile.specs.Counting.{any, howMany};
+ghost use Rattle.profile.specs.Relations.{hasSet, lists, namings};
 ghost use Rattle.profile.specs.Rules.{rule11, rule12};
+ghost use Rattle.sheet.specs.Fields.{contentList, objects, programmes};
+ghost use Rattle.sheet.specs.Layout.{count};
 ghost use Rattle.sheet.specs.Words.{sheetOf};
+ghost use Rattle.tables.specs.Right.{Listed, Named, Spanned};
 
 // How often contents and child lists name an object.
 fn namings(s: &[u8], o: u16) -> u64
@@ -22,22 +27,58 @@ fn namings(s: &[u8], o: u16) -> u64
         + total_times(s, CHILD_LIST, o) as u64
 }
 
-pub fn rule11(s: &[u8], section: u8, k: u16) -> bool
-    ensures { λ r. ⌜ r ≡ rule11 (sheetOf (now (s .entry))) section k ⌝ }
+// Whether contents and child lists name an object exactly once.
+fn named_once(s: &[u8], named: &[u16], o: u16) -> bool
+    ensures { λ r. ⌜ (Named (sheetOf (now (s .entry))) (now (named .entry)) → r ≡ eqb (namings (sheetOf (now (s .entry))) o) 1) ⌝ }
+{
+    let i = o as usize;
+    if i < named.len() {
+        named[i] == 1
+    } else {
+        namings(s, o) == 1
+    }
+}
+
+// Whether a value set is in exactly one span.
+fn spanned_once(s: &[u8], spanned: &[u16], v: u16) -> bool
+    ensures { λ r. ⌜ (Spanned (sheetOf (now (s .entry))) (now (spanned .entry)) → r ≡ eqb (howMany (λ o. hasSet (sheetOf (now (s .entry))) o v) (count (sheetOf (now (s .entry))) objects)) 1) ⌝ }
+{
+    let i = v as usize;
+    if i < spanned.len() {
+        spanned[i] == 1
+    } else {
+        how_many_records(s, OBJECTS, RecordTest::OwnerOf(v)) == 1
+    }
+}
+
+// Whether a content is in some programme.
+fn is_listed(s: &[u8], listed: &[u16], c: u16) -> bool
+    ensures { λ r. ⌜ (Listed (sheetOf (now (s .entry))) (now (listed .entry)) → r ≡ any (λ p. lists (sheetOf (now (s .entry))) programmes p contentList c) (count (sheetOf (now (s .entry))) programmes)) ⌝ }
+{
+    let i = c as usize;
+    if i < listed.len() {
+        listed[i] != 0
+    } else {
+        any_record(s, PROGRAMMES, RecordTest::HasContent(c))
+    }
+}
+
+pub fn rule11(s: &[u8], named: &[u16], spanned: &[u16], section: u8, k: u16) -> bool
+    ensures { λ r. ⌜ (Named (sheetOf (now (s .entry))) (now (named .entry)) → Spanned (sheetOf (now (s .entry))) (now (spanned .entry)) → r ≡ rule11 (sheetOf (now (s .entry))) section k) ⌝ }
 {
     match section {
-        3 => namings(s, k) != 1,
-        7 => how_many_records(s, OBJECTS, RecordTest::OwnerOf(k)) != 1,
+        3 => !named_once(s, named, k),
+        7 => !spanned_once(s, spanned, k),
         _ => false,
     }
 }
 
-pub fn rule12(s: &[u8], section: u8, k: u16) -> bool
-    ensures { λ r. ⌜ r ≡ rule12 (sheetOf (now (s .entry))) section k ⌝ }
+pub fn rule12(s: &[u8], listed: &[u16], section: u8, k: u16) -> bool
+    ensures { λ r. ⌜ (Listed (sheetOf (now (s .entry))) (now (listed .entry)) → r ≡ rule12 (sheetOf (now (s .entry))) section k) ⌝ }
 {
     match section {
         1 => repeats(s, PROGRAMMES, k, CONTENT_LIST),
-        2 => !any_record(s, PROGRAMMES, RecordTest::HasContent(k)),
+        2 => !is_listed(s, listed, k),
         _ => false,
     }
 }

@@ -9,7 +9,6 @@ use relations::objects::has_children;
 use relations::objects::has_pack;
 use relations::objects::leader;
 use relations::objects::pack_of;
-use relations::records::top;
 use sheet::fields::CHILD_LIST;
 use sheet::fields::INTERACT;
 use sheet::fields::OBJECT_GAIN;
@@ -19,11 +18,13 @@ use sheet::fields::SET_SPAN;
 use sheet::fields::TRACK_LIST;
 use sheet::layout::field;
 use sheet::layout::number;
+use tables::reads::top_by;
 use values::Sort;
 use values::values::is_absent;
 ghost use mathlib.Core.Path.{_≡_};
 ghost use Rattle.profile.specs.Rules.{rule13, rule14, rule15, rule16};
 ghost use Rattle.sheet.specs.Words.{sheetOf};
+ghost use Rattle.tables.specs.Right.{Tops};
 
 pub fn rule13(s: &[u8], section: u8, o: u16) -> bool
     ensures { λ r. ⌜ r ≡ rule13 (sheetOf (now (s .entry))) section o ⌝ }
@@ -49,10 +50,10 @@ pub fn rule14(s: &[u8], section: u8, o: u16) -> bool
         | bad_channel(s, o)
 }
 
-pub fn rule15(s: &[u8], section: u8, o: u16) -> bool
-    ensures { λ r. ⌜ r ≡ rule15 (sheetOf (now (s .entry))) section o ⌝ }
+pub fn rule15(s: &[u8], tops: &[u16], section: u8, o: u16) -> bool
+    ensures { λ r. ⌜ (Tops (sheetOf (now (s .entry))) (now (tops .entry)) → r ≡ rule15 (sheetOf (now (s .entry))) section o) ⌝ }
 {
-    !top(s, o)
+    !top_by(s, tops, o)
         & (leader(s, o)
             | (field(s, OBJECTS, o, INTERACT) == 1)
             | (0 < number(s, OBJECTS, o, SET_SPAN))

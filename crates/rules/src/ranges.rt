@@ -2,7 +2,6 @@
 use crate::words::object_range;
 use crate::words::set_range;
 use relations::objects::has_front_pack;
-use relations::records::owner;
 use relations::sets::effective_maximum;
 use relations::sets::effective_minimum;
 use relations::sets::effective_value;
@@ -15,15 +14,17 @@ use sheet::fields::OBJECTS;
 use sheet::fields::SET_OFFSET;
 use sheet::fields::VALUE_SETS;
 use sheet::layout::field;
+use tables::reads::owner_by;
 use values::Sort;
 use values::values::in_range;
 use values::values::is_absent;
 ghost use mathlib.Core.Path.{_≡_};
 ghost use Rattle.profile.specs.Rules.{leaves, objectLeaves, rule17, rule18, setLeaves};
 ghost use Rattle.sheet.specs.Words.{sheetOf};
+ghost use Rattle.tables.specs.Right.{Owners};
 
-pub fn rule17(s: &[u8], section: u8, k: u16) -> bool
-    ensures { λ r. ⌜ r ≡ rule17 (sheetOf (now (s .entry))) section k ⌝ }
+pub fn rule17(s: &[u8], owners: &[u16], section: u8, k: u16) -> bool
+    ensures { λ r. ⌜ (Owners (sheetOf (now (s .entry))) (now (owners .entry)) → r ≡ rule17 (sheetOf (now (s .entry))) section k) ⌝ }
 {
     match section {
         3 => {
@@ -32,7 +33,7 @@ pub fn rule17(s: &[u8], section: u8, k: u16) -> bool
         }
         7 => {
             (!is_absent(field(s, VALUE_SETS, k, SET_OFFSET)) | set_range(s, k, Sort::Offsets))
-                & !has_front_pack(s, owner(s, k))
+                & !has_front_pack(s, owner_by(s, owners, k))
         }
         _ => false,
     }
@@ -77,13 +78,13 @@ fn set_leaves(s: &[u8], o: u16, v: u16, sort: Sort) -> bool
             )
 }
 
-pub fn rule18(s: &[u8], section: u8, k: u16) -> bool
-    ensures { λ r. ⌜ r ≡ rule18 (sheetOf (now (s .entry))) section k ⌝ }
+pub fn rule18(s: &[u8], owners: &[u16], section: u8, k: u16) -> bool
+    ensures { λ r. ⌜ (Owners (sheetOf (now (s .entry))) (now (owners .entry)) → r ≡ rule18 (sheetOf (now (s .entry))) section k) ⌝ }
 {
     match section {
         3 => object_leaves(s, k, Sort::Gains) | object_leaves(s, k, Sort::Offsets),
         7 => {
-            let o = owner(s, k);
+            let o = owner_by(s, owners, k);
             set_leaves(s, o, k, Sort::Gains) | set_leaves(s, o, k, Sort::Offsets)
         }
         _ => false,

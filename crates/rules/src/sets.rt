@@ -10,12 +10,37 @@ use sheet::fields::SET_LIST;
 ghost use mathlib.Core.Path.{_≡_};
 ghost use Rattle.profile.specs.Rules.{rule22};
 ghost use Rattle.sheet.specs.Words.{sheetOf};
+ghost use Rattle.tables.specs.Right.{Included, Leaders, Owners};
 
-pub fn rule22(s: &[u8], section: u8, p: u16) -> bool
-    ensures { λ r. ⌜ r ≡ rule22 (sheetOf (now (s .entry))) section p ⌝ }
+pub fn rule22(s: &[u8], owners: &[u16], leaders: &[u16], marks: &[u16], section: u8, p: u16) -> bool
+    ensures { λ r. ⌜ (Owners (sheetOf (now (s .entry))) (now (owners .entry)) → Leaders (sheetOf (now (s .entry))) (now (leaders .entry)) → Included (sheetOf (now (s .entry))) p (now (marks .entry)) → r ≡ rule22 (sheetOf (now (s .entry))) section p) ⌝ }
 {
-    any_listed(s, PROGRAMMES, p, SET_LIST, ListedTest::NotIncluded(p))
-        | two_entries(s, PROGRAMMES, p, SET_LIST, PairTest::OneOwner)
-        | any_group(s, GroupTest::PartlySetBy(p))
-        | two_entries(s, PROGRAMMES, p, SET_LIST, PairTest::DifferInGroup)
+    any_listed(
+        s,
+        owners,
+        marks,
+        PROGRAMMES,
+        p,
+        SET_LIST,
+        ListedTest::NotIncluded(p),
+    )
+        | two_entries(
+            s,
+            owners,
+            leaders,
+            PROGRAMMES,
+            p,
+            SET_LIST,
+            PairTest::OneOwner,
+        )
+        | any_group(s, p, marks, GroupTest::PartlySet)
+        | two_entries(
+            s,
+            owners,
+            leaders,
+            PROGRAMMES,
+            p,
+            SET_LIST,
+            PairTest::DifferInGroup,
+        )
 }

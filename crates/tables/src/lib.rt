@@ -3,6 +3,7 @@
 pub mod marks;
 pub mod namings;
 pub mod reads;
+pub mod totals;
 
 // What names a record of another section, or of its own.
 pub enum Naming {

@@ -10,7 +10,7 @@ any-listed-requires c κs = search needs
 
 returns : tie.Need-returns
 unfolding rule19 anyListed
-returns c = c .any-listed .ensures
+returns c = λ tops complements. c .any-listed .ensures (tops, complements)
 
 pub rule19-spec : {M : Type 1} → statement M
 rule19-spec = tie.close (tie.spec any-listed-requires returns)

@@ -5,19 +5,19 @@ use borrow.Author.Needs.{needs}
 use Rattle.rules.proofs.loops.bad_complement.Statement.{statement}
 use Rattle.rules.proofs.loops.bad_complement.Tie as tie
 
-top-requires : tie.Need-top-requires
-top-requires c κs = search needs
+top-by-requires : tie.Need-top-by-requires
+top-by-requires c κs = search needs
 
 leader-requires : tie.Need-leader-requires
 leader-requires c κs = search needs
 
-total-times-requires : tie.Need-total-times-requires
-total-times-requires c κs = search needs
+named-more-requires : tie.Need-named-more-requires
+named-more-requires c κs = search needs
 
 returns : tie.Need-returns
 unfolding badComplement totalTimes
-returns c = simp (c .total-times .ensures, c .before .leader .ensures, c .before .before .top .ensures)
+returns c = λ tops complements. simp (c .named-more .ensures complements, c .before .leader .ensures, c .before .before .top-by .ensures tops)
 
 pub bad-complement-spec : {M : Type 1} → statement M
 bad-complement-spec =
-    tie.close (tie.spec top-requires leader-requires total-times-requires returns)
+    tie.close (tie.spec top-by-requires leader-requires named-more-requires returns)

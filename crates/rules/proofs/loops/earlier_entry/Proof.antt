@@ -6,23 +6,23 @@ use native.Mathlib.Numerals.{add-one}
 use Rattle.profile.specs.Counting.{any}
 use Rattle.sheet.specs.Layout.{entry}
 use Rattle.sheet.specs.Words.{sheetOf}
-use Rattle.rules.specs.Loops.{pairTest, earlierEntry}
+use Rattle.rules.specs.Loops.{pairTest, pairRight, earlierEntry}
 use Rattle.rules.proofs.loops.earlier_entry.Statement.{statement}
 use Rattle.rules.proofs.loops.earlier_entry.Tie as tie
 use borrow.Author.Needs.{needs}
 
 abbrev Inv-loop : tie.InvT-loop
-Inv-loop s section k at test j b found₀ i₀ found i = (i ≤ j) × (found ≡ any (λ h. pairTest (sheetOf s) test (entry (sheetOf s) section k at h) (entry (sheetOf s) section k at j)) i)
+Inv-loop s owners leaders section k at test j y found₀ i₀ found i = (i ≤ j) × (pairRight (sheetOf s) test owners leaders → found ≡ any (λ h. pairTest (sheetOf s) test (entry (sheetOf s) section k at h) (entry (sheetOf s) section k at j)) i)
 
 abbrev μ-loop : tie.MeasureT-loop
-μ-loop s section k at test j b found₀ i₀ found i = j - i
+μ-loop s owners leaders section k at test j y found₀ i₀ found i = j - i
 
 entry-requires : tie.Need-entry-requires Inv-loop μ-loop
 entry-requires c κs = search needs
 
 loop-holds : tie.Need-loop-holds Inv-loop μ-loop
 unfolding any
-loop-holds c = (search needs, refl)
+loop-holds c = (search needs, λ right. refl)
 
 entry-requires-2 : tie.Need-entry-requires-2 Inv-loop μ-loop
 entry-requires-2 c κs = search needs
@@ -38,13 +38,11 @@ loop-less c = search needs
 
 loop-again : tie.Need-loop-again Inv-loop μ-loop
 unfolding any
-loop-again c = (search needs, rw (add-one, c .pair-test .ensures, c .before .entry2 .ensures, c .before .before .before .before .entry .ensures, c .before .before .before .loop .inv .1))
+loop-again c = (search needs, λ right. rw (add-one, c .pair-test .ensures right, c .before .entry2 .ensures, c .before .before .before .before .entry .ensures, c .before .before .before .loop .inv .1 right))
 
 returns : tie.Need-returns Inv-loop μ-loop
 unfolding earlierEntry
-returns c =
-    let e : c .before .loop .i ≡ c .before .before .before .before .args .j = omega arith in
-    c .before .loop .inv .1 ∙ ap (any _) e
+returns c = let e : c .before .loop .i ≡ c .before .before .before .before .before .before .args .j = omega arith in λ right. c .before .loop .inv .1 right ∙ ap (any _) e
 
 pub earlier-entry-spec : {M : Type 1} → statement M
 earlier-entry-spec =

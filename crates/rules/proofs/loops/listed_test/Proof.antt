@@ -1,4 +1,6 @@
 -- Each test by its definition. Assumes nothing.
+use Rattle.sheet.specs.Words.{sheetOf}
+use Rattle.tables.specs.Right.{Tops, Complemented, Owners, Included}
 use borrow.Author.Needs.{needs}
 use Rattle.rules.proofs.loops.listed_test.Statement.{statement}
 use Rattle.rules.proofs.loops.listed_test.Tie as tie
@@ -18,20 +20,20 @@ differs-requires c κs = search needs
 enum-known-test-2 : tie.Need-enum-known-test-2
 enum-known-test-2 c = search needs
 
-owner-requires : tie.Need-owner-requires
-owner-requires c κs = search needs
+owner-by-requires : tie.Need-owner-by-requires
+owner-by-requires c κs = search needs
 
-includes-requires : tie.Need-includes-requires
-includes-requires c κs = search needs
+included-by-requires : tie.Need-included-by-requires
+included-by-requires c κs = search needs
 
 returns : tie.Need-returns
-returns c = simp (c .bad-complement .ensures, c .before .enum-told .given .1)
+returns c = λ right. let r : Tops (sheetOf (c .before .before .before .before .before .before .args .s .now)) (c .before .before .before .before .before .before .args .a .now) × Complemented (sheetOf (c .before .before .before .before .before .before .args .s .now)) (c .before .before .before .before .before .before .args .b .now) = rw (c .before .enum-told .given .1) at right in simp (c .bad-complement .ensures (r .0) (r .1), c .before .enum-told .given .1)
 
 returns-2 : tie.Need-returns-2
-returns-2 c = simp (c .differs .ensures, c .before .before .test .given .1)
+returns-2 c = λ right. simp (c .differs .ensures, c .before .before .test .given .1)
 
 returns-3 : tie.Need-returns-3
-returns-3 c = simp (c .includes .ensures, c .before .owner .ensures, c .before .before .before .test2 .given .1)
+returns-3 c = λ right. let r : Owners (sheetOf (c .before .before .before .before .before .before .before .before .args .s .now)) (c .before .before .before .before .before .before .before .before .args .a .now) × Included (sheetOf (c .before .before .before .before .before .before .before .before .args .s .now)) (c .before .before .before .test2 .given .0 .0) (c .before .before .before .before .before .before .before .before .args .b .now) = rw (c .before .before .before .test2 .given .1) at right in simp (c .included-by .ensures (r .1), c .before .owner-by .ensures (r .0), c .before .before .before .test2 .given .1)
 
 pub listed-test-spec : {M : Type 1} → statement M
 listed-test-spec =
@@ -42,8 +44,8 @@ listed-test-spec =
     enum-known-test
     differs-requires
     enum-known-test-2
-    owner-requires
-    includes-requires
+    owner-by-requires
+    included-by-requires
     returns
     returns-2
     returns-3)

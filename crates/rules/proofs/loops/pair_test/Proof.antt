@@ -1,4 +1,9 @@
 -- Each test by its definition. Assumes nothing.
+use mathlib.Core.Path.{_≡_, sym, ap, _∙_}
+use borrow.Author.Tests.{eq-eqb, ne-eqb}
+use Rattle.profile.specs.Relations.{leaderOf, owner}
+use Rattle.sheet.specs.Words.{sheetOf}
+use Rattle.tables.specs.Right.{Owners, Leaders}
 use borrow.Author.Needs.{needs}
 use Rattle.rules.proofs.loops.pair_test.Statement.{statement}
 use Rattle.rules.proofs.loops.pair_test.Tie as tie
@@ -9,38 +14,41 @@ enum-told c = search needs
 enum-told-2 : tie.Need-enum-told-2
 enum-told-2 c = search needs
 
-owner-requires : tie.Need-owner-requires
-owner-requires c κs = search needs
+owner-by-requires : tie.Need-owner-by-requires
+owner-by-requires c κs = search needs
 
-owner-requires-2 : tie.Need-owner-requires-2
-owner-requires-2 c κs = search needs
+owner-by-requires-2 : tie.Need-owner-by-requires-2
+owner-by-requires-2 c κs = search needs
 
 enum-told-3 : tie.Need-enum-told-3
 enum-told-3 c = search needs
 
-owner-requires-3 : tie.Need-owner-requires-3
-owner-requires-3 c κs = search needs
+owner-by-requires-3 : tie.Need-owner-by-requires-3
+owner-by-requires-3 c κs = search needs
 
-leader-of-requires : tie.Need-leader-of-requires
-leader-of-requires c κs = search needs
+leader-by-requires : tie.Need-leader-by-requires
+leader-by-requires c κs = search needs
 
-owner-requires-4 : tie.Need-owner-requires-4
-owner-requires-4 c κs = search needs
+owner-by-requires-4 : tie.Need-owner-by-requires-4
+owner-by-requires-4 c κs = search needs
 
-leader-of-requires-2 : tie.Need-leader-of-requires-2
-leader-of-requires-2 c κs = search needs
+leader-by-requires-2 : tie.Need-leader-by-requires-2
+leader-by-requires-2 c κs = search needs
 
 sets-differ-requires : tie.Need-sets-differ-requires
 sets-differ-requires c κs = search needs
 
 returns : tie.Need-returns
-returns c = simp (c .enum-told .given .1)
+returns c = λ right. simp (c .enum-told .given .1)
 
 returns-2 : tie.Need-returns-2
-returns-2 c = simp (c .owner2 .ensures, c .before .owner .ensures, c .before .before .enum-told2 .given .1)
+returns-2 c = λ right. let r : Owners (sheetOf (c .before .before .before .before .before .before .before .args .s .now)) (c .before .before .before .before .before .before .before .args .owners .now) = rw (c .before .before .enum-told2 .given .1) at right in simp (c .owner-by2 .ensures r, c .before .owner-by .ensures r, c .before .before .enum-told2 .given .1)
 
 returns-3 : tie.Need-returns-3
-returns-3 c = simp (c .sets-differ .ensures, c .before .leader-of2 .ensures, c .before .before .owner4 .ensures, c .before .before .before .leader-of .ensures, c .before .before .before .before .owner3 .ensures, c .before .before .before .before .before .enum-told3 .given .1, c .before .before .before .before .before .before .match .keys3)
+returns-3 c = λ right. let r : Owners (sheetOf (c .before .before .before .before .before .before .before .before .before .before .before .args .s .now)) (c .before .before .before .before .before .before .before .before .before .before .before .args .owners .now) × Leaders (sheetOf (c .before .before .before .before .before .before .before .before .before .before .before .args .s .now)) (c .before .before .before .before .before .before .before .before .before .before .before .args .leaders .now) = rw (c .before .before .before .before .before .before .enum-told3 .given .1) at right in let x : c .before .before .before .before .leader-by .result ≡ leaderOf (sheetOf (c .before .before .before .before .before .before .before .before .before .before .before .args .s .now)) (owner (sheetOf (c .before .before .before .before .before .before .before .before .before .before .before .args .s .now)) (c .before .before .before .before .before .before .before .before .before .before .before .args .x)) = c .before .before .before .before .leader-by .ensures (r .1) ∙ ap (leaderOf (sheetOf (c .before .before .before .before .before .before .before .before .before .before .before .args .s .now))) (c .before .before .before .before .before .owner-by3 .ensures (r .0)) in let y : c .before .before .leader-by2 .result ≡ leaderOf (sheetOf (c .before .before .before .before .before .before .before .before .before .before .before .args .s .now)) (owner (sheetOf (c .before .before .before .before .before .before .before .before .before .before .before .args .s .now)) (c .before .before .before .before .before .before .before .before .before .before .before .args .y)) = c .before .before .leader-by2 .ensures (r .1) ∙ ap (leaderOf (sheetOf (c .before .before .before .before .before .before .before .before .before .before .before .args .s .now))) (c .before .before .before .owner-by4 .ensures (r .0)) in simp (c .sets-differ .ensures, eq-eqb _ _ (sym x ∙ c .before .if1 .taken ∙ y), c .before .before .before .before .before .before .enum-told3 .given .1)
+
+returns-4 : tie.Need-returns-4
+returns-4 c = λ right. let r : Owners (sheetOf (c .before .before .before .before .before .before .before .before .before .before .args .s .now)) (c .before .before .before .before .before .before .before .before .before .before .args .owners .now) × Leaders (sheetOf (c .before .before .before .before .before .before .before .before .before .before .args .s .now)) (c .before .before .before .before .before .before .before .before .before .before .args .leaders .now) = rw (c .before .before .before .before .before .enum-told3 .given .1) at right in let x : c .before .before .before .leader-by .result ≡ leaderOf (sheetOf (c .before .before .before .before .before .before .before .before .before .before .args .s .now)) (owner (sheetOf (c .before .before .before .before .before .before .before .before .before .before .args .s .now)) (c .before .before .before .before .before .before .before .before .before .before .args .x)) = c .before .before .before .leader-by .ensures (r .1) ∙ ap (leaderOf (sheetOf (c .before .before .before .before .before .before .before .before .before .before .args .s .now))) (c .before .before .before .before .owner-by3 .ensures (r .0)) in let y : c .before .leader-by2 .result ≡ leaderOf (sheetOf (c .before .before .before .before .before .before .before .before .before .before .args .s .now)) (owner (sheetOf (c .before .before .before .before .before .before .before .before .before .before .args .s .now)) (c .before .before .before .before .before .before .before .before .before .before .args .y)) = c .before .leader-by2 .ensures (r .1) ∙ ap (leaderOf (sheetOf (c .before .before .before .before .before .before .before .before .before .before .args .s .now))) (c .before .before .owner-by4 .ensures (r .0)) in simp (ne-eqb _ _ (λ q. c .if1 .left (x ∙ q ∙ sym y)), c .before .before .before .before .before .enum-told3 .given .1)
 
 pub pair-test-spec : {M : Type 1} → statement M
 pair-test-spec =
@@ -48,14 +56,15 @@ pair-test-spec =
     (tie.spec
     enum-told
     enum-told-2
-    owner-requires
-    owner-requires-2
+    owner-by-requires
+    owner-by-requires-2
     enum-told-3
-    owner-requires-3
-    leader-of-requires
-    owner-requires-4
-    leader-of-requires-2
+    owner-by-requires-3
+    leader-by-requires
+    owner-by-requires-4
+    leader-by-requires-2
     sets-differ-requires
     returns
     returns-2
-    returns-3)
+    returns-3
+    returns-4)

@@ -4,25 +4,24 @@ use mathlib.Core.Path.{_≡_, refl, ap, _∙_}
 use native.Mathlib.Omega.{arith}
 use native.Mathlib.Numerals.{add-one}
 use Rattle.profile.specs.Counting.{any, twoOf}
-use Rattle.sheet.specs.Layout.{number}
 use Rattle.sheet.specs.Words.{sheetOf}
-use Rattle.rules.specs.Loops.{earlierEntry, twoEntries}
+use Rattle.rules.specs.Loops.{pairRight, earlierEntry, twoEntries}
 use Rattle.rules.proofs.loops.two_entries.Statement.{statement}
 use Rattle.rules.proofs.loops.two_entries.Tie as tie
 use borrow.Author.Needs.{needs}
 
 abbrev Inv-loop : tie.InvT-loop
-Inv-loop s section k at test n found₀ j₀ found j = (j ≤ n) × (found ≡ any (earlierEntry (sheetOf s) section k at test) j)
+Inv-loop s owners leaders section k at test n found₀ j₀ found j = (j ≤ n) × (pairRight (sheetOf s) test owners leaders → found ≡ any (earlierEntry (sheetOf s) section k at test) j)
 
 abbrev μ-loop : tie.MeasureT-loop
-μ-loop s section k at test n found₀ j₀ found j = n - j
+μ-loop s owners leaders section k at test n found₀ j₀ found j = n - j
 
 number-requires : tie.Need-number-requires Inv-loop μ-loop
 number-requires c κs = search needs
 
 loop-holds : tie.Need-loop-holds Inv-loop μ-loop
 unfolding any
-loop-holds c = (search needs, refl)
+loop-holds c = (search needs, λ right. refl)
 
 earlier-entry-requires : tie.Need-earlier-entry-requires Inv-loop μ-loop
 earlier-entry-requires c κs = search needs
@@ -35,13 +34,11 @@ loop-less c = search needs
 
 loop-again : tie.Need-loop-again Inv-loop μ-loop
 unfolding any
-loop-again c = (search needs, rw (add-one, c .earlier-entry .ensures, c .before .before .loop .inv .1))
+loop-again c = (search needs, λ right. rw (add-one, c .earlier-entry .ensures right, c .before .before .loop .inv .1 right))
 
 returns : tie.Need-returns Inv-loop μ-loop
 unfolding twoEntries twoOf earlierEntry
-returns c =
-    let e : c .before .loop .j ≡ c .before .before .number .result = omega arith in
-    c .before .loop .inv .1 ∙ ap (any _) (e ∙ c .before .before .number .ensures)
+returns c = let e : c .before .loop .j ≡ c .before .before .number .result = omega arith in λ right. c .before .loop .inv .1 right ∙ ap (any _) (e ∙ c .before .before .number .ensures)
 
 pub two-entries-spec : {M : Type 1} → statement M
 two-entries-spec =

@@ -1,6 +1,5 @@
 -- Contents of programmes, programmes of contents. Assumes nothing.
 use Rattle.profile.specs.Rules.{rule12}
-use Rattle.relations.specs.Tests.{anyRecord}
 use Rattle.profile.proofs.BoolLaws.{or-false}
 use borrow.Author.Tests.{ne-eqb}
 use borrow.Author.Needs.{needs}
@@ -10,20 +9,20 @@ use Rattle.rules.proofs.naming.rule12.Tie as tie
 repeats-requires : tie.Need-repeats-requires
 repeats-requires c κs = search needs
 
-any-record-requires : tie.Need-any-record-requires
-any-record-requires c κs = search needs
+is-listed-requires : tie.Need-is-listed-requires
+is-listed-requires c κs = search needs
 
 returns : tie.Need-returns
-unfolding rule12 anyRecord
-returns c = simp (c .repeats .ensures, c .before .match .keys1, or-false)
+unfolding rule12
+returns c = λ listed. simp (c .repeats .ensures, c .before .match .keys1, or-false)
 
 returns-2 : tie.Need-returns-2
-unfolding rule12 anyRecord
-returns-2 c = simp (c .any-record .ensures, c .before .match .keys2)
+unfolding rule12
+returns-2 c = λ listed. simp (c .is-listed .ensures listed, c .before .match .keys2)
 
 returns-3 : tie.Need-returns-3
-unfolding rule12 anyRecord
-returns-3 c = simp (ne-eqb _ 1 (c .match .rest .0 .1), ne-eqb _ 2 (c .match .rest .1), or-false)
+unfolding rule12
+returns-3 c = λ listed. simp (ne-eqb _ 1 (c .match .rest .0 .1), ne-eqb _ 2 (c .match .rest .1), or-false)
 
 pub rule12-spec : {M : Type 1} → statement M
-rule12-spec = tie.close (tie.spec repeats-requires any-record-requires returns returns-2 returns-3)
+rule12-spec = tie.close (tie.spec repeats-requires is-listed-requires returns returns-2 returns-3)

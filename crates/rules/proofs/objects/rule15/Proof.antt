@@ -1,11 +1,11 @@
--- What only a top object may have. Assumes nothing.
+-- Top, and the words that only a top object has. Assumes nothing.
 use Rattle.profile.specs.Rules.{rule15}
 use borrow.Author.Needs.{needs}
 use Rattle.rules.proofs.objects.rule15.Statement.{statement}
 use Rattle.rules.proofs.objects.rule15.Tie as tie
 
-top-requires : tie.Need-top-requires
-top-requires c κs = search needs
+top-by-requires : tie.Need-top-by-requires
+top-by-requires c κs = search needs
 
 leader-requires : tie.Need-leader-requires
 leader-requires c κs = search needs
@@ -36,13 +36,13 @@ object-range-requires-2 c κs = search needs
 
 returns : tie.Need-returns
 unfolding rule15
-returns c = simp (c .object-range2 .ensures, c .before .object-range .ensures, c .before .before .is-absent2 .ensures, c .before .before .before .field3 .ensures, c .before .before .before .before .is-absent .ensures, c .before .before .before .before .before .field2 .ensures, c .before .before .before .before .before .before .number .ensures, c .before .before .before .before .before .before .before .field .ensures, c .before .before .before .before .before .before .before .before .leader .ensures, c .before .before .before .before .before .before .before .before .before .top .ensures)
+returns c = λ tops. simp (c .object-range2 .ensures, c .before .object-range .ensures, c .before .before .is-absent2 .ensures, c .before .before .before .field3 .ensures, c .before .before .before .before .is-absent .ensures, c .before .before .before .before .before .field2 .ensures, c .before .before .before .before .before .before .number .ensures, c .before .before .before .before .before .before .before .field .ensures, c .before .before .before .before .before .before .before .before .leader .ensures, c .before .before .before .before .before .before .before .before .before .top-by .ensures tops)
 
 pub rule15-spec : {M : Type 1} → statement M
 rule15-spec =
     tie.close
     (tie.spec
-    top-requires
+    top-by-requires
     leader-requires
     field-requires
     number-requires

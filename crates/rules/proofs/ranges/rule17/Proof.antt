@@ -27,23 +27,23 @@ is-absent-requires-2 c κs = search needs
 set-range-requires : tie.Need-set-range-requires
 set-range-requires c κs = search needs
 
-owner-requires : tie.Need-owner-requires
-owner-requires c κs = search needs
+owner-by-requires : tie.Need-owner-by-requires
+owner-by-requires c κs = search needs
 
 has-front-pack-requires-2 : tie.Need-has-front-pack-requires-2
 has-front-pack-requires-2 c κs = search needs
 
 returns : tie.Need-returns
 unfolding rule17
-returns c = simp (c .has-front-pack .ensures, c .before .object-range .ensures, c .before .before .is-absent .ensures, c .before .before .before .field .ensures, c .before .before .before .before .match .keys1, or-false)
+returns c = λ owners. simp (c .has-front-pack .ensures, c .before .object-range .ensures, c .before .before .is-absent .ensures, c .before .before .before .field .ensures, c .before .before .before .before .match .keys1, or-false)
 
 returns-2 : tie.Need-returns-2
 unfolding rule17
-returns-2 c = simp (c .has-front-pack2 .ensures, c .before .owner .ensures, c .before .before .set-range .ensures, c .before .before .before .is-absent2 .ensures, c .before .before .before .before .field2 .ensures, c .before .before .before .before .before .match .keys2)
+returns-2 c = λ owners. simp (c .has-front-pack2 .ensures, c .before .owner-by .ensures owners, c .before .before .set-range .ensures, c .before .before .before .is-absent2 .ensures, c .before .before .before .before .field2 .ensures, c .before .before .before .before .before .match .keys2)
 
 returns-3 : tie.Need-returns-3
 unfolding rule17
-returns-3 c = simp (ne-eqb _ 3 (c .match .rest .0 .1), ne-eqb _ 7 (c .match .rest .1), or-false)
+returns-3 c = λ owners. simp (ne-eqb _ 3 (c .match .rest .0 .1), ne-eqb _ 7 (c .match .rest .1), or-false)
 
 pub rule17-spec : {M : Type 1} → statement M
 rule17-spec =
@@ -56,7 +56,7 @@ rule17-spec =
     field-requires-2
     is-absent-requires-2
     set-range-requires
-    owner-requires
+    owner-by-requires
     has-front-pack-requires-2
     returns
     returns-2

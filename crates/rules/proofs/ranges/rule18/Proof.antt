@@ -12,8 +12,8 @@ object-leaves-requires c κs = search needs
 object-leaves-requires-2 : tie.Need-object-leaves-requires-2
 object-leaves-requires-2 c κs = search needs
 
-owner-requires : tie.Need-owner-requires
-owner-requires c κs = search needs
+owner-by-requires : tie.Need-owner-by-requires
+owner-by-requires c κs = search needs
 
 set-leaves-requires : tie.Need-set-leaves-requires
 set-leaves-requires c κs = search needs
@@ -23,15 +23,15 @@ set-leaves-requires-2 c κs = search needs
 
 returns : tie.Need-returns
 unfolding rule18
-returns c = simp (c .object-leaves2 .ensures, c .before .object-leaves .ensures, c .before .before .match .keys1, or-false)
+returns c = λ owners. simp (c .object-leaves2 .ensures, c .before .object-leaves .ensures, c .before .before .match .keys1, or-false)
 
 returns-2 : tie.Need-returns-2
 unfolding rule18
-returns-2 c = simp (c .set-leaves2 .ensures, c .before .set-leaves .ensures, c .before .before .owner .ensures, c .before .before .before .match .keys2)
+returns-2 c = λ owners. simp (c .set-leaves2 .ensures, c .before .set-leaves .ensures, c .before .before .owner-by .ensures owners, c .before .before .before .match .keys2)
 
 returns-3 : tie.Need-returns-3
 unfolding rule18
-returns-3 c = simp (ne-eqb _ 3 (c .match .rest .0 .1), ne-eqb _ 7 (c .match .rest .1), or-false)
+returns-3 c = λ owners. simp (ne-eqb _ 3 (c .match .rest .0 .1), ne-eqb _ 7 (c .match .rest .1), or-false)
 
 pub rule18-spec : {M : Type 1} → statement M
 rule18-spec =
@@ -39,7 +39,7 @@ rule18-spec =
     (tie.spec
     object-leaves-requires
     object-leaves-requires-2
-    owner-requires
+    owner-by-requires
     set-leaves-requires
     set-leaves-requires-2
     returns

@@ -1,4 +1,4 @@
--- The four clauses. Assumes nothing.
+-- Its four parts. Assumes nothing.
 use Rattle.profile.specs.Rules.{rule22, ownerAt}
 use Rattle.profile.specs.Relations.{namedSet}
 use Rattle.rules.specs.Loops.{anyListed, twoEntries, anyGroup}
@@ -20,7 +20,7 @@ two-entries-requires-2 c κs = search needs
 
 returns : tie.Need-returns
 unfolding rule22 anyListed twoEntries anyGroup ownerAt namedSet
-returns c = simp (c .two-entries2 .ensures, c .before .any-group .ensures, c .before .before .two-entries .ensures, c .before .before .before .any-listed .ensures)
+returns c = λ owners leaders marks. simp (c .two-entries2 .ensures (owners, leaders), c .before .any-group .ensures marks, c .before .before .two-entries .ensures owners, c .before .before .before .any-listed .ensures (owners, marks))
 
 pub rule22-spec : {M : Type 1} → statement M
 rule22-spec =

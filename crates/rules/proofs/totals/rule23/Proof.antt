@@ -1,4 +1,4 @@
--- Groups and units against their limits. Assumes nothing.
+-- Groups and units. Assumes nothing.
 use Rattle.profile.specs.Rules.{rule23}
 use borrow.Author.Needs.{needs}
 use Rattle.rules.proofs.totals.rule23.Statement.{statement}
@@ -24,7 +24,7 @@ exceeds-requires-2 c κs = search needs
 
 returns : tie.Need-returns
 unfolding rule23
-returns c = simp (c .exceeds2 .ensures, c .before .units .ensures, c .before .before .exceeds .ensures, c .before .before .before .groups .ensures)
+returns c = λ tops complements. simp (c .exceeds2 .ensures, c .before .units .ensures tops complements, c .before .before .exceeds .ensures, c .before .before .before .groups .ensures)
 
 pub rule23-spec : {M : Type 1} → statement M
 rule23-spec =

@@ -1,4 +1,4 @@
--- Counted tracks against their limit. Assumes nothing.
+-- The counted tracks. Assumes nothing.
 use Rattle.profile.specs.Rules.{rule24}
 use borrow.Author.Needs.{needs}
 use Rattle.rules.proofs.totals.rule24.Statement.{statement}
@@ -12,7 +12,7 @@ exceeds-requires c κs = search needs
 
 returns : tie.Need-returns
 unfolding rule24
-returns c = simp (c .exceeds .ensures, c .before .counted-tracks .ensures)
+returns c = λ tops complements. simp (c .exceeds .ensures, c .before .counted-tracks .ensures tops complements)
 
 pub rule24-spec : {M : Type 1} → statement M
 rule24-spec = tie.close (tie.spec counted-tracks-requires exceeds-requires returns)

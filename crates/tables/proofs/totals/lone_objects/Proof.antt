@@ -7,26 +7,28 @@ use Rattle.profile.specs.Counting.{howMany}
 use Rattle.sheet.specs.Layout.{count}
 use Rattle.profile.specs.Relations.{lone}
 use Rattle.sheet.specs.Words.{sheetOf}
 use Rattle.relations.specs.Sizes.{loneObjects}
-use Rattle.relations.proofs.sizes.lone_objects.Statement.{statement}
-use Rattle.relations.proofs.sizes.lone_objects.Tie as tie
+use Rattle.tables.proofs.totals.lone_objects.Statement.{statement}
+use Rattle.tables.proofs.totals.lone_objects.Tie as tie
+use Rattle.tables.specs.Right.{Tops, Complemented}
 use borrow.Author.Needs.{needs}
 
 abbrev Inv-loop : tie.InvT-loop
-Inv-loop s n found₀ o₀ found o = (o ≤ n) × (found ≤ o) × (found ≡ howMany (lone (sheetOf s)) o)
+Inv-loop s tops complements n found₀ o₀ found o =
+    (o ≤ n) × (found ≤ o) × (Tops (sheetOf s) tops → Complemented (sheetOf s) complements → found ≡ howMany (lone (sheetOf s)) o)
 
 abbrev μ-loop : tie.MeasureT-loop
-μ-loop s n found₀ o₀ found o = n - o
+μ-loop s tops complements n found₀ o₀ found o = n - o
 
 count-requires : tie.Need-count-requires Inv-loop μ-loop
 count-requires c κs = search needs
 
 loop-holds : tie.Need-loop-holds Inv-loop μ-loop
 unfolding howMany
-loop-holds c = (search needs, search needs, refl)
+loop-holds c = (search needs, search needs, λ tops complements. refl)
 
-lone-requires : tie.Need-lone-requires Inv-loop μ-loop
-lone-requires c κs = search needs
+lone-by-requires : tie.Need-lone-by-requires Inv-loop μ-loop
+lone-by-requires c κs = search needs
 
 one-requires : tie.Need-one-requires Inv-loop μ-loop
 one-requires c κs = search needs
@@ -45,14 +47,14 @@ unfolding howMany
 loop-again c = (
   search needs,
   omega (arith, c .one .ensures .1),
-  rw (add-one, c .before .before .before .loop .inv .2, c .one .ensures .0, c .before .lone .ensures),
+  λ tops complements. rw (add-one, c .before .before .before .loop .inv .2 tops complements, c .one .ensures .0, c .before .lone-by .ensures tops complements),
 )
 
 returns : tie.Need-returns Inv-loop μ-loop
 unfolding loneObjects
 returns c =
     let e : c .before .loop .o ≡ c .before .before .count .result = omega arith in
-    c .before .loop .inv .2 ∙ ap (howMany _) (e ∙ c .before .before .count .ensures)
+    λ tops complements. c .before .loop .inv .2 tops complements ∙ ap (howMany _) (e ∙ c .before .before .count .ensures)
 
 pub lone-objects-spec : {M : Type 1} → statement M
 lone-objects-spec =
@@ -62,7 +64,7 @@ lone-objects-spec =
     μ-loop
     count-requires
     loop-holds
-    lone-requires
+    lone-by-requires
     one-requires
     add-found
     add-o

@@ -7,22 +7,24 @@ use Rattle.profile.specs.Counting.{sum}
 use Rattle.sheet.specs.Layout.{count}
 use Rattle.profile.specs.Relations.{share, countedTracks}
 use Rattle.sheet.specs.Words.{sheetOf}
-use Rattle.relations.proofs.sizes.counted_tracks.Statement.{statement}
-use Rattle.relations.proofs.sizes.counted_tracks.Tie as tie
+use Rattle.tables.proofs.totals.counted_tracks.Statement.{statement}
+use Rattle.tables.proofs.totals.counted_tracks.Tie as tie
+use Rattle.tables.specs.Right.{Tops, Complemented}
 use borrow.Author.Needs.{needs}
 
 abbrev Inv-loop : tie.InvT-loop
-Inv-loop s n total₀ o₀ total o = (o ≤ n) × (total ≤ 4294967295 * o) × (total ≡ sum (share (sheetOf s)) o)
+Inv-loop s tops complements n total₀ o₀ total o =
+    (o ≤ n) × (total ≤ 4294967295 * o) × (Tops (sheetOf s) tops → Complemented (sheetOf s) complements → total ≡ sum (share (sheetOf s)) o)
 
 abbrev μ-loop : tie.MeasureT-loop
-μ-loop s n total₀ o₀ total o = n - o
+μ-loop s tops complements n total₀ o₀ total o = n - o
 
 count-requires : tie.Need-count-requires Inv-loop μ-loop
 count-requires c κs = search needs
 
 loop-holds : tie.Need-loop-holds Inv-loop μ-loop
 unfolding sum
-loop-holds c = (search needs, search needs, refl)
+loop-holds c = (search needs, search needs, λ tops complements. refl)
 
 share-requires : tie.Need-share-requires Inv-loop μ-loop
 share-requires c κs = search needs
@@ -44,14 +46,14 @@ unfolding sum
 loop-again c = (
   search needs,
   omega arith,
-  rw (add-one, c .before .before .loop .inv .2, c .share .ensures),
+  λ tops complements. rw (add-one, c .before .before .loop .inv .2 tops complements, c .share .ensures tops complements),
 )
 
 returns : tie.Need-returns Inv-loop μ-loop
 unfolding countedTracks
 returns c =
     let e : c .before .loop .o ≡ c .before .before .count .result = omega arith in
-    c .before .loop .inv .2 ∙ ap (sum _) (e ∙ c .before .before .count .ensures)
+    λ tops complements. c .before .loop .inv .2 tops complements ∙ ap (sum _) (e ∙ c .before .before .count .ensures)
 
 pub counted-tracks-spec : {M : Type 1} → statement M
 counted-tracks-spec =

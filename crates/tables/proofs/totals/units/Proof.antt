@@ -1,9 +1,9 @@
 -- Groups and lone objects. Assumes nothing.
 use Rattle.profile.specs.Relations.{units}
 use Rattle.relations.specs.Sizes.{loneObjects}
 use borrow.Author.Needs.{needs}
-use Rattle.relations.proofs.sizes.units.Statement.{statement}
-use Rattle.relations.proofs.sizes.units.Tie as tie
+use Rattle.tables.proofs.totals.units.Statement.{statement}
+use Rattle.tables.proofs.totals.units.Tie as tie
 
 groups-requires : tie.Need-groups-requires
 groups-requires c κs = search needs
@@ -22,7 +22,7 @@ add-result c = search needs
 
 returns : tie.Need-returns
 unfolding units loneObjects
-returns c = simp (c .lone-objects .ensures, c .before .groups .ensures)
+returns c = λ tops complements. simp (c .lone-objects .ensures tops complements, c .before .groups .ensures)
 
 pub units-spec : {M : Type 1} → statement M
 units-spec =
