@@ -1,1 +1,2 @@
 mod SubjectLaws
+mod SearchLaws

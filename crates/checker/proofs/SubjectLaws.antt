@@ -1,5 +1,5 @@
 -- The tables of rules and subjects past their ends. Assumes nothing.
-use Prim.Native.Nat.{ℕ, zero, suc, _+_, _/_, _%_, _<_, _≤_}
+use Prim.Native.Nat.{zero-le, ℕ, zero, suc, _+_, _/_, _%_, _<_, _≤_}
 use mathlib.Core.Path.{_≡_, refl, sym, ap, _∙_}
 use mathlib.Core.Bool.{Bool, true, false, not}
 use mathlib.Core.List.{List, [], _∷_}
@@ -8,10 +8,10 @@ use mathlib.Core.Logic.{⊎-elim}
 use native.Mathlib.Nat.{le-trans, eq-or-lt-of-le, eq-zero-or-pos}
 use lib.Dec.{eqb, ltb, leb}
 use lib.ListN.{length, getD, List·getD-eq-default}
-use borrow.Author.Tests.{ltb-true, ltb-false, leb-true, eqb-true, not-false}
+use borrow.Author.Tests.{le-ltb, ltb-true, ltb-false, leb-true, eqb-true, not-false}
 use Rattle.sheet.specs.Words.{Sheet}
 use Rattle.profile.specs.Counting.{any, every}
-use Rattle.profile.specs.Verdict.{breaks, rules, subjectTable, subjectKind}
+use Rattle.profile.specs.Verdict.{breaks, rules, subjectTable, subjectKind, subjects, brokenRecord, sectionBroken}
 use Rattle.profile.proofs.CountingLaws.{any-none}
 use Rattle.profile.proofs.ListLaws.{every-at}
 use Rattle.checker.specs.Rows.{digit, subjectRows, subjectRow, subjectsOf}
@@ -116,3 +116,10 @@ module _ (rule section row : ℕ) (rest : Rest rule section row) where
   pub rest-next : Rest rule (section + 1) (row / 4)
   unfolding digit
   rest-next i l = let z : section + suc i ≡ section + 1 + i = omega arith in rest (suc i) (omega arith) ∙ ap (λ (n : ℕ). subjectKind rule n) z
+
+-- a section without subjects is not broken
+pub no-subject : (s : Sheet) (rule section kind n : ℕ) → kind ≡ subjectKind rule section → n ≡ subjectsOf s section kind → n ≡ 0 → false ≡ sectionBroken s rule section
+unfolding sectionBroken subjects subjectsOf
+no-subject s rule section kind n e f z =
+    let g : subjects s rule section ≡ 0 = ap (subjectsOf s section) (sym e) ∙ sym f ∙ z in
+    sym (ap (ltb (brokenRecord s rule section)) g ∙ le-ltb (brokenRecord s rule section) 0 zero-le)

@@ -24,7 +24,10 @@ use rules::totals::rule23;
 use rules::totals::rule24;
 use rules::words::rule6;
 use sheet::layout::count;
+use tables::marks::mark_included;
+ghost use lib.ListN.{length};
 ghost use mathlib.Core.Path.{_≡_};
+ghost use Rattle.checker.specs.Tables.{TablesRight};
 ghost use Rattle.checker.specs.Rows.{subjectRow, subjectsOf};
 ghost use Rattle.profile.specs.Verdict.{breaks};
 ghost use Rattle.sheet.specs.Words.{sheetOf};
@@ -74,9 +77,22 @@ pub fn subjects(s: &[u8], section: u8, kind: u16) -> u16
     }
 }
 
-// Whether a record of a section breaks a rule.
-pub fn breaks(s: &[u8], rule: u8, section: u8, k: u16) -> bool
-    ensures { λ r. ⌜ r ≡ breaks (sheetOf (now (s .entry))) rule section k ⌝ }
+// Whether a record of a section breaks a rule. `marks` is written for the rules about a programme.
+pub fn breaks(
+    s: &[u8],
+    named: &[u16],
+    spanned: &[u16],
+    listed: &[u16],
+    tops: &[u16],
+    complements: &[u16],
+    owners: &[u16],
+    leaders: &[u16],
+    marks: &mut [u16],
+    rule: u8,
+    section: u8,
+    k: u16,
+) -> bool
+    ensures { λ r. ⌜ (length (now (marks .exit)) ≡ length (now (marks .entry))) × (TablesRight (sheetOf (now (s .entry))) (now (named .entry)) (now (spanned .entry)) (now (listed .entry)) (now (tops .entry)) (now (complements .entry)) (now (owners .entry)) (now (leaders .entry)) → r ≡ breaks (sheetOf (now (s .entry))) rule section k) ⌝ }
 {
     match rule {
         1 => rule1(s, section, k),
@@ -89,20 +105,26 @@ pub fn breaks(s: &[u8], rule: u8, section: u8, k: u16) -> bool
         8 => rule8(s, section, k),
         9 => rule9(s, section, k),
         10 => rule10(s, section, k),
-        11 => rule11(s, section, k),
-        12 => rule12(s, section, k),
+        11 => rule11(s, named, spanned, section, k),
+        12 => rule12(s, listed, section, k),
         13 => rule13(s, section, k),
         14 => rule14(s, section, k),
-        15 => rule15(s, section, k),
+        15 => rule15(s, tops, section, k),
         16 => rule16(s, section, k),
-        17 => rule17(s, section, k),
-        18 => rule18(s, section, k),
-        19 => rule19(s, section, k),
+        17 => rule17(s, owners, section, k),
+        18 => rule18(s, owners, section, k),
+        19 => rule19(s, tops, complements, section, k),
         20 => rule20(s, section, k),
-        21 => rule21(s, section, k),
-        22 => rule22(s, section, k),
-        23 => rule23(s, section, k),
-        24 => rule24(s, section, k),
+        21 => {
+            mark_included(s, k, marks);
+            rule21(s, marks, section, k)
+        },
+        22 => {
+            mark_included(s, k, marks);
+            rule22(s, owners, leaders, marks, section, k)
+        },
+        23 => rule23(s, tops, complements, section, k),
+        24 => rule24(s, tops, complements, section, k),
         _ => false,
     }
 }

@@ -1,29 +1,48 @@
--- The first broken rule with its place, or acceptance. Assumes nothing.
-use native.Mathlib.Numerals.{add-one}
-use borrow.Author.Tests.{lt-ltb, le-ltb}
-use Rattle.profile.specs.Verdict.{verdict}
+-- The first ten rules, then the others. Assumes nothing.
+use mathlib.Core.Path.{_≡_, sym, _∙_}
+use Rattle.sheet.specs.Words.{sheetOf}
 use Rattle.checker.specs.Checked.{checked}
+use Rattle.checker.proofs.SearchLaws.{early-broken, early-none, judged-all, none-before}
 use borrow.Author.Needs.{needs}
 use Rattle.checker.proofs.search.check.Statement.{statement}
 use Rattle.checker.proofs.search.check.Tie as tie
 
-broken-rule-requires : tie.Need-broken-rule-requires
-broken-rule-requires c κs = search needs
+judge-plainly-requires : tie.Need-judge-plainly-requires
+judge-plainly-requires c κs = search needs
 
-add-broken-at : tie.Need-add-broken-at
-add-broken-at c = search needs
+enum-known-first : tie.Need-enum-known-first
+enum-known-first c = search needs
 
-broken-at-requires : tie.Need-broken-at-requires
-broken-at-requires c κs = search needs
+enum-told : tie.Need-enum-told
+enum-told c = search needs
+
+judge-plainly-requires-2 : tie.Need-judge-plainly-requires-2
+judge-plainly-requires-2 c κs = search needs
+
+judge-by-tables-requires : tie.Need-judge-by-tables-requires
+judge-by-tables-requires c κs = search needs
 
 returns : tie.Need-returns
-unfolding checked verdict
-returns c = simp (← c .before .before .broken-rule .ensures .0, lt-ltb _ _ (c .before .if1 .taken), c .broken-at .ensures, add-one)
+unfolding checked
+returns c = early-broken (sheetOf (c .before .before .before .before .before .args .sheet .now)) _ _ (sym (c .before .first .given .1) ∙ c .before .before .before .judge-plainly .ensures (none-before (sheetOf (c .before .before .before .before .before .args .sheet .now))))
 
 returns-2 : tie.Need-returns-2
-unfolding checked verdict
-returns-2 c = simp (← c .before .broken-rule .ensures .0, le-ltb _ _ (c .if1 .left))
+unfolding checked
+returns-2 c = c .judge-plainly2 .ensures (early-none (sheetOf (c .before .before .before .before .before .before .args .sheet .now)) (sym (c .before .before .enum-told .given .1) ∙ c .before .before .before .before .judge-plainly .ensures (none-before (sheetOf (c .before .before .before .before .before .before .args .sheet .now))))) ∙ judged-all (sheetOf (c .before .before .before .before .before .before .args .sheet .now))
+
+returns-3 : tie.Need-returns-3
+unfolding checked
+returns-3 c = c .judge-by-tables .ensures (early-none (sheetOf (c .before .before .before .before .before .before .args .sheet .now)) (sym (c .before .before .enum-told .given .1) ∙ c .before .before .before .before .judge-plainly .ensures (none-before (sheetOf (c .before .before .before .before .before .before .args .sheet .now))))) ∙ judged-all (sheetOf (c .before .before .before .before .before .before .args .sheet .now))
 
 pub check-spec : {M : Type 1} → statement M
 check-spec =
-    tie.close (tie.spec broken-rule-requires add-broken-at broken-at-requires returns returns-2)
+    tie.close
+    (tie.spec
+    judge-plainly-requires
+    enum-known-first
+    enum-told
+    judge-plainly-requires-2
+    judge-by-tables-requires
+    returns
+    returns-2
+    returns-3)

@@ -1,6 +1,8 @@
 -- Each rule by its number. Assumes nothing.
+use mathlib.Core.Path.{refl}
 use Rattle.profile.specs.Verdict.{breaks, rules}
-use Rattle.checker.proofs.SubjectLaws.{no-rule, above}
+use Rattle.checker.specs.Tables.{TablesRight}
+use Rattle.checker.proofs.SubjectLaws.{above, no-rule}
 use borrow.Author.Needs.{needs}
 use Rattle.checker.proofs.subjects.breaks.Statement.{statement}
 use Rattle.checker.proofs.subjects.breaks.Tie as tie
@@ -65,8 +67,14 @@ rule19-requires c κs = search needs
 rule20-requires : tie.Need-rule20-requires
 rule20-requires c κs = search needs
 
+mark-included-requires : tie.Need-mark-included-requires
+mark-included-requires c κs = search needs
+
 rule21-requires : tie.Need-rule21-requires
 rule21-requires c κs = search needs
+
+mark-included-requires-2 : tie.Need-mark-included-requires-2
+mark-included-requires-2 c κs = search needs
 
 rule22-requires : tie.Need-rule22-requires
 rule22-requires c κs = search needs
@@ -79,102 +87,108 @@ rule24-requires c κs = search needs
 
 returns : tie.Need-returns
 unfolding breaks rules
-returns c = simp (c .rule1 .ensures, c .before .match .keys1)
+returns c = (refl, λ right. simp (c .rule1 .ensures, c .before .match .keys1))
 
 returns-2 : tie.Need-returns-2
 unfolding breaks rules
-returns-2 c = simp (c .rule2 .ensures, c .before .match .keys2)
+returns-2 c = (refl, λ right. simp (c .rule2 .ensures, c .before .match .keys2))
 
 returns-3 : tie.Need-returns-3
 unfolding breaks rules
-returns-3 c = simp (c .rule3 .ensures, c .before .match .keys3)
+returns-3 c = (refl, λ right. simp (c .rule3 .ensures, c .before .match .keys3))
 
 returns-4 : tie.Need-returns-4
 unfolding breaks rules
-returns-4 c = simp (c .rule4 .ensures, c .before .match .keys4)
+returns-4 c = (refl, λ right. simp (c .rule4 .ensures, c .before .match .keys4))
 
 returns-5 : tie.Need-returns-5
 unfolding breaks rules
-returns-5 c = simp (c .rule5 .ensures, c .before .match .keys5)
+returns-5 c = (refl, λ right. simp (c .rule5 .ensures, c .before .match .keys5))
 
 returns-6 : tie.Need-returns-6
 unfolding breaks rules
-returns-6 c = simp (c .rule6 .ensures, c .before .match .keys6)
+returns-6 c = (refl, λ right. simp (c .rule6 .ensures, c .before .match .keys6))
 
 returns-7 : tie.Need-returns-7
 unfolding breaks rules
-returns-7 c = simp (c .rule7 .ensures, c .before .match .keys7)
+returns-7 c = (refl, λ right. simp (c .rule7 .ensures, c .before .match .keys7))
 
 returns-8 : tie.Need-returns-8
 unfolding breaks rules
-returns-8 c = simp (c .rule8 .ensures, c .before .match .keys8)
+returns-8 c = (refl, λ right. simp (c .rule8 .ensures, c .before .match .keys8))
 
 returns-9 : tie.Need-returns-9
 unfolding breaks rules
-returns-9 c = simp (c .rule9 .ensures, c .before .match .keys9)
+returns-9 c = (refl, λ right. simp (c .rule9 .ensures, c .before .match .keys9))
 
 returns-10 : tie.Need-returns-10
 unfolding breaks rules
-returns-10 c = simp (c .rule10 .ensures, c .before .match .keys10)
+returns-10 c = (refl, λ right. simp (c .rule10 .ensures, c .before .match .keys10))
 
 returns-11 : tie.Need-returns-11
 unfolding breaks rules
-returns-11 c = simp (c .rule11 .ensures, c .before .match .keys11)
+returns-11 c = (refl, λ right. simp (c .rule11 .ensures (right .named-right) (right .spanned-right), c .before .match .keys11))
 
 returns-12 : tie.Need-returns-12
 unfolding breaks rules
-returns-12 c = simp (c .rule12 .ensures, c .before .match .keys12)
+returns-12 c = (refl, λ right. simp (c .rule12 .ensures (right .listed-right), c .before .match .keys12))
 
 returns-13 : tie.Need-returns-13
 unfolding breaks rules
-returns-13 c = simp (c .rule13 .ensures, c .before .match .keys13)
+returns-13 c = (refl, λ right. simp (c .rule13 .ensures, c .before .match .keys13))
 
 returns-14 : tie.Need-returns-14
 unfolding breaks rules
-returns-14 c = simp (c .rule14 .ensures, c .before .match .keys14)
+returns-14 c = (refl, λ right. simp (c .rule14 .ensures, c .before .match .keys14))
 
 returns-15 : tie.Need-returns-15
 unfolding breaks rules
-returns-15 c = simp (c .rule15 .ensures, c .before .match .keys15)
+returns-15 c = (refl, λ right. simp (c .rule15 .ensures (right .tops-right), c .before .match .keys15))
 
 returns-16 : tie.Need-returns-16
 unfolding breaks rules
-returns-16 c = simp (c .rule16 .ensures, c .before .match .keys16)
+returns-16 c = (refl, λ right. simp (c .rule16 .ensures, c .before .match .keys16))
 
 returns-17 : tie.Need-returns-17
 unfolding breaks rules
-returns-17 c = simp (c .rule17 .ensures, c .before .match .keys17)
+returns-17 c = (refl, λ right. simp (c .rule17 .ensures (right .owners-right), c .before .match .keys17))
 
 returns-18 : tie.Need-returns-18
 unfolding breaks rules
-returns-18 c = simp (c .rule18 .ensures, c .before .match .keys18)
+returns-18 c = (refl, λ right. simp (c .rule18 .ensures (right .owners-right), c .before .match .keys18))
 
 returns-19 : tie.Need-returns-19
 unfolding breaks rules
-returns-19 c = simp (c .rule19 .ensures, c .before .match .keys19)
+returns-19 c = (refl, λ right. simp (c .rule19 .ensures (right .tops-right) (right .complements-right), c .before .match .keys19))
 
 returns-20 : tie.Need-returns-20
 unfolding breaks rules
-returns-20 c = simp (c .rule20 .ensures, c .before .match .keys20)
+returns-20 c = (refl, λ right. simp (c .rule20 .ensures, c .before .match .keys20))
+
+same-length : tie.Need-same-length
+same-length c = c .before .before .before .before .mark-included .ensures .0
 
 returns-21 : tie.Need-returns-21
 unfolding breaks rules
-returns-21 c = simp (c .rule21 .ensures, c .before .match .keys21)
+returns-21 c = (c .before .before .before .before .mark-included .ensures .0, λ right. simp (c .rule21 .ensures (c .before .before .before .before .mark-included .ensures .1), c .before .before .before .before .before .before .match .keys21))
+
+same-length-2 : tie.Need-same-length-2
+same-length-2 c = c .before .before .before .before .mark-included2 .ensures .0
 
 returns-22 : tie.Need-returns-22
 unfolding breaks rules
-returns-22 c = simp (c .rule22 .ensures, c .before .match .keys22)
+returns-22 c = (c .before .before .before .before .mark-included2 .ensures .0, λ right. simp (c .rule22 .ensures (right .owners-right) (right .leaders-right) (c .before .before .before .before .mark-included2 .ensures .1), c .before .before .before .before .before .before .match .keys22))
 
 returns-23 : tie.Need-returns-23
 unfolding breaks rules
-returns-23 c = simp (c .rule23 .ensures, c .before .match .keys23)
+returns-23 c = (refl, λ right. simp (c .rule23 .ensures (right .tops-right) (right .complements-right), c .before .match .keys23))
 
 returns-24 : tie.Need-returns-24
 unfolding breaks rules
-returns-24 c = simp (c .rule24 .ensures, c .before .match .keys24)
+returns-24 c = (refl, λ right. simp (c .rule24 .ensures (right .tops-right) (right .complements-right), c .before .match .keys24))
 
 returns-25 : tie.Need-returns-25
-returns-25 c = no-rule _ _ _ _ (λ h. above _ 24 h (c .match .rest))
+returns-25 c = (refl, λ right. no-rule _ _ _ _ (λ h. above _ 24 h (c .match .rest)))
 
 pub breaks-spec : {M : Type 1} → statement M
 breaks-spec =
@@ -200,7 +214,9 @@ breaks-spec =
     rule18-requires
     rule19-requires
     rule20-requires
+    mark-included-requires
     rule21-requires
+    mark-included-requires-2
     rule22-requires
     rule23-requires
     rule24-requires
@@ -224,7 +240,9 @@ breaks-spec =
     returns-18
     returns-19
     returns-20
+    same-length
     returns-21
+    same-length-2
     returns-22
     returns-23
     returns-24
