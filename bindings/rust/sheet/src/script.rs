@@ -30,6 +30,6 @@ pub use player::{answers, Player};
 /// The gain of silence, in scripts and answers.
 const SILENCE: &str = "silence";
 /// The most words that a line may list into.
-const MOST_WORDS: usize = 64;
+pub const MOST_WORDS: usize = 64;
 /// The words of a buffer before it is listed into.
 const UNTOUCHED: u16 = 65535;

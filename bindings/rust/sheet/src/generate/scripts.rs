@@ -5,7 +5,7 @@ use super::calls::{changed_state, random_call};
 use super::random::Random;
 use super::RandomSheets;
 use crate::build::{word, Plan};
-use crate::script::{Line, Player};
+use crate::script::{Line, Player, MOST_WORDS};
 use crate::second::listener::State;
 
 /// A script, its sheet, and what the second listener answers.
@@ -40,7 +40,8 @@ impl RandomScripts {
         RandomScripts { random: Random::new(seed), sheets: RandomSheets::new(seed) }
     }
 
-    /// Calls on an opened sheet; state and listing are asked for after each.
+    /// Calls on an opened sheet; state and listing are asked for after each, and at the end a
+    /// listing into few or many words.
     fn after_opening(&mut self) -> Script {
         let plan = random_plan(&mut self.random);
         let sheet = plan.bytes();
@@ -50,6 +51,7 @@ impl RandomScripts {
             writer.opening_or_call();
             writer.state_and_listing();
         }
+        writer.listing_into();
         let (lines, answers) = writer.written();
         Script { due: Some(plan), sheet, lines, answers }
     }
@@ -154,12 +156,11 @@ impl<'a> Writer<'a> {
             self.opening_or_call();
         }
         self.write(Line::State);
-        let words = self.few_or_many_words();
-        self.write(Line::ListInto(words));
+        self.listing_into();
     }
 
-    /// A number of words, often just enough for the listing, or one less or more.
-    fn few_or_many_words(&mut self) -> usize {
+    /// A listing into a number of words that is often just enough, or one less or more.
+    fn listing_into(&mut self) {
         let active = self.plan.objects.iter().zip(&self.player.state().objects);
         let entries = active.filter(|(_, state)| state.active).map(|(object, _)| {
             let children = object.children.iter().map(|&child| usize::from(child));
@@ -167,8 +168,10 @@ impl<'a> Writer<'a> {
             object.tracks.len() + tracks.sum::<usize>()
         });
         let enough: usize = entries.sum();
-        let any = self.random.between(0, 64);
-        self.random.pick(&[0, enough.saturating_sub(1), enough, enough, enough + 1, any])
+        let any = self.random.between(0, MOST_WORDS);
+        let words = [0, enough.saturating_sub(1), enough, enough, enough + 1, any];
+        let words = self.random.pick(&words).min(MOST_WORDS);
+        self.write(Line::ListInto(words));
     }
 
     /// Puts the state after some calls on the opened sheet, as it is or with some changes.

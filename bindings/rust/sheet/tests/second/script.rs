@@ -5,7 +5,7 @@ use sheet::build::Plan;
 use sheet::generate::calls::Call;
 use sheet::generate::scripts::RandomScripts;
 use sheet::generate::stored_scripts::sheets::mixed;
-use sheet::script::{answers, read_answers, Line, Said};
+use sheet::script::{answers, read_answers, Line, Met, Said};
 use sheet::second::listener::{ObjectState, State};
 use sheet::second::values::Gain;
 
@@ -131,4 +131,41 @@ fn answers_are_read() {
     ] {
         assert_eq!(read_answers(bad), None, "{bad}");
     }
+}
+
+/// Every call with every answer that document 01 names for it.
+fn all_answers() -> Vec<(Line, Said)> {
+    let calls: [(&str, &[u8]); 6] = [
+        ("open", &[25]),
+        ("programme 0", &[25, 26, 27]),
+        ("object 0", &[25, 26, 28, 29]),
+        ("gain 0 0", &[25, 26, 28, 30, 31]),
+        ("offset 0 0", &[25, 26, 28, 30, 31]),
+        ("list 1", &[25, 26, 32]),
+    ];
+    let mut answers = Vec::new();
+    for (text, refusals) in calls {
+        let line = Line::read(text).expect("a line");
+        answers.push((line, Said::Done));
+        answers.extend(refusals.iter().map(|&number| (line, Said::Refused(number))));
+    }
+    answers
+}
+
+fn are_complete(answers: &[(Line, Said)]) -> bool {
+    let mut met = Met::default();
+    answers.iter().for_each(|(line, said)| met.add(*line, said));
+    assert_eq!(met.calls(), answers.len());
+    met.is_complete()
+}
+
+#[test]
+fn every_answer_and_no_other_is_complete() {
+    let all = all_answers();
+    assert!(are_complete(&all));
+    for left_out in 0..all.len() {
+        assert!(!are_complete(&[&all[..left_out], &all[left_out + 1..]].concat()), "{left_out}");
+    }
+    let other = (Line::Open, Said::Refused(26));
+    assert!(!are_complete(&[&all[..], &[other]].concat()));
 }
