@@ -2,7 +2,7 @@
 
 use super::random::Random;
 use crate::build::{word, Plan, Values, SILENCE};
-use crate::second::listener::{Answer, State};
+use crate::second::listener::{Answer, State, OBJECTS};
 use crate::second::values::Gain;
 
 /// A call that takes a state and hands it back.
@@ -46,7 +46,10 @@ pub fn random_call(random: &mut Random, plan: &Plan) -> Call {
 
 /// A state with one word or flag changed, mostly to one that isn't sound.
 pub fn changed_state(random: &mut Random, plan: &Plan, mut state: State) -> State {
-    let number_of_object = random.below(plan.objects.len() + 2).min(state.objects.len() - 1);
+    let number_of_object = match random.chance(10) {
+        true => OBJECTS - 1 - random.below(2),
+        false => random.below(plan.objects.len() + 2).min(OBJECTS - 1),
+    };
     let object = &mut state.objects[number_of_object];
     match random.below(4) {
         0 => state.programme = number(random, plan.programmes.len()).into(),
