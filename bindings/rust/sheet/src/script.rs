@@ -15,7 +15,9 @@
 //! anything else                                   ?
 //! ```
 //!
-//! N is 0 to 65535, V and W are -32768 to 32767, and a gain may be `silence`.
+//! N is 0 to 65535, V and W are -32768 to 32767, and a gain may be `silence`. Words stand between
+//! spaces and tabs. A carriage return at the end of a line is no part of it, and a line of over 256
+//! bytes has no meaning.
 
 mod answers;
 mod line;
@@ -25,7 +27,7 @@ mod player;
 pub use answers::{read_answers, Said};
 pub use line::Line;
 pub use met::Met;
-pub use player::{answers, Player};
+pub use player::{answers, lines, Player};
 
 /// The gain of silence, in scripts and answers.
 const SILENCE: &str = "silence";

@@ -8,6 +8,9 @@ use crate::generate::calls::Call;
 use crate::second::listener::{ObjectState, State, OBJECTS};
 use crate::second::values::Gain;
 
+/// The bytes of the longest line that has a meaning.
+const LONGEST_LINE: usize = 256;
+
 /// A line of a script that has a meaning.
 #[derive(Clone, Copy, Debug, PartialEq, Eq)]
 pub enum Line {
@@ -30,7 +33,9 @@ pub enum Line {
 impl Line {
     /// The line that a text stands for, if it stands for one.
     pub fn read(text: &str) -> Option<Line> {
-        let words: Vec<&str> = text.split(' ').collect();
+        let said = Some(text).filter(|text| text.len() <= LONGEST_LINE)?;
+        let said = said.strip_suffix('\r').unwrap_or(said);
+        let words: Vec<&str> = said.split([' ', '\t']).filter(|word| !word.is_empty()).collect();
         Some(match words[..] {
             ["programme", programme] => Line::Call(Call::ChooseProgramme(number(programme)?)),
             ["object", object] => Line::Call(Call::ChooseObject(number(object)?)),
@@ -90,7 +95,8 @@ impl fmt::Display for Line {
     }
 }
 
-/// A number in base ten: digits, with a minus before them where the type has negative numbers.
+/// A number in base ten: digits, leading zeros among them, with a minus before them where the type
+/// has negative numbers.
 pub(super) fn number<T: FromStr>(text: &str) -> Option<T> {
     text.parse().ok().filter(|_| !text.starts_with('+'))
 }

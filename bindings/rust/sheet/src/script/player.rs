@@ -70,11 +70,16 @@ impl<'a> Player<'a> {
     }
 }
 
+/// The lines of a script. What follows the last line end is a line too, unless it is empty.
+pub fn lines(script: &str) -> impl Iterator<Item = &str> {
+    script.split_terminator('\n')
+}
+
 /// All answers to a script, each with its line end: the opening's, then one for each line.
 pub fn answers(sheet: &[u8], script: &str) -> String {
     let (mut player, opening) = Player::open(sheet);
     let mut answers = opening + "\n";
-    for text in script.lines() {
+    for text in lines(script) {
         let answer = Line::read(text).map(|line| player.answer(&line));
         answers += &answer.unwrap_or_else(|| "?".to_string());
         answers.push('\n');

@@ -69,20 +69,37 @@ fn states_from_elsewhere() {
 
 #[test]
 fn lines_without_a_meaning() {
-    let odd = [
-        "",
-        " list",
-        "list ",
-        "list  3",
-        "Open",
-        "programme +1",
-        "programme 65536",
-        "gain 0 32768",
-    ];
-    for text in odd {
+    let odd = ["", " ", "\t", "\r", "Open", "list\r ", "list\r\r", "list\0", "lis t"];
+    let numbers = ["programme +1", "programme 65536", "object -0", "gain 0 32768", "gain 0 --1"];
+    for text in odd.into_iter().chain(numbers) {
         assert_eq!(Line::read(text), None, "{text}");
     }
     assert_answers(mixed(), &["", "list"], &["done", "?", "tracks 0 2 1"]);
+}
+
+#[test]
+fn blanks_zeros_and_long_lines() {
+    for text in ["list", " list", "list ", "\t list\t", "list\r", " list \r"] {
+        assert_eq!(Line::read(text), Some(Line::List), "{text}");
+    }
+    assert_eq!(Line::read("list  \t 0003"), Some(Line::ListInto(3)));
+    let offset = |value| Some(Line::Call(Call::SetOffset(0, value)));
+    assert_eq!(
+        [Line::read("offset 00 -0"), Line::read("offset 0 -00060")],
+        [offset(0), offset(-60)]
+    );
+    assert_eq!(Line::read(&format!("list{:252}", "")), Some(Line::List));
+    assert_eq!(Line::read(&format!("list{:253}", "")), None);
+}
+
+#[test]
+fn the_last_line_may_lack_its_end() {
+    let sheet = mixed().bytes();
+    for script in ["list\nlist", "list\nlist\n", "list\r\nlist\r\n"] {
+        assert_eq!(answers(&sheet, script), "done\ntracks 0 2 1\ntracks 0 2 1\n");
+    }
+    assert_eq!(answers(&sheet, ""), "done\n");
+    assert_eq!(answers(&sheet, "\n"), "done\n?\n");
 }
 
 #[test]

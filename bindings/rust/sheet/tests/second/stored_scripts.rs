@@ -5,7 +5,7 @@ use std::path::Path;
 use std::{fs, iter};
 
 use sheet::generate::stored_scripts::{expected, scripts, sheet_files};
-use sheet::script::{answers, read_answers, Line, Met, Said};
+use sheet::script::{answers, lines, read_answers, Line, Met, Said};
 use sheet::second::{check, Verdict};
 
 #[test]
@@ -33,9 +33,9 @@ fn every_call_meets_every_answer() {
     for script in scripts() {
         let said = read_answers(&answers(&sheets[&script.sheet], &script.text));
         let said = said.expect("the answers can be read");
-        let lines = iter::once(Some(Line::Open)).chain(script.text.lines().map(Line::read));
-        assert_eq!(said.len(), lines.clone().count(), "{}", script.name);
-        for (line, said) in lines.zip(&said) {
+        let read: Vec<Option<Line>> = lines(&script.text).map(Line::read).collect();
+        assert_eq!(said.len(), 1 + read.len(), "{}", script.name);
+        for (line, said) in iter::once(Some(Line::Open)).chain(read).zip(&said) {
             assert_eq!(line.is_none(), *said == Said::NotUnderstood, "{}", script.name);
             line.into_iter().for_each(|line| met.add(line, said));
             odd_lines += usize::from(line.is_none());

@@ -9,8 +9,70 @@ pub fn scripts() -> Vec<StoredScript> {
         script("mixed", "numbers-out-of-range", &NUMBERS),
         script("mixed", "no-numbers", &NO_NUMBERS),
         script("mixed", "puts-without-a-meaning", &PUTS),
+        script("mixed", "blanks-and-carriage-returns", &BLANKS),
+        script("mixed", "signs-and-leading-zeros", &SIGNS_AND_ZEROS),
+        script("mixed", "long-lines", &long_lines()),
+        without_last_end(script(
+            "mixed",
+            "last-line-without-its-end",
+            &["list", "programme 1", "list"],
+        )),
     ]
 }
+
+fn without_last_end(script: StoredScript) -> StoredScript {
+    let text = script.text.trim_end().to_string();
+    StoredScript { text, ..script }
+}
+
+/// A line may have 256 bytes.
+fn long_lines() -> Vec<String> {
+    let padded = |line: &str, bytes: usize| format!("{line:bytes$}");
+    vec![
+        padded("list", 256),
+        padded("list", 257),
+        padded("", 256),
+        padded("", 257),
+        format!("programme {:0246}", 1),
+        format!("programme {:0247}", 2),
+        "list ".repeat(1000),
+        "state".to_string(),
+    ]
+}
+
+const BLANKS: [&str; 14] = [
+    " ",
+    "\t",
+    "\r",
+    " list",
+    "list ",
+    "\tlist\t\t",
+    "list\r",
+    " list \r",
+    "list\r ",
+    "list\r\r",
+    "list\0",
+    "object  \t 2",
+    "gain\t0\tsilence",
+    "state",
+];
+
+const SIGNS_AND_ZEROS: [&str; 14] = [
+    "programme +1",
+    "programme -0",
+    "object 002",
+    "object 000065536",
+    "gain 0 -0",
+    "gain 0 -00060",
+    "gain 0 --1",
+    "gain 0 +5",
+    "gain 0 5-",
+    "gain 0 - 5",
+    "offset 0 000000000000000000000000",
+    "offset 0 0x1",
+    "list 003",
+    "state",
+];
 
 const UNKNOWN_WORDS: [&str; 8] =
     ["", "play", "Programme 1", "programmes 1", "lists", "LIST", "state", "list"];
