@@ -1,3 +1,8 @@
-// What the programs share: reading to the end of an input, and a verdict's line.
+// What the programs share: reading files, lines and their fields, numbers, commands of the listening bench, and the lines of answers.
+pub mod answers;
+pub mod bench;
+pub mod commands;
+pub mod lines;
+pub mod numbers;
 pub mod reading;
 pub mod writing;

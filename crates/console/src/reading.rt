@@ -1,4 +1,4 @@
-// Reading a whole input, with an error told from the end.
+// Reading a whole input, with an error told from the end, and the files that arguments name.
 ghost use Rattle.io.specs.Counts.{Counts};
 
 // What reading gave: so many bytes at the start of the buffer, and whether it stopped there because a read failed.
@@ -27,4 +27,40 @@ pub fn read_input(fd: i32, buffer: &mut [u8]) -> Input
         count: n,
         failed: false,
     }
+}
+
+// Reads the file that an argument names. Where that fails, standard error says why.
+pub fn read_argument(i: usize, buffer: &mut [u8]) -> Input
+    ensures { λ r. ⌜ Counts (r .count) (now (buffer .exit)) ⌝ }
+{
+    let mut name = io::buffer();
+    let n = os::arg(i, &mut name);
+    if os::errno() != 0 {
+        os::fail(b"argument");
+        return Input {
+            count: 0,
+            failed: true,
+        };
+    }
+    let fd = os::open_read(&name[..n]);
+    if fd < 0 {
+        os::fail(&name[..n]);
+        return Input {
+            count: 0,
+            failed: true,
+        };
+    }
+    let input = read_input(fd, buffer);
+    if input.failed {
+        os::fail(&name[..n]);
+    }
+    libc::close(fd);
+    input
+}
+
+// Writes an argument as it was given.
+pub fn write_argument(fd: i32, i: usize) {
+    let mut name = io::buffer();
+    let n = os::arg(i, &mut name);
+    io::write_all(fd, &name[..n]);
 }

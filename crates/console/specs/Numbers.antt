@@ -1,0 +1,47 @@
+-- Decimal numbers, as the programs read them from a field of a line. Assumes nothing.
+use Prim.Native.Nat.{ℕ, zero, suc, _+_, _*_, _-_}
+use mathlib.Core.Bool.{Bool, true, false, cond, _&&_}
+use mathlib.Core.List.{List, [], _∷_}
+use lib.Dec.{eqb, leb, ltb}
+use lib.IntN.{ℤ, pos, negsuc}
+use lib.ListN.{length, getD, drop}
+use Rattle.console.specs.declared.numbers.Number.{Number}
+use Rattle.console.specs.declared.numbers.Number.the-variants.{Nothing, Of}
+use Rattle.console.specs.declared.numbers.Tenths.{Tenths}
+use Rattle.console.specs.declared.numbers.Tenths.the-variants as tenths
+
+-- "0" to "9"
+unfoldable pub isDigit : ℕ → Bool
+isDigit b = leb 48 b && leb b 57
+
+unfoldable pub digits : List ℕ → Bool
+digits [] = true
+digits (b ∷ s) = isDigit b && digits s
+
+-- the number that digits stand for, written behind the digits of n
+unfoldable pub value : ℕ → List ℕ → ℕ
+value n [] = n
+value n (b ∷ s) = value (n * 10 + (b - 48)) s
+
+-- the number that a text stands for: nothing where it is no digit string, or above 65535
+unfoldable pub numberOf : List ℕ → Number
+numberOf s = cond (ltb 0 (length s) && digits s && leb (value 0 s) 65535) (Of (value 0 s)) Nothing
+
+-- -n
+abbrev pub minus : ℕ → ℤ
+minus zero = pos 0
+minus (suc n) = negsuc n
+
+-- the number as tenths: nothing above 32767
+unfoldable pub positive : Number → Tenths
+positive Nothing = tenths.Nothing
+positive (Of n) = cond (leb n 32767) (tenths.Of (pos n)) tenths.Nothing
+
+-- the number behind a minus: nothing below -32768
+unfoldable pub negative : Number → Tenths
+negative Nothing = tenths.Nothing
+negative (Of n) = cond (leb n 32768) (tenths.Of (minus n)) tenths.Nothing
+
+-- 45 is the minus
+unfoldable pub tenthsOf : List ℕ → Tenths
+tenthsOf s = cond (eqb (getD s 0 0) 45) (negative (numberOf (drop 1 s))) (positive (numberOf s))

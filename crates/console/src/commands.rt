@@ -1,0 +1,88 @@
+// The commands of the listening bench: a line as a call, or a wish to see the tracks or the state.
+use crate::lines::field;
+use crate::lines::field_count;
+use crate::numbers::Level;
+use crate::numbers::Number;
+use crate::numbers::Tenths;
+use crate::numbers::level_of;
+use crate::numbers::number_of;
+use crate::numbers::tenths_of;
+use values::Gain;
+
+pub enum Command {
+    Programme(u16),
+    Object(u16),
+    Gain(u16, Gain),
+    Offset(u16, i16),
+    List,
+    State,
+    Unknown,
+}
+
+// The command that a line says.
+pub fn command_of(line: &[u8]) -> Command {
+    let n = field_count(line);
+    if n == 1 {
+        return alone(field(line, 0));
+    }
+    if n == 2 {
+        return with_number(field(line, 0), number_of(field(line, 1)));
+    }
+    if n == 3 {
+        return with_value(field(line, 0), number_of(field(line, 1)), field(line, 2));
+    }
+    Command::Unknown
+}
+
+// `list` and `state`.
+fn alone(name: &[u8]) -> Command {
+    if check::same(name, b"list") {
+        return Command::List;
+    }
+    if check::same(name, b"state") {
+        return Command::State;
+    }
+    Command::Unknown
+}
+
+// `programme N` and `object N`.
+fn with_number(name: &[u8], n: Number) -> Command {
+    let Number::Of(k) = n else {
+        return Command::Unknown;
+    };
+    if check::same(name, b"programme") {
+        return Command::Programme(k);
+    }
+    if check::same(name, b"object") {
+        return Command::Object(k);
+    }
+    Command::Unknown
+}
+
+// `gain N V` and `offset N V`.
+fn with_value(name: &[u8], n: Number, value: &[u8]) -> Command {
+    let Number::Of(k) = n else {
+        return Command::Unknown;
+    };
+    if check::same(name, b"gain") {
+        return gain_command(k, level_of(value));
+    }
+    if check::same(name, b"offset") {
+        return offset_command(k, tenths_of(value));
+    }
+    Command::Unknown
+}
+
+fn gain_command(k: u16, value: Level) -> Command {
+    match value {
+        Level::Nothing => Command::Unknown,
+        Level::Of(gain) => Command::Gain(k, gain),
+    }
+}
+
+fn offset_command(k: u16, value: Tenths) -> Command {
+    match value {
+        Tenths::Nothing => Command::Unknown,
+        Tenths::Of(offset) => Command::Offset(k, offset),
+    }
+}
