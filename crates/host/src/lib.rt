@@ -1,2 +1,3 @@
 // The calls for host players in C and Rust, on byte slices and numbers. bindings/c/sheet.h declares them.
 pub mod check;
+pub mod listing;

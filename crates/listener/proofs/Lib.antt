@@ -1,5 +1,4 @@
 mod ListedLaws
-mod WrittenLaws
 mod AndLaws
 mod FillLaws
 pub mod StartLaws
@@ -9,3 +8,5 @@ pub mod ValueLaws
 pub mod ListingLaws
 pub mod EntryLaws
 pub mod Guaranteed
+pub mod WrittenLaws
+pub mod StartedLaws

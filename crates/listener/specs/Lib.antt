@@ -3,6 +3,7 @@ pub mod Programme
 pub mod Sound
 pub mod Calls
 pub mod Listing
+pub mod StartListing
 pub mod Written
 pub mod Run
 pub mod Guarantee

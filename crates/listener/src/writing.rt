@@ -4,18 +4,24 @@ use crate::Listing;
 use crate::Refusal;
 use crate::State;
 use crate::calls::behind;
+use crate::calls::opens;
+use crate::programme::started;
 use crate::settings::active;
 use relations::sizes::children_tracks;
 use sheet::fields::CHILD_LIST;
 use sheet::fields::OBJECTS;
+use sheet::fields::PROGRAMMES;
 use sheet::fields::TRACK_LIST;
+use sheet::layout::count;
 use sheet::layout::entry;
 use sheet::layout::number;
 ghost use Prim.Native.Nat.{_+_, _≤_};
 ghost use lib.ListN.{length};
 ghost use lib.Seq.{sets};
 ghost use mathlib.Core.Path.{_≡_};
-ghost use Rattle.listener.specs.Listing.{buffered, listed};
+ghost use Rattle.listener.specs.Listing.{buffered, listed, listedBy};
+ghost use Rattle.listener.specs.StartListing.{startBuffered, startListed};
+ghost use Rattle.listener.specs.declared.Answer.the-variants.{Refused};
 ghost use Rattle.listener.specs.Written.{childTracks, numberWhen, objectNumber, objectTracks, ownTracks, stateNumber, stateTracks, tracksWhen};
 ghost use Rattle.sheet.specs.Words.{sheetOf};
 
@@ -144,5 +150,37 @@ impl State {
                 entries: 0,
             },
         }
+    }
+}
+
+// A refused listing "gives its number alone".
+fn refused(refusal: Refusal) -> Listing
+    ensures { λ r. ⌜ r ≡ listedBy 0 (Refused refusal) ⌝ }
+{
+    Listing {
+        answer: Answer::Refused(refusal),
+        entries: 0,
+    }
+}
+
+// The listing of a programme's start, without a state: 25, 27 and 32, in this order.
+pub fn list_start(s: &[u8], p: u32, buffer: &mut [u16]) -> Listing
+    ensures { λ r. ⌜ (r ≡ startListed (sheetOf (now (s .entry))) p (length (now (buffer .entry)))) × (now (buffer .exit) ≡ startBuffered (sheetOf (now (s .entry))) p (now (buffer .entry))) ⌝ }
+{
+    if !opens(s) {
+        return refused(Refusal::NotAccepted);
+    }
+    if count(s, PROGRAMMES) as u32 <= p {
+        return refused(Refusal::NoProgramme);
+    }
+    let state = started(s, p as u16);
+    let n = state_number(s, state);
+    if (buffer.len() as u64) < n {
+        return refused(Refusal::TooFewWords);
+    }
+    write_state(s, state, buffer);
+    Listing {
+        answer: Answer::Done,
+        entries: n,
     }
 }
