@@ -5,22 +5,9 @@
 #define _DEFAULT_SOURCE
 #include <stdio.h>
 #include <string.h>
-#include <sys/mman.h>
-#include <unistd.h>
 
 #include "sheet.h"
-
-enum { WORDS = 52, LENGTH = 2 * WORDS, ROOM = 65536 };
-
-static const uint16_t sheet_a[WORDS] = {
-    1, 1, 1, 16, 1, 24, 1, 29, 1, 45, 1, 48, 2, 50, 0, 52,                            /* header */
-    5575, 0, 1, 0, 0, 0, 0, 1,                                                        /* programme */
-    5575, 0, 0, 0, 1,                                                                 /* content */
-    0, 1, 1, 0, 0, 0, 0, 0, 32767, 32767, 32767, 32767, 32767, 32767, 0, 0,           /* object */
-    1, 1, 0,                                                                          /* pack */
-    0, 0,                                                                             /* track */
-    0, 0                                                                              /* references */
-};
+#include "test.h"
 
 /* Where the words that the cases change stand in A. */
 enum {
@@ -58,28 +45,8 @@ static const struct sheet_case cases[] = {
     {"(m) gain silence", LENGTH, 18300000, {{INTERACT, 1}, {GAIN_MINIMUM, -60}, {GAIN_MAXIMUM, 60}, {GAIN, SILENCE}}},
 };
 
-static uint8_t *room; /* ROOM bytes between two unreadable pages */
+static uint8_t *room;
 static int sheets, wrong;
-
-static void set_word(uint8_t *sheet, int word, uint16_t value) {
-    sheet[2 * word] = (uint8_t)(value >> 8);
-    sheet[2 * word + 1] = (uint8_t)value;
-}
-
-static void write_sheet_a(uint8_t *sheet) {
-    for (int word = 0; word < WORDS; word++)
-        set_word(sheet, word, sheet_a[word]);
-}
-
-/* Lays the room out; 0 if the system refuses. */
-static int make_room(void) {
-    size_t page = (size_t)sysconf(_SC_PAGESIZE);
-    uint8_t *all = mmap(NULL, ROOM + 2 * page, PROT_NONE, MAP_PRIVATE | MAP_ANONYMOUS, -1, 0);
-    if (all == MAP_FAILED)
-        return 0;
-    room = all + page;
-    return ROOM % page == 0;
-}
 
 /* Lends the sheet at a place of the room, and compares the answer. */
 static void check_at(uint8_t *place, const char *name, const uint8_t *sheet, size_t length, uint32_t answer) {
@@ -137,7 +104,8 @@ static void check_null(void) {
 }
 
 int main(void) {
-    if (!make_room()) {
+    room = new_room();
+    if (room == NULL) {
         printf("no memory for the test\n");
         return 1;
     }
@@ -145,6 +113,6 @@ int main(void) {
     check_cuts();
     check_long();
     check_null();
-    printf("C test: %d sheets, %d wrong\n", sheets, wrong);
+    printf("C test of sheet_check: %d sheets, %d wrong\n", sheets, wrong);
     return wrong != 0;
 }
