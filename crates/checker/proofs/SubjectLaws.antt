@@ -1,21 +1,23 @@
 -- The tables of rules and subjects past their ends. Assumes nothing.
-use Prim.Native.Nat.{ℕ, zero, suc, _<_, _≤_}
-use mathlib.Core.Path.{_≡_, refl, sym, ap}
+use Prim.Native.Nat.{ℕ, zero, suc, _+_, _/_, _%_, _<_, _≤_}
+use mathlib.Core.Path.{_≡_, refl, sym, ap, _∙_}
 use mathlib.Core.Bool.{Bool, true, false, not}
 use mathlib.Core.List.{List, [], _∷_}
 use native.Mathlib.Omega.{arith}
 use mathlib.Core.Logic.{⊎-elim}
 use native.Mathlib.Nat.{le-trans, eq-or-lt-of-le, eq-zero-or-pos}
-use lib.Dec.{ltb, leb}
+use lib.Dec.{eqb, ltb, leb}
 use lib.ListN.{length, getD, List·getD-eq-default}
-use borrow.Author.Tests.{ltb-true, ltb-false, leb-true, not-false}
+use borrow.Author.Tests.{ltb-true, ltb-false, leb-true, eqb-true, not-false}
 use Rattle.sheet.specs.Words.{Sheet}
-use Rattle.profile.specs.Counting.{any}
+use Rattle.profile.specs.Counting.{any, every}
 use Rattle.profile.specs.Verdict.{breaks, rules, subjectTable, subjectKind}
 use Rattle.profile.proofs.CountingLaws.{any-none}
+use Rattle.profile.proofs.ListLaws.{every-at}
+use Rattle.checker.specs.Rows.{digit, subjectRows, subjectRow, subjectsOf}
 
 -- no rule has a number past 24
-pub past-rows : (rule section : ℕ) → 25 ≤ rule → subjectKind rule section ≡ 0
+past-rows : (rule section : ℕ) → 25 ≤ rule → subjectKind rule section ≡ 0
 unfolding subjectKind
 past-rows rule section h = ap (λ (row : List ℕ). getD row section 0) (rows rule h)
   where
@@ -28,7 +30,7 @@ unfolding any subjectTable
 row-lengths = refl
 
 -- no section has a number past 7
-pub past-columns : (rule section : ℕ) → rule < 25 → 8 ≤ section → subjectKind rule section ≡ 0
+past-columns : (rule section : ℕ) → rule < 25 → 8 ≤ section → subjectKind rule section ≡ 0
 unfolding subjectKind
 past-columns rule section l h =
     List·getD-eq-default (getD subjectTable rule []) 0 {n = section}
@@ -54,9 +56,63 @@ pub above : (n k : ℕ) → 1 ≤ n → NoneOf n k → suc k ≤ n
 above n zero h none = h
 above n (suc k) h none = ⊎-elim (λ e. absurd (none .1 (sym e))) (λ l. l) (eq-or-lt-of-le (above n k h (none .0)))
 
--- an entry of the table that is neither 1 nor 2 stands for no subject
-pub other-kind : (kind n : ℕ) → NoneOf kind 2 → 0 ≡ getD (0 ∷ 1 ∷ n ∷ []) kind 0
-other-kind zero n none = refl
-other-kind (suc zero) n none = absurd (none .0 .1 refl)
-other-kind (suc (suc zero)) n none = absurd (none .1 refl)
-other-kind (suc (suc (suc kind))) n none = refl
+-- a digit that is neither 1 nor 2 stands for no subject
+pub other-kind : (s : Sheet) (section kind : ℕ) → NoneOf kind 2 → 0 ≡ subjectsOf s section kind
+unfolding subjectsOf
+other-kind s section zero none = refl
+other-kind s section (suc zero) none = absurd (none .0 .1 refl)
+other-kind s section (suc (suc zero)) none = absurd (none .1 refl)
+other-kind s section (suc (suc (suc kind))) none = refl
+
+-- the rows are the table's: one test over the whole table
+rows-right : every (λ rule. every (λ i. eqb (digit (subjectRow rule) i) (subjectKind rule i)) 8) 25 ≡ true
+unfolding every digit subjectRow subjectRows subjectKind subjectTable
+rows-right = refl
+
+no-digit : (i : ℕ) → digit 0 i ≡ 0
+unfolding digit
+no-digit zero = refl
+no-digit (suc i) = no-digit i
+
+no-row : (rule : ℕ) → 25 ≤ rule → subjectRow rule ≡ 0
+unfolding subjectRow subjectRows
+no-row rule h = List·getD-eq-default subjectRows 0 {n = rule} h
+
+-- a number that is no rule's has no subjects
+pub empty-row : (rule : ℕ) → (1 ≤ rule → 25 ≤ rule) → 0 ≡ subjectRow rule
+unfolding subjectRow subjectRows
+empty-row zero h = refl
+empty-row (suc rule) h = sym (no-row (suc rule) (h (omega arith)))
+
+pub row-digits : (rule i : ℕ) → i < 8 → digit (subjectRow rule) i ≡ subjectKind rule i
+row-digits rule i l =
+    (elim (ltb rule 25) as (λ t. ltb rule 25 ≡ t → digit (subjectRow rule) i ≡ subjectKind rule i) [
+      | true ↦ λ e. eqb-true _ _ (every-at (λ j. eqb (digit (subjectRow rule) j) (subjectKind rule j)) 8 i (every-at (λ r. every (λ j. eqb (digit (subjectRow r) j) (subjectKind r j)) 8) 25 rule rows-right (ltb-true rule 25 e)) l)
+      | false ↦ λ e. ap (λ (n : ℕ). digit n i) (no-row rule (ltb-false rule 25 e)) ∙ no-digit i ∙ sym (past-rows rule i (ltb-false rule 25 e))
+    ]) refl
+
+-- no section has a number past 7
+pub past-kinds : (rule section : ℕ) → 8 ≤ section → subjectKind rule section ≡ 0
+past-kinds rule section h =
+    (elim (ltb rule 25) as (λ t. ltb rule 25 ≡ t → subjectKind rule section ≡ 0) [
+      | true ↦ λ e. past-columns rule section (ltb-true rule 25 e) h
+      | false ↦ λ e. past-rows rule section (ltb-false rule 25 e)
+    ]) refl
+
+-- what is left of a rule's row has the digits from a section on
+abbrev pub Rest : ℕ → ℕ → ℕ → Type 0
+Rest rule section row = (i : ℕ) → section + i < 8 → digit row i ≡ subjectKind rule (section + i)
+
+pub rest-start : (rule row : ℕ) → row ≡ subjectRow rule → Rest rule 0 row
+rest-start rule row e i l =
+    let z : i ≡ 0 + i = omega arith in
+    ap (λ (n : ℕ). digit n i) e ∙ row-digits rule i (omega arith) ∙ ap (λ (n : ℕ). subjectKind rule n) z
+
+module _ (rule section row : ℕ) (rest : Rest rule section row) where
+  pub rest-kind : section < 8 → row % 4 ≡ subjectKind rule section
+  unfolding digit
+  rest-kind l = let z : section + 0 ≡ section = omega arith in rest 0 (omega arith) ∙ ap (λ (n : ℕ). subjectKind rule n) z
+
+  pub rest-next : Rest rule (section + 1) (row / 4)
+  unfolding digit
+  rest-next i l = let z : section + suc i ≡ section + 1 + i = omega arith in rest (suc i) (omega arith) ∙ ap (λ (n : ℕ). subjectKind rule n) z

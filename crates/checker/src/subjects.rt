@@ -25,56 +25,48 @@ use rules::totals::rule24;
 use rules::words::rule6;
 use sheet::layout::count;
 ghost use mathlib.Core.Path.{_≡_};
-ghost use Rattle.profile.specs.Verdict.{breaks, subjectKind, subjects};
+ghost use Rattle.checker.specs.Rows.{subjectRow, subjectsOf};
+ghost use Rattle.profile.specs.Verdict.{breaks};
 ghost use Rattle.sheet.specs.Words.{sheetOf};
 
-// A row for each rule from 0, which is none, and an entry for each section: 0 no subject, 1 the header or section itself, 2 each record.
-const SUBJECTS: [[u8; 8]; 25] = [
-    [0, 0, 0, 0, 0, 0, 0, 0],
-    [1, 0, 0, 0, 0, 0, 0, 0],
-    [1, 0, 0, 0, 0, 0, 0, 0],
-    [0, 1, 1, 1, 1, 1, 1, 1],
-    [0, 2, 2, 2, 0, 0, 0, 0],
-    [0, 2, 2, 2, 0, 2, 0, 0],
-    [0, 2, 2, 2, 2, 0, 0, 2],
-    [0, 1, 1, 1, 1, 1, 0, 0],
-    [0, 2, 2, 2, 0, 0, 0, 0],
-    [0, 2, 2, 0, 0, 0, 0, 0],
-    [0, 0, 0, 0, 2, 0, 0, 0],
-    [0, 0, 0, 2, 0, 0, 0, 2],
-    [0, 2, 2, 0, 0, 0, 0, 0],
-    [0, 0, 0, 2, 0, 0, 0, 0],
-    [0, 0, 0, 2, 0, 0, 0, 0],
-    [0, 0, 0, 2, 0, 0, 0, 0],
-    [0, 0, 0, 2, 0, 0, 0, 0],
-    [0, 0, 0, 2, 0, 0, 0, 2],
-    [0, 0, 0, 2, 0, 0, 0, 2],
-    [0, 0, 0, 2, 0, 0, 0, 0],
-    [0, 0, 0, 2, 0, 0, 0, 0],
-    [0, 2, 0, 0, 0, 0, 0, 0],
-    [0, 2, 0, 0, 0, 0, 0, 0],
-    [1, 0, 0, 0, 0, 0, 0, 0],
-    [1, 0, 0, 0, 0, 0, 0, 0],
-];
-
-// The entry of the table, 0 where it has none.
-fn subject_kind(rule: u8, section: u8) -> u8
-    ensures { λ r. ⌜ r ≡ subjectKind rule section ⌝ }
+// Which sections have subjects of a rule, in one number: a digit to the base 4 for each section from 0 on, 0 no subject, 1 the header or
+// section itself, 2 each record. A number, since a table would be laid on the stack anew at each call.
+pub fn subject_row(rule: u8) -> u16
+    ensures { λ r. ⌜ r ≡ subjectRow rule ⌝ }
 {
-    let row = rule as usize;
-    let column = section as usize;
-    if row < 25 {
-        if column < 8 { SUBJECTS[row][column] } else { 0 }
-    } else {
-        0
+    match rule {
+        1 => 1,
+        2 => 1,
+        3 => 21844,
+        4 => 168,
+        5 => 2216,
+        6 => 33448,
+        7 => 1364,
+        8 => 168,
+        9 => 40,
+        10 => 512,
+        11 => 32896,
+        12 => 40,
+        13 => 128,
+        14 => 128,
+        15 => 128,
+        16 => 128,
+        17 => 32896,
+        18 => 32896,
+        19 => 128,
+        20 => 128,
+        21 => 8,
+        22 => 8,
+        23 => 1,
+        24 => 1,
+        _ => 0,
     }
 }
 
-// How many records of a section a rule can have as its place.
-pub fn subjects(s: &[u8], rule: u8, section: u8) -> u16
-    ensures { λ r. ⌜ r ≡ subjects (sheetOf (now (s .entry))) rule section ⌝ }
+// How many records of a section a rule can have as its place, by the section's digit.
+pub fn subjects(s: &[u8], section: u8, kind: u16) -> u16
+    ensures { λ r. ⌜ r ≡ subjectsOf (sheetOf (now (s .entry))) section kind ⌝ }
 {
-    let kind = subject_kind(rule, section);
     match kind {
         1 => 1,
         2 => count(s, section),

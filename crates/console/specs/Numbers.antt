@@ -14,6 +14,7 @@ use Rattle.console.specs.declared.numbers.Tenths.the-variants as tenths
 unfoldable pub isDigit : ℕ → Bool
 isDigit b = leb 48 b && leb b 57
 
+-- digits only
 unfoldable pub digits : List ℕ → Bool
 digits [] = true
 digits (b ∷ s) = isDigit b && digits s
@@ -27,7 +28,7 @@ value n (b ∷ s) = value (n * 10 + (b - 48)) s
 unfoldable pub numberOf : List ℕ → Number
 numberOf s = cond (ltb 0 (length s) && digits s && leb (value 0 s) 65535) (Of (value 0 s)) Nothing
 
--- -n
+-- a number's negative: `negsuc n` is -(n + 1)
 abbrev pub minus : ℕ → ℤ
 minus zero = pos 0
 minus (suc n) = negsuc n

@@ -1,10 +1,12 @@
-// The commands of the listening bench: a line as a call, or a wish to see the tracks or the state.
+// The commands of the listening bench, a line each:
+//     programme N | object N | gain N V | offset N V | list | state
+// N is 0 to 65535, V is -32768 to 32767 tenths, or `silence` for a gain. Any other line is unknown.
 use crate::lines::field;
 use crate::lines::field_count;
-use crate::numbers::Level;
+use crate::numbers::GainValue;
 use crate::numbers::Number;
 use crate::numbers::Tenths;
-use crate::numbers::level_of;
+use crate::numbers::gain_value_of;
 use crate::numbers::number_of;
 use crate::numbers::tenths_of;
 use values::Gain;
@@ -65,7 +67,7 @@ fn with_value(name: &[u8], n: Number, value: &[u8]) -> Command {
         return Command::Unknown;
     };
     if check::same(name, b"gain") {
-        return gain_command(k, level_of(value));
+        return gain_command(k, gain_value_of(value));
     }
     if check::same(name, b"offset") {
         return offset_command(k, tenths_of(value));
@@ -73,10 +75,10 @@ fn with_value(name: &[u8], n: Number, value: &[u8]) -> Command {
     Command::Unknown
 }
 
-fn gain_command(k: u16, value: Level) -> Command {
+fn gain_command(k: u16, value: GainValue) -> Command {
     match value {
-        Level::Nothing => Command::Unknown,
-        Level::Of(gain) => Command::Gain(k, gain),
+        GainValue::Nothing => Command::Unknown,
+        GainValue::Of(gain) => Command::Gain(k, gain),
     }
 }
 

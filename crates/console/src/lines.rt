@@ -3,6 +3,9 @@
 // The longest line that can be a command, without its newline.
 const LONGEST: usize = 256;
 
+// The room that a line takes while it is read: one byte more, by which a longer line is known.
+pub const ROOM: usize = LONGEST + 1;
+
 // A part of a text; empty where the text has no such part.
 pub fn part(text: &[u8], start: usize, end: usize) -> &[u8] {
     if start <= end {
@@ -71,11 +74,11 @@ pub fn field_count(line: &[u8]) -> u8 {
 }
 
 // Writes more bytes behind the first `count` of a line, as many as it has room for, and gives the new count.
-pub fn extend(line: &mut [u8; 257], count: usize, more: &[u8]) -> usize {
+pub fn extend(line: &mut [u8; ROOM], count: usize, more: &[u8]) -> usize {
     let mut n = count;
     let mut i = 0;
     while i < more.len() {
-        if n >= 257 {
+        if n >= ROOM {
             return n;
         }
         line[n] = more[i];

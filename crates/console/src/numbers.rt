@@ -14,7 +14,7 @@ pub enum Tenths {
     Of(i16),
 }
 
-pub enum Level {
+pub enum GainValue {
     Nothing,
     Of(Gain),
 }
@@ -97,12 +97,12 @@ pub fn tenths_of(text: &[u8]) -> Tenths
 }
 
 // A gain: `silence`, or a number of tenths. -32768 is that number, which is no legal gain, and not silence.
-pub fn level_of(text: &[u8]) -> Level {
+pub fn gain_value_of(text: &[u8]) -> GainValue {
     if check::same(text, b"silence") {
-        return Level::Of(Gain::Silent);
+        return GainValue::Of(Gain::Silent);
     }
     match tenths_of(text) {
-        Tenths::Nothing => Level::Nothing,
-        Tenths::Of(z) => Level::Of(Gain::Tenths(z)),
+        Tenths::Nothing => GainValue::Nothing,
+        Tenths::Of(z) => GainValue::Of(Gain::Tenths(z)),
     }
 }

@@ -1,8 +1,9 @@
-// The listening bench: `listen FILE` opens a sheet, then answers each line of standard input with a line. See console for the commands.
+// The listening bench: `listen FILE` opens a sheet, then answers each line of standard input. console::commands has the commands.
 use bytes::scan::find;
 use console::bench::obey;
 use console::bench::opened;
 use console::commands::command_of;
+use console::lines::ROOM;
 use console::lines::extend;
 use console::lines::part;
 use console::lines::said;
@@ -23,7 +24,7 @@ fn answer_part(
     sheet: &[u8],
     more: &[u8],
     whole: bool,
-    line: &mut [u8; 257],
+    line: &mut [u8; ROOM],
     bench: Bench,
 ) -> Bench {
     let count = extend(line, bench.count, more);
@@ -45,7 +46,7 @@ fn answer_part(
 }
 
 // Answers the lines that end in what was read, and keeps the rest in the line.
-fn answer_read(sheet: &[u8], read: &[u8], line: &mut [u8; 257], start: Bench) -> Bench {
+fn answer_read(sheet: &[u8], read: &[u8], line: &mut [u8; ROOM], start: Bench) -> Bench {
     let mut bench = start;
     let mut at = 0;
     while at < read.len() {
@@ -57,7 +58,7 @@ fn answer_read(sheet: &[u8], read: &[u8], line: &mut [u8; 257], start: Bench) ->
 }
 
 // At the end of the input a line without a newline is answered, unless it is empty.
-fn answer_last(sheet: &[u8], line: &mut [u8; 257], bench: Bench) -> Bench {
+fn answer_last(sheet: &[u8], line: &mut [u8; ROOM], bench: Bench) -> Bench {
     let last = answer_part(sheet, b"", bench.count > 0, line, bench);
     let state = last.state;
     Bench {
@@ -68,7 +69,7 @@ fn answer_last(sheet: &[u8], line: &mut [u8; 257], bench: Bench) -> Bench {
 }
 
 // Reads what is there, and answers it before more is read.
-fn answer_some(sheet: &[u8], line: &mut [u8; 257], bench: Bench) -> Bench {
+fn answer_some(sheet: &[u8], line: &mut [u8; ROOM], bench: Bench) -> Bench {
     let mut buffer = io::buffer();
     let got = libc::read(STDIN_FILENO, &mut buffer);
     if got < 0 {
@@ -90,7 +91,7 @@ fn answer_some(sheet: &[u8], line: &mut [u8; 257], bench: Bench) -> Bench {
 // Opens the sheet, and answers until the input ends. A proved loop has to end, and nothing says that the input does: so this one counts
 // its turns down, from a number that no run uses up.
 fn answer_input(sheet: &[u8]) {
-    let mut line = [0u8; 257];
+    let mut line = [0u8; ROOM];
     let mut bench = Bench {
         state: opened(sheet),
         count: 0,

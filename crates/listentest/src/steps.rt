@@ -1,12 +1,13 @@
-// The lines of a script: those of the listening bench, and steps that only a test takes.
+// The lines of a script: those of the listening bench, and steps that only a test takes:
+//     open | list N | put programme N | put object I active V W      (or inactive)
 use console::commands::Command;
 use console::commands::command_of;
 use console::lines::field;
 use console::lines::field_count;
-use console::numbers::Level;
+use console::numbers::GainValue;
 use console::numbers::Number;
 use console::numbers::Tenths;
-use console::numbers::level_of;
+use console::numbers::gain_value_of;
 use console::numbers::number_of;
 use console::numbers::tenths_of;
 use listener::Setting;
@@ -75,21 +76,26 @@ fn object_step(line: &[u8], n: Number) -> Step {
         return Step::Bench(Command::Unknown);
     };
     if check::same(field(line, 3), b"active") {
-        return setting_step(k, true, level_of(field(line, 4)), tenths_of(field(line, 5)));
+        return setting_step(
+            k,
+            true,
+            gain_value_of(field(line, 4)),
+            tenths_of(field(line, 5)),
+        );
     }
     if check::same(field(line, 3), b"inactive") {
         return setting_step(
             k,
             false,
-            level_of(field(line, 4)),
+            gain_value_of(field(line, 4)),
             tenths_of(field(line, 5)),
         );
     }
     Step::Bench(Command::Unknown)
 }
 
-fn setting_step(k: u16, active: bool, gain: Level, offset: Tenths) -> Step {
-    let Level::Of(g) = gain else {
+fn setting_step(k: u16, active: bool, gain: GainValue, offset: Tenths) -> Step {
+    let GainValue::Of(g) = gain else {
         return Step::Bench(Command::Unknown);
     };
     let Tenths::Of(z) = offset else {

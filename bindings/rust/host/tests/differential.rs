@@ -8,15 +8,20 @@ use std::path::Path;
 use std::process::ExitCode;
 use std::{fmt, fs};
 
-use sheet::generate::{fixed_sheets, Generated, RandomSheets};
+use sheet::generate::crowded::CrowdedSheets;
+use sheet::generate::{fixed_sheets, hostile, Generated, RandomSheets};
 use sheet::second;
 
 const SEEDS: [u64; 3] = [2168, 2076, 65_534];
 const SHEETS_OF_A_SEED: usize = 100_000;
+const CROWDED_SHEETS: usize = 20_000;
+/// The sizes in words of hostile sheets beside the largest ones.
+const SMALL_SIZES: [usize; 2] = [512, 1024];
 
 /// The hostile sheets on which the proved checker's plain bodies take 10 seconds or much longer.
-/// They are left out here; the benchmark has them, with a limit on the time.
-const TOO_SLOW: [&str; 8] = [
+/// They are left out here, but not in smaller sizes; the benchmark has them, with a limit on the
+/// time.
+const TOO_SLOW: [&str; 24] = [
     "hostile programme labels",
     "hostile content labels",
     "hostile complements",
@@ -25,6 +30,22 @@ const TOO_SLOW: [&str; 8] = [
     "hostile tracks",
     "hostile sets of pairs",
     "hostile one set",
+    "hostile shifted complements",
+    "hostile alternating packs",
+    "hostile jumping sets",
+    "hostile shifted programme labels",
+    "hostile shifted content labels",
+    "hostile shifted contents",
+    "hostile shifted contents, one twice",
+    "hostile shifted contents, one of a group left out",
+    "hostile shifted sets",
+    "hostile shifted sets, one of a pair left out",
+    "hostile alternating sets",
+    "hostile shifted tracks",
+    "hostile shifted tracks, an ordinal twice",
+    "hostile children, all the last object",
+    "hostile programme labels, one twice",
+    "hostile content labels, one twice",
 ];
 
 fn main() -> ExitCode {
@@ -47,8 +68,10 @@ fn main() -> ExitCode {
 fn all_sheets() -> impl Iterator<Item = Generated> {
     let fixed = fixed_sheets().into_iter();
     let fixed = fixed.filter(|generated| !TOO_SLOW.contains(&generated.name.as_str()));
+    let small = SMALL_SIZES.into_iter().flat_map(hostile::sheets_of);
+    let crowded = CrowdedSheets::new(SEEDS[0]).take(CROWDED_SHEETS);
     let random = |seed| RandomSheets::new(seed).take(SHEETS_OF_A_SEED);
-    fixed.chain(SEEDS.into_iter().flat_map(random))
+    fixed.chain(small).chain(crowded).chain(SEEDS.into_iter().flat_map(random))
 }
 
 /// What the proved checker and the sheet's construction say, where one of them differs from the

@@ -248,8 +248,13 @@ impl Plan {
     }
 
     /// The plan with unused entries that make it the largest sheet.
-    pub fn filled(mut self) -> Plan {
-        let unused = LARGEST - self.words().len();
+    pub fn filled(self) -> Plan {
+        self.filled_to(LARGEST)
+    }
+
+    /// The plan with unused entries that make it a sheet of so many words.
+    pub fn filled_to(mut self, words: usize) -> Plan {
+        let unused = words.saturating_sub(self.words().len());
         self.stray_entries.extend(vec![0; unused]);
         self
     }

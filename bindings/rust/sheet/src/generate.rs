@@ -9,6 +9,8 @@ mod beside;
 pub mod calls;
 /// Broken sheets, one for each clause of each rule, with accepted neighbours.
 pub mod clauses;
+/// Small random sheets in which many lists overlap.
+pub mod crowded;
 mod damage;
 /// Honest sheets as large as they get.
 pub mod honest;

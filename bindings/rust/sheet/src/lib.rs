@@ -5,6 +5,9 @@
 /// The second checker and the second listener.
 pub mod second;
 
+/// The second checker written for speed.
+pub mod fast;
+
 /// A builder of sheets from records given as vectors.
 pub mod build;
 

@@ -3,12 +3,12 @@
 //! As plain as possible: no record is decoded ahead, every rule reads the words of the
 //! sheet again, and every sentence quoted in these modules is document 01's.
 
-mod limits;
+pub(crate) mod limits;
 /// The listener above the checker.
 pub mod listener;
 /// The rules 1 to 24.
 pub mod rules;
-mod terms;
+pub(crate) mod terms;
 /// Gains, offsets and their ranges.
 pub mod values;
 /// Words, sections, records and lists of a sheet.

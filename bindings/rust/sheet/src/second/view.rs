@@ -62,6 +62,9 @@ pub mod object {
     pub const OFFSET_MINIMUM: usize = 12;
     pub const OFFSET_MAXIMUM: usize = 13;
     pub const SETS: usize = 14;
+    /// The words of gain, offset and ranges.
+    pub const VALUES: [usize; 6] =
+        [GAIN, GAIN_MINIMUM, GAIN_MAXIMUM, OFFSET, OFFSET_MINIMUM, OFFSET_MAXIMUM];
 }
 
 /// Fields of a pack.
@@ -89,6 +92,9 @@ pub mod value_set {
     pub const OFFSET: usize = 4;
     pub const OFFSET_MINIMUM: usize = 5;
     pub const OFFSET_MAXIMUM: usize = 6;
+    /// The words of gain, offset and ranges.
+    pub const VALUES: [usize; 6] =
+        [GAIN, GAIN_MINIMUM, GAIN_MAXIMUM, OFFSET, OFFSET_MINIMUM, OFFSET_MAXIMUM];
 }
 
 /// A section and a record; the least place has the lowest section, then the lowest record.
@@ -108,7 +114,7 @@ impl Place {
 }
 
 /// The words "first and count" of a list or a set span.
-#[derive(Clone, Copy)]
+#[derive(Clone, Copy, PartialEq, Eq)]
 pub struct List {
     /// The first index.
     pub first: usize,
@@ -239,22 +245,8 @@ impl<'a> Record<'a> {
     /// The gain, offset and range words of an object or a value set.
     pub fn values(&self) -> Values {
         let fields = match self.section {
-            OBJECT => [
-                object::GAIN,
-                object::GAIN_MINIMUM,
-                object::GAIN_MAXIMUM,
-                object::OFFSET,
-                object::OFFSET_MINIMUM,
-                object::OFFSET_MAXIMUM,
-            ],
-            _ => [
-                value_set::GAIN,
-                value_set::GAIN_MINIMUM,
-                value_set::GAIN_MAXIMUM,
-                value_set::OFFSET,
-                value_set::OFFSET_MINIMUM,
-                value_set::OFFSET_MAXIMUM,
-            ],
+            OBJECT => object::VALUES,
+            _ => value_set::VALUES,
         };
         Values::from_words(fields.map(|field| self.word(field)))
     }

@@ -1,64 +1,23 @@
--- No record passed breaks the rule. Assumes nothing.
-use Prim.Native.Nat.{ℕ, _-_, _<_, _≤_}
-use mathlib.Core.Path.{_≡_, sym, ap, _∙_}
-use mathlib.Core.Bool.{false}
-use native.Mathlib.Omega.{arith}
-use borrow.Author.Count.{below-none, below-more}
-use Rattle.profile.specs.Counting.{lowest}
-use Rattle.profile.proofs.CountingLaws.{lowest-at, lowest-none}
-use Rattle.profile.specs.Verdict.{breaks, subjects, brokenRecord}
-use Rattle.sheet.specs.Words.{sheetOf}
+-- By the section's digit. Assumes nothing.
+use Rattle.checker.specs.Rows.{subjectsOf}
+use Rattle.profile.specs.Verdict.{subjects, brokenRecord}
+use borrow.Author.Needs.{needs}
 use Rattle.checker.proofs.search.broken_record.Statement.{statement}
 use Rattle.checker.proofs.search.broken_record.Tie as tie
-use borrow.Author.Needs.{needs}
 
-abbrev Inv-loop : tie.InvT-loop
-Inv-loop s rule section n k₀ k = (k ≤ n) × ((j : ℕ) → j < k → breaks (sheetOf s) rule section j ≡ false)
+subject-kind-requires : tie.Need-subject-kind-requires
+subject-kind-requires c κs = search needs
 
-abbrev μ-loop : tie.MeasureT-loop
-μ-loop s rule section n k₀ k = n - k
-
-subjects-requires : tie.Need-subjects-requires Inv-loop μ-loop
+subjects-requires : tie.Need-subjects-requires
 subjects-requires c κs = search needs
 
-loop-holds : tie.Need-loop-holds Inv-loop μ-loop
-loop-holds c = (search needs, below-none _)
+broken-below-requires : tie.Need-broken-below-requires
+broken-below-requires c κs = search needs
 
-breaks-requires : tie.Need-breaks-requires Inv-loop μ-loop
-breaks-requires c κs = search needs
-
-returns : tie.Need-returns Inv-loop μ-loop
-unfolding brokenRecord
-returns c =
-    sym (lowest-at _ _ _ (search needs) (c .before .before .before .loop .inv .1) (rw (← c .before .breaks .ensures) (c .if1 .taken)))
-    ∙ ap (lowest _) (c .before .before .before .before .subjects .ensures)
-
-add-k : tie.Need-add-k Inv-loop μ-loop
-add-k c = search needs
-
-loop-less : tie.Need-loop-less Inv-loop μ-loop
-loop-less c = search needs
-
-loop-again : tie.Need-loop-again Inv-loop μ-loop
-loop-again c = (search needs, below-more _ _ (c .before .before .before .loop .inv .1) (rw (← c .before .breaks .ensures) (c .if1 .left)))
-
-returns-2 : tie.Need-returns-2 Inv-loop μ-loop
-unfolding brokenRecord
-returns-2 c =
-    sym (lowest-none _ _ (λ j l. c .before .loop .inv .1 j (omega arith)))
-    ∙ ap (lowest _) (c .before .before .subjects .ensures)
+returns : tie.Need-returns
+unfolding brokenRecord subjects subjectsOf
+returns c = simp (c .broken-below .ensures, c .before .subjects .ensures, c .before .before .subject-kind .ensures)
 
 pub broken-record-spec : {M : Type 1} → statement M
 broken-record-spec =
-    tie.close
-    (tie.spec
-    Inv-loop
-    μ-loop
-    subjects-requires
-    loop-holds
-    breaks-requires
-    returns
-    add-k
-    loop-less
-    loop-again
-    returns-2)
+    tie.close (tie.spec subject-kind-requires subjects-requires broken-below-requires returns)

@@ -5,23 +5,27 @@ use mathlib.Core.Bool.{false}
 use native.Mathlib.Omega.{arith}
 use borrow.Author.Count.{below-none, below-more}
 use Rattle.profile.specs.Verdict.{sectionBroken, brokenSection}
-use Rattle.sheet.specs.Words.{sheetOf}
 use Rattle.profile.proofs.CountingLaws.{lowest-at, lowest-none}
+use Rattle.sheet.specs.Words.{sheetOf}
+use Rattle.checker.proofs.SubjectLaws.{Rest, rest-start, rest-kind, rest-next}
 use Rattle.checker.proofs.search.broken_section.Statement.{statement}
 use Rattle.checker.proofs.search.broken_section.Tie as tie
 use borrow.Author.Needs.{needs}
 
 abbrev Inv-loop : tie.InvT-loop
-Inv-loop s rule section₀ section = (section ≤ 8) × ((j : ℕ) → j < section → sectionBroken (sheetOf s) rule j ≡ false)
+Inv-loop s rule row₀ section₀ row section = (section ≤ 8) × ((j : ℕ) → j < section → sectionBroken (sheetOf s) rule j ≡ false) × Rest rule section row
 
 abbrev μ-loop : tie.MeasureT-loop
-μ-loop s rule section₀ section = 8 - section
+μ-loop s rule row₀ section₀ row section = 8 - section
+
+subject-row-requires : tie.Need-subject-row-requires Inv-loop μ-loop
+subject-row-requires c κs = search needs
 
 loop-holds : tie.Need-loop-holds Inv-loop μ-loop
-loop-holds c = (search needs, below-none _)
+loop-holds c = (search needs, below-none _, rest-start _ _ (c .subject-row .ensures))
 
 section-broken-requires : tie.Need-section-broken-requires Inv-loop μ-loop
-section-broken-requires c κs = search needs
+section-broken-requires c κs = rest-kind _ _ _ (c .before .loop .inv .2) (c .loop-test .taken)
 
 returns : tie.Need-returns Inv-loop μ-loop
 unfolding brokenSection
@@ -34,7 +38,7 @@ loop-less : tie.Need-loop-less Inv-loop μ-loop
 loop-less c = search needs
 
 loop-again : tie.Need-loop-again Inv-loop μ-loop
-loop-again c = (search needs, below-more _ _ (c .before .before .before .loop .inv .1) (rw (← c .before .section-broken .ensures) (c .if1 .left)))
+loop-again c = (search needs, below-more _ _ (c .before .before .before .loop .inv .1) (rw (← c .before .section-broken .ensures) (c .if1 .left)), rest-next _ _ _ (c .before .before .before .loop .inv .2))
 
 returns-2 : tie.Need-returns-2 Inv-loop μ-loop
 unfolding brokenSection
@@ -46,6 +50,7 @@ broken-section-spec =
     (tie.spec
     Inv-loop
     μ-loop
+    subject-row-requires
     loop-holds
     section-broken-requires
     returns

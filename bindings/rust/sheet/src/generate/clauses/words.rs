@@ -74,26 +74,6 @@ const VALUES: [(&str, Word, i16, i16); 20] = [
     ("offset maximum alone", Word::OffsetMinimum, 0, ABSENT),
 ];
 
-/// The fields of the six words in an object.
-const OBJECT_FIELDS: [usize; 6] = [
-    object::GAIN,
-    object::GAIN_MINIMUM,
-    object::GAIN_MAXIMUM,
-    object::OFFSET,
-    object::OFFSET_MINIMUM,
-    object::OFFSET_MAXIMUM,
-];
-
-/// The fields of the six words in a value set.
-const SET_FIELDS: [usize; 6] = [
-    value_set::GAIN,
-    value_set::GAIN_MINIMUM,
-    value_set::GAIN_MAXIMUM,
-    value_set::OFFSET,
-    value_set::OFFSET_MINIMUM,
-    value_set::OFFSET_MAXIMUM,
-];
-
 /// Clauses of rule 6.
 pub fn clauses() -> Vec<Clause> {
     let tables: [(u8, &[Change]); 5] = [
@@ -109,8 +89,8 @@ pub fn clauses() -> Vec<Clause> {
         })
     });
     of_words
-        .chain(values("object", OBJECT, OBJECT_FIELDS))
-        .chain(values("set", VALUE_SET, SET_FIELDS))
+        .chain(values("object", OBJECT, object::VALUES))
+        .chain(values("set", VALUE_SET, value_set::VALUES))
         .chain(labels())
         .chain(own_0_with_range())
         .collect()

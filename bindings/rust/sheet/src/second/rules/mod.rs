@@ -12,7 +12,7 @@ mod names;
 mod objects;
 mod sets;
 mod values;
-mod words;
+pub(crate) mod words;
 
 use super::view::{Place, Record, Sheet};
 

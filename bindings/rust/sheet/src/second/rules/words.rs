@@ -36,8 +36,7 @@ fn object_is_bad(object: &Record) -> bool {
 }
 
 fn pack_is_bad(pack: &Record) -> bool {
-    ![KIND_DIRECT_SPEAKERS, KIND_OBJECTS].contains(&pack.word(pack::KIND))
-        || !is_0_or_1(pack.word(pack::FRONT))
+    !is_kind(pack.word(pack::KIND)) || !is_0_or_1(pack.word(pack::FRONT))
 }
 
 fn set_is_bad(set: &Record) -> bool {
@@ -45,22 +44,29 @@ fn set_is_bad(set: &Record) -> bool {
     !is_0_or_1(own) || values_are_bad(set.values()) || own == 0 && set.values().has_range()
 }
 
-fn values_are_bad(values: Values) -> bool {
+/// Whether a gain, offset or range word is outside its values, or half of a pair.
+pub(crate) fn values_are_bad(values: Values) -> bool {
     !values.are_legal() || values.have_half_a_pair()
 }
 
 /// "1024 times the first letter plus 32 times the second plus the third, a = 1 to z = 26.
 /// Any three letters are accepted."
-fn is_language(word: usize) -> bool {
+pub(crate) fn is_language(word: usize) -> bool {
     let letters = [word / 1024, word / 32 % 32, word % 32];
     letters.iter().all(|letter| (1..=26).contains(letter))
 }
 
 /// "Loudness is 1 integrated, 2 dialogue, 3 both."
-fn is_loudness(word: u16) -> bool {
+pub(crate) fn is_loudness(word: u16) -> bool {
     (1..=3).contains(&word)
 }
 
-fn is_0_or_1(word: u16) -> bool {
+/// A word such as interact, own or front.
+pub(crate) fn is_0_or_1(word: u16) -> bool {
     word <= 1
+}
+
+/// "1 DirectSpeakers, 3 Objects."
+pub(crate) fn is_kind(word: u16) -> bool {
+    [KIND_DIRECT_SPEAKERS, KIND_OBJECTS].contains(&word)
 }

@@ -1,0 +1,108 @@
+-- What a pass over namings keeps of a table. Assumes nothing.
+use Prim.Native.Nat.{ℕ, zero, suc, _+_, _<_, _≤_}
+use mathlib.Core.Path.{_≡_, refl, sym, ap, _∙_}
+use mathlib.Core.Bool.{Bool, true, false, cond, not, _||_}
+use mathlib.Core.List.{List}
+use native.Mathlib.Omega.{arith}
+use native.Mathlib.Nat.{add-zero}
+use native.Mathlib.Numerals.{add-one}
+use borrow.Author.Tests.{eqb-true, eq-eqb, ne-eqb, eqb-false}
+use lib.Dec.{eqb, ltb}
+use lib.ListN.{length, getD, set, length-set}
+use lib.Seq.{getD-set-same, getD-set-other}
+use Rattle.sheet.specs.Words.{Sheet}
+use Rattle.profile.specs.Counting.{any, howMany, sum}
+use Rattle.profile.proofs.CountingLaws.{any-howMany}
+use Rattle.tables.specs.declared.Naming.{Naming}
+use Rattle.tables.specs.declared.Mark.{Mark}
+use Rattle.tables.specs.declared.Mark.the-variants.{Count, Store}
+use Rattle.tables.specs.Namings.{items, item}
+use Rattle.tables.specs.Marks.{Standing, marked, repeat, timesBy, namesBy, firstFrom}
+
+-- so many times, and so many again
+pub repeat-add : (f : ℕ → ℕ) (a b c : ℕ) → repeat f (a + b) c ≡ repeat f b (repeat f a c)
+unfolding repeat
+repeat-add f a zero c = ap (λ (n : ℕ). repeat f n c) (add-zero a)
+repeat-add f a (suc b) c =
+    let e : a + suc b ≡ suc (a + b) = omega arith in
+    ap (λ (n : ℕ). repeat f n c) e ∙ ap f (repeat-add f a b c)
+
+-- one time more, where a test holds
+pub repeat-more : (f : ℕ → ℕ) (p : ℕ → Bool) (n c : ℕ) → cond (p n) (f (repeat f (howMany p n) c)) (repeat f (howMany p n) c) ≡ repeat f (howMany p (n + 1)) c
+unfolding howMany repeat
+repeat-more f p n c =
+    (elim (p n) as (λ b. p n ≡ b → cond (p n) (f (repeat f (howMany p n) c)) (repeat f (howMany p n) c) ≡ repeat f (howMany p (n + 1)) c) [
+      | true ↦ λ e. let z : howMany p n + 1 ≡ suc (howMany p n) = add-one (howMany p n) in rw (add-one n, e, z)
+      | false ↦ λ e. let z : howMany p n + 0 ≡ howMany p n = add-zero (howMany p n) in rw (add-one n, e, z)
+    ]) refl
+
+-- a number stored so many times
+pub repeat-store : (v n c : ℕ) → repeat (marked (Store v)) n c ≡ cond (eqb n 0) c v
+unfolding repeat
+repeat-store v zero c = refl
+repeat-store v (suc n) c = rw (ne-eqb (suc n) 0 (λ q. let z : suc n ≡ 0 = q in omega arith))
+
+-- one place is written
+pub set-standing : (t : List ℕ) (y v : ℕ) (g : ℕ → ℕ) → ((x : ℕ) → x < length t → cond (eqb y x) v (getD t x 0) ≡ g x)
+    → (x : ℕ) → x < length t → getD (set t y v) x 0 ≡ g x
+set-standing t y v g h x l =
+    (elim (eqb y x) as (λ b. eqb y x ≡ b → getD (set t y v) x 0 ≡ g x) [
+      | true ↦ λ e. let q : y ≡ x = eqb-true y x e in ap (λ (z : ℕ). getD (set t y v) z 0) (sym q) ∙ getD-set-same t y v 0 (rw q l) ∙ sym (ap (λ (b : Bool). cond b v (getD t x 0)) e) ∙ h x l
+      | false ↦ λ e. getD-set-other t y x v 0 (λ q. eqb-false y x e (sym q)) ∙ sym (ap (λ (b : Bool). cond b v (getD t x 0)) e) ∙ h x l
+    ]) refl
+
+-- a place is marked
+pub mark-standing : (t : List ℕ) (y : ℕ) (m : Mark) (v : ℕ) → y < length t → v ≡ marked m (getD t y 0)
+    → Standing (λ z. cond (eqb y z) (marked m (getD t z 0)) (getD t z 0)) (set t y v)
+mark-standing t y m v l e x h =
+    set-standing t y v (λ z. cond (eqb y z) (marked m (getD t z 0)) (getD t z 0))
+    (λ z k. ap (λ (w : ℕ). cond (eqb y z) w (getD t z 0)) e ∙ same z)
+    x (rw (length-set t y v) at h)
+  where
+    same : (z : ℕ) → cond (eqb y z) (marked m (getD t y 0)) (getD t z 0) ≡ cond (eqb y z) (marked m (getD t z 0)) (getD t z 0)
+    same z =
+        (elim (eqb y z) as (λ b. eqb y z ≡ b → cond b (marked m (getD t y 0)) (getD t z 0) ≡ cond b (marked m (getD t z 0)) (getD t z 0)) [
+          | true ↦ λ e. ap (λ (w : ℕ). marked m (getD t w 0)) (eqb-true y z e)
+          | false ↦ λ e. refl
+        ]) refl
+
+-- one past the end is passed over
+pub past-standing : (t : List ℕ) (y : ℕ) (m : Mark) → length t ≤ y → Standing (λ z. cond (eqb y z) (marked m (getD t z 0)) (getD t z 0)) t
+past-standing t y m l x h = rw (ne-eqb y x (λ q. let z : y ≡ x = q in omega arith)) refl
+
+module _ (f : ℕ → ℕ) (t₀ t t′ : List ℕ) (long : length t′ ≡ length t) where
+  -- one item more
+  pub items-more : (g : ℕ → ℕ) (i y : ℕ) → y ≡ g i → Standing (λ x. repeat f (howMany (λ j. eqb (g j) x) i) (getD t₀ x 0)) t
+      → Standing (λ z. cond (eqb y z) (f (getD t z 0)) (getD t z 0)) t′ → Standing (λ x. repeat f (howMany (λ j. eqb (g j) x) (i + 1)) (getD t₀ x 0)) t′
+  items-more g i y e before now x l =
+      now x l
+      ∙ ap (λ (c : ℕ). cond (eqb y x) (f c) c) (before x (rw long at l))
+      ∙ ap (λ (w : ℕ). cond (eqb w x) (f (repeat f (howMany (λ j. eqb (g j) x) i) (getD t₀ x 0))) (repeat f (howMany (λ j. eqb (g j) x) i) (getD t₀ x 0))) e
+      ∙ repeat-more f (λ j. eqb (g j) x) i (getD t₀ x 0)
+
+  -- one record more
+  pub namers-more : (times : ℕ → ℕ → ℕ) (q : ℕ) → Standing (λ x. repeat f (sum (λ j. times j x) q) (getD t₀ x 0)) t
+      → Standing (λ x. repeat f (times q x) (getD t x 0)) t′ → Standing (λ x. repeat f (sum (λ j. times j x) (q + 1)) (getD t₀ x 0)) t′
+  unfolding sum
+  namers-more times q before now x l =
+      now x l
+      ∙ ap (repeat f (times q x)) (before x (rw long at l))
+      ∙ sym (repeat-add f (sum (λ j. times j x) q) (times q x) (getD t₀ x 0))
+      ∙ ap (λ (n : ℕ). repeat f (sum (λ j. times j x) n) (getD t₀ x 0)) (sym (add-one q))
+
+-- the records from q on, and the one before them
+pub first-more : (s : Sheet) (kind : Naming) (t₀ t t′ : List ℕ) (q n : ℕ) → length t′ ≡ length t
+    → Standing (λ x. firstFrom (λ j. namesBy s kind j x) (getD t₀ x 0) (suc q) n) t
+    → Standing (λ x. repeat (marked (Store q)) (timesBy s kind q x) (getD t x 0)) t′
+    → Standing (λ x. firstFrom (λ j. namesBy s kind j x) (getD t₀ x 0) q (suc n)) t′
+unfolding firstFrom namesBy timesBy
+first-more s kind t₀ t t′ q n long before now x l =
+    now x l
+    ∙ repeat-store q (timesBy s kind q x) (getD t x 0)
+    ∙ ap (λ (c : ℕ). cond (eqb (timesBy s kind q x) 0) c q) (before x (rw long at l))
+    ∙ swap (eqb (timesBy s kind q x) 0) (firstFrom (λ j. namesBy s kind j x) (getD t₀ x 0) (suc q) n) q
+    ∙ ap (λ (b : Bool). cond b q (firstFrom (λ j. namesBy s kind j x) (getD t₀ x 0) (suc q) n)) (sym (any-howMany (λ i. eqb (item s kind q i) x) (items s kind q)))
+  where
+    swap : (b : Bool) (c d : ℕ) → cond b c d ≡ cond (not b) d c
+    swap true c d = refl
+    swap false c d = refl

@@ -1,0 +1,77 @@
+-- By the way of naming. Assumes nothing.
+use borrow.Author.Needs.{needs}
+use Rattle.tables.proofs.namings.items.Statement.{statement}
+use Rattle.tables.proofs.namings.items.Tie as tie
+
+enum-told : tie.Need-enum-told
+enum-told c = search needs
+
+enum-told-2 : tie.Need-enum-told-2
+enum-told-2 c = search needs
+
+number-requires : tie.Need-number-requires
+number-requires c κs = search needs
+
+enum-told-3 : tie.Need-enum-told-3
+enum-told-3 c = search needs
+
+number-requires-2 : tie.Need-number-requires-2
+number-requires-2 c κs = search needs
+
+enum-told-4 : tie.Need-enum-told-4
+enum-told-4 c = search needs
+
+number-requires-3 : tie.Need-number-requires-3
+number-requires-3 c κs = search needs
+
+enum-told-5 : tie.Need-enum-told-5
+enum-told-5 c = search needs
+
+number-requires-4 : tie.Need-number-requires-4
+number-requires-4 c κs = search needs
+
+enum-told-6 : tie.Need-enum-told-6
+enum-told-6 c = search needs
+
+number-requires-5 : tie.Need-number-requires-5
+number-requires-5 c κs = search needs
+
+returns : tie.Need-returns
+returns c = simp (c .enum-told .given .1)
+
+returns-2 : tie.Need-returns-2
+returns-2 c = simp (c .before .enum-told2 .given .1, c .number .ensures)
+
+returns-3 : tie.Need-returns-3
+returns-3 c = simp (c .before .enum-told3 .given .1, c .number2 .ensures)
+
+returns-4 : tie.Need-returns-4
+returns-4 c = simp (c .before .enum-told4 .given .1, c .number3 .ensures)
+
+returns-5 : tie.Need-returns-5
+returns-5 c = simp (c .before .enum-told5 .given .1, c .number4 .ensures)
+
+returns-6 : tie.Need-returns-6
+returns-6 c = simp (c .before .enum-told6 .given .1, c .number5 .ensures)
+
+pub items-spec : {M : Type 1} → statement M
+items-spec =
+    tie.close
+    (tie.spec
+    enum-told
+    enum-told-2
+    number-requires
+    enum-told-3
+    number-requires-2
+    enum-told-4
+    number-requires-3
+    enum-told-5
+    number-requires-4
+    enum-told-6
+    number-requires-5
+    returns
+    returns-2
+    returns-3
+    returns-4
+    returns-5
+    returns-6)

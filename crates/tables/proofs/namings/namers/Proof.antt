@@ -1,0 +1,81 @@
+-- By the way of naming. Assumes nothing.
+use borrow.Author.Needs.{needs}
+use Rattle.tables.proofs.namings.namers.Statement.{statement}
+use Rattle.tables.proofs.namings.namers.Tie as tie
+
+enum-told : tie.Need-enum-told
+enum-told c = search needs
+
+count-requires : tie.Need-count-requires
+count-requires c κs = search needs
+
+enum-told-2 : tie.Need-enum-told-2
+enum-told-2 c = search needs
+
+count-requires-2 : tie.Need-count-requires-2
+count-requires-2 c κs = search needs
+
+enum-told-3 : tie.Need-enum-told-3
+enum-told-3 c = search needs
+
+count-requires-3 : tie.Need-count-requires-3
+count-requires-3 c κs = search needs
+
+enum-told-4 : tie.Need-enum-told-4
+enum-told-4 c = search needs
+
+count-requires-4 : tie.Need-count-requires-4
+count-requires-4 c κs = search needs
+
+enum-told-5 : tie.Need-enum-told-5
+enum-told-5 c = search needs
+
+count-requires-5 : tie.Need-count-requires-5
+count-requires-5 c κs = search needs
+
+enum-told-6 : tie.Need-enum-told-6
+enum-told-6 c = search needs
+
+count-requires-6 : tie.Need-count-requires-6
+count-requires-6 c κs = search needs
+
+returns : tie.Need-returns
+returns c = simp (c .before .enum-told .given .1, c .count .ensures)
+
+returns-2 : tie.Need-returns-2
+returns-2 c = simp (c .before .enum-told2 .given .1, c .count2 .ensures)
+
+returns-3 : tie.Need-returns-3
+returns-3 c = simp (c .before .enum-told3 .given .1, c .count3 .ensures)
+
+returns-4 : tie.Need-returns-4
+returns-4 c = simp (c .before .enum-told4 .given .1, c .count4 .ensures)
+
+returns-5 : tie.Need-returns-5
+returns-5 c = simp (c .before .enum-told5 .given .1, c .count5 .ensures)
+
+returns-6 : tie.Need-returns-6
+returns-6 c = simp (c .before .enum-told6 .given .1, c .count6 .ensures)
+
+pub namers-spec : {M : Type 1} → statement M
+namers-spec =
+    tie.close
+    (tie.spec
+    enum-told
+    count-requires
+    enum-told-2
+    count-requires-2
+    enum-told-3
+    count-requires-3
+    enum-told-4
+    count-requires-4
+    enum-told-5
+    count-requires-5
+    enum-told-6
+    count-requires-6
+    returns
+    returns-2
+    returns-3
+    returns-4
+    returns-5
+    returns-6)

@@ -1,0 +1,28 @@
+// Tables over the records of a sheet, each filled in one pass over its lists: how often a record is named, and by which record first.
+// What stands at each index is the contract of the function that fills the table.
+pub mod marks;
+pub mod namings;
+
+// What names a record of another section, or of its own.
+pub enum Naming {
+    // a content names its object
+    ContentObjects,
+    // an object names its children
+    Children,
+    // an object names its complements
+    Complements,
+    // a programme names its contents
+    ContentLists,
+    // a programme includes the objects of its contents
+    Included,
+    // an object has value sets
+    SetSpans,
+}
+
+// What is done with the place of a record that is named.
+pub enum Mark {
+    // it is counted: 0, 1, and 2 for twice or more
+    Count,
+    // this number is written there
+    Store(u16),
+}

@@ -1,0 +1,66 @@
+// Who names what.
+use crate::Naming;
+use sheet::fields::CHILD_LIST;
+use sheet::fields::COMPLEMENT_LIST;
+use sheet::fields::CONTENT_LIST;
+use sheet::fields::CONTENT_OBJECT;
+use sheet::fields::CONTENTS;
+use sheet::fields::OBJECTS;
+use sheet::fields::PROGRAMMES;
+use sheet::fields::SET_SPAN;
+use sheet::layout::count;
+use sheet::layout::entry;
+use sheet::layout::field;
+use sheet::layout::number;
+ghost use mathlib.Core.Path.{_≡_};
+ghost use Rattle.sheet.specs.Words.{sheetOf};
+ghost use Rattle.tables.specs.Namings.{item, items, namers};
+
+// How many records name others in that way.
+pub fn namers(s: &[u8], kind: Naming) -> u16
+    ensures { λ r. ⌜ r ≡ namers (sheetOf (now (s .entry))) kind ⌝ }
+{
+    match kind {
+        Naming::ContentObjects => count(s, CONTENTS),
+        Naming::Children => count(s, OBJECTS),
+        Naming::Complements => count(s, OBJECTS),
+        Naming::ContentLists => count(s, PROGRAMMES),
+        Naming::Included => count(s, PROGRAMMES),
+        Naming::SetSpans => count(s, OBJECTS),
+    }
+}
+
+// How many records a record names.
+pub fn items(s: &[u8], kind: Naming, q: u16) -> u16
+    ensures { λ r. ⌜ r ≡ items (sheetOf (now (s .entry))) kind q ⌝ }
+{
+    match kind {
+        Naming::ContentObjects => 1,
+        Naming::Children => number(s, OBJECTS, q, CHILD_LIST),
+        Naming::Complements => number(s, OBJECTS, q, COMPLEMENT_LIST),
+        Naming::ContentLists => number(s, PROGRAMMES, q, CONTENT_LIST),
+        Naming::Included => number(s, PROGRAMMES, q, CONTENT_LIST),
+        Naming::SetSpans => number(s, OBJECTS, q, SET_SPAN),
+    }
+}
+
+// The one it names at a place.
+pub fn item(s: &[u8], kind: Naming, q: u16, i: u16) -> u32
+    ensures { λ r. ⌜ r ≡ item (sheetOf (now (s .entry))) kind q i ⌝ }
+{
+    match kind {
+        Naming::ContentObjects => field(s, CONTENTS, q, CONTENT_OBJECT) as u32,
+        Naming::Children => entry(s, OBJECTS, q, CHILD_LIST, i) as u32,
+        Naming::Complements => entry(s, OBJECTS, q, COMPLEMENT_LIST, i) as u32,
+        Naming::ContentLists => entry(s, PROGRAMMES, q, CONTENT_LIST, i) as u32,
+        Naming::Included => {
+            field(
+                s,
+                CONTENTS,
+                entry(s, PROGRAMMES, q, CONTENT_LIST, i),
+                CONTENT_OBJECT,
+            ) as u32
+        }
+        Naming::SetSpans => field(s, OBJECTS, q, SET_SPAN) as u32 + i as u32,
+    }
+}
