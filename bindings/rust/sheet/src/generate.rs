@@ -18,8 +18,12 @@ pub mod honest;
 pub mod hostile;
 /// Random numbers from a seed.
 pub mod random;
+/// Random scripts of listener calls.
+pub mod scripts;
 /// The sheets that are kept as files.
 pub mod stored;
+/// The scripts of listener calls that are kept as files.
+pub mod stored_scripts;
 
 use self::clauses::Clause;
 use self::random::Random;

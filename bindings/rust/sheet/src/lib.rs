@@ -13,3 +13,9 @@ pub mod build;
 
 /// Sheets from a fixed seed: accepted, broken in a named clause, damaged, hostile.
 pub mod generate;
+
+/// Demand 3, for any listener's states and listings.
+pub mod demand_3;
+
+/// Scripts of listener calls.
+pub mod script;

@@ -20,7 +20,7 @@ mod stored;
 #[path = "second/readings.rs"]
 mod readings;
 
-/// Scripts of listener calls.
+/// Listener calls.
 #[path = "second/listener.rs"]
 mod listener;
 
@@ -31,3 +31,11 @@ mod demand_3;
 /// What random accepted sheets hold.
 #[path = "second/richness.rs"]
 mod richness;
+
+/// Scripts as text.
+#[path = "second/script.rs"]
+mod script;
+
+/// The scripts kept as files.
+#[path = "second/stored_scripts.rs"]
+mod stored_scripts;

@@ -2,7 +2,7 @@
 
 use super::random::Random;
 use crate::build::{word, Plan, Values, SILENCE};
-use crate::second::listener::{Answer, State};
+use crate::second::listener::{Answer, State, OBJECTS};
 use crate::second::values::Gain;
 
 /// A call that takes a state and hands it back.
@@ -32,24 +32,30 @@ impl Call {
 
 /// A random call that suits the sheet, or almost suits it.
 pub fn random_call(random: &mut Random, plan: &Plan) -> Call {
-    let object = number(random, plan.objects.len());
+    let object = match random.chance(60) {
+        true => plan.contents[random.below(plan.contents.len())].object,
+        false => number(random, plan.objects.len()),
+    };
     match random.below(10) {
         0 => Call::ChooseProgramme(number(random, plan.programmes.len())),
         1..=3 => Call::ChooseObject(object),
-        4..=6 => Call::SetGain(object, random_gain(random, plan)),
-        _ => Call::SetOffset(object, random_offset(random, plan)),
+        4..=6 => Call::SetGain(object, random_gain(random, plan, object)),
+        _ => Call::SetOffset(object, random_offset(random, plan, object)),
     }
 }
 
 /// A state with one word or flag changed, mostly to one that isn't sound.
 pub fn changed_state(random: &mut Random, plan: &Plan, mut state: State) -> State {
-    let object = random.below(plan.objects.len() + 2).min(state.objects.len() - 1);
-    let object = &mut state.objects[object];
+    let number_of_object = match random.chance(10) {
+        true => OBJECTS - 1 - random.below(2),
+        false => random.below(plan.objects.len() + 2).min(OBJECTS - 1),
+    };
+    let object = &mut state.objects[number_of_object];
     match random.below(4) {
         0 => state.programme = number(random, plan.programmes.len()).into(),
         1 => object.active = !object.active,
-        2 => object.gain = random_gain(random, plan),
-        _ => object.offset = random_offset(random, plan),
+        2 => object.gain = random_gain(random, plan, word(number_of_object)),
+        _ => object.offset = random_offset(random, plan, word(number_of_object)),
     }
     state
 }
@@ -62,16 +68,23 @@ fn number(random: &mut Random, length: usize) -> u16 {
     }
 }
 
-/// The values of some object or value set.
-fn any_values(random: &mut Random, plan: &Plan) -> Values {
-    let objects = plan.objects.iter().map(|object| object.values);
-    let sets = plan.value_sets.iter().map(|set| set.values);
-    let values: Vec<Values> = objects.chain(sets).collect();
-    random.pick(&values)
+/// The values of an object or one of its value sets, now and then of another.
+fn any_values(random: &mut Random, plan: &Plan, object: u16) -> Values {
+    let other = word(random.below(plan.objects.len()));
+    let object = match plan.objects.get(usize::from(object)) {
+        Some(record) if random.chance(80) => record,
+        _ => &plan.objects[usize::from(other)],
+    };
+    let (first, count) = object.set_span;
+    let sets = &plan.value_sets[usize::from(first)..][..usize::from(count)];
+    match random.chance(50) && !sets.is_empty() {
+        true => random.pick(sets).values,
+        false => object.values,
+    }
 }
 
-fn random_gain(random: &mut Random, plan: &Plan) -> Gain {
-    let (minimum, maximum) = any_values(random, plan).gain_range;
+fn random_gain(random: &mut Random, plan: &Plan, object: u16) -> Gain {
+    let (minimum, maximum) = any_values(random, plan, object).gain_range;
     let value = random_value(random, minimum, maximum, [-600, 210]);
     match value == SILENCE && random.chance(80) {
         true => Gain::Silent,
@@ -79,8 +92,8 @@ fn random_gain(random: &mut Random, plan: &Plan) -> Gain {
     }
 }
 
-fn random_offset(random: &mut Random, plan: &Plan) -> i16 {
-    let (minimum, maximum) = any_values(random, plan).offset_range;
+fn random_offset(random: &mut Random, plan: &Plan, object: u16) -> i16 {
+    let (minimum, maximum) = any_values(random, plan, object).offset_range;
     random_value(random, minimum, maximum, [-300, 300])
 }
 

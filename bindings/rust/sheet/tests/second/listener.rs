@@ -1,65 +1,12 @@
-//! Scripts of listener calls, worked out by hand from document 01 on one small sheet.
+//! Scripts of listener calls, worked out by hand from document 01 on the sheet `mixed`.
 
-use sheet::build::{language, Object, Plan, Track, ValueSet, Values, ABSENT, SILENCE};
+use sheet::generate::stored_scripts::sheets::mixed;
 use sheet::second::listener::{start_listing, Answer, ObjectState, Refusal, State};
 use sheet::second::values::Gain;
 use sheet::second::{check, Verdict};
 
-/// The sheet of the scripts, at level 1:
-///
-/// - pack 0 is a front pack of kind 3 with tracks 0 and 3, pack 1 has tracks 1 and 2;
-/// - object 0 (track 0) leads object 2 (track 3): gain 10 in -60 to 60, no offset in -100
-///   to 100, and a set each of gain 20 in a range of its own, -20 to 40;
-/// - object 1 has tracks 2 and 1, gain -30 and no ranges;
-/// - object 3 has children 5 (track 3) and 4 (track 0), and a gain range from silence to 0;
-/// - programme 0 includes 0, 1 and 2 without sets, programme 1 includes 2 and 3 with the
-///   set of 2, programme 2 includes 0 and 2 with both sets.
-fn plan() -> Plan {
-    let mut plan = Plan::new(1);
-    plan.add_pack(3, 1, 1);
-    plan.add_pack(1, 2, 0);
-    plan.tracks.push(Track { pack: 0, ordinal: 0 });
-    plan.add_object(0);
-    plan.add_object(1);
-    plan.add_object(0);
-    plan.add_parent(vec![5, 4]);
-    plan.add_object(0);
-    plan.add_object(0);
-    set_values(&mut plan.objects);
-    let set =
-        ValueSet { own: 1, values: Values { gain: 20, gain_range: (-20, 40), ..Values::NONE } };
-    plan.add_sets(0, &[set]);
-    plan.add_sets(2, &[set]);
-    for object in [1, 0, 2, 3] {
-        plan.add_content(object);
-    }
-    plan.contents[2].language = language("fra");
-    plan.add_programme(vec![0, 1, 2]);
-    plan.add_programme(vec![2, 3]);
-    plan.add_programme(vec![1, 2]);
-    plan.programmes[1].sets = vec![1];
-    plan.programmes[2].sets = vec![0, 1];
-    plan
-}
-
-fn set_values(objects: &mut [Object]) {
-    objects[1].tracks = vec![2, 1];
-    objects[2].tracks = vec![3];
-    objects[5].tracks = vec![3];
-    let speech =
-        Values { gain: 10, gain_range: (-60, 60), offset: ABSENT, offset_range: (-100, 100) };
-    for object in [0, 2] {
-        objects[object].interact = 1;
-        objects[object].values = speech;
-    }
-    objects[0].complements = vec![2];
-    objects[1].values.gain = -30;
-    objects[3].interact = 1;
-    objects[3].values = Values { gain_range: (SILENCE, 0), ..Values::NONE };
-}
-
 fn sheet() -> Vec<u8> {
-    plan().bytes()
+    mixed().bytes()
 }
 
 fn opened() -> State {
@@ -167,7 +114,7 @@ fn silence_is_a_gain_where_the_range_has_it_and_sounds() {
 
 #[test]
 fn sheets_that_are_not_accepted_or_of_level_0_are_25() {
-    let mut plan = plan();
+    let mut plan = mixed();
     plan.level = 0;
     assert_eq!(check(&plan.bytes()), Verdict::Accepted);
     for sheet in [plan.bytes(), vec![], sheet()[1..].to_vec()] {
