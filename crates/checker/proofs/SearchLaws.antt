@@ -20,6 +20,7 @@ use Rattle.tables.specs.declared.Mark.the-variants.{Count}
 use Rattle.tables.specs.declared.Naming.{Naming}
 use Rattle.tables.specs.Marks.{Standing, marked, repeat, namedBy, firstBy}
 use Rattle.tables.specs.Right.{counted, Named, Spanned}
+use Rattle.tables.proofs.MarkLaws.{nought}
 use Rattle.tables.proofs.TableLaws.{namings-added, span-namings}
 use Rattle.checker.specs.Checked.{judged}
 use Rattle.checker.specs.Tables.{TablesRight}
@@ -79,12 +80,6 @@ module _ (s : Sheet) where
         owners-right = λ x l. absurd (omega arith);
         leaders-right = λ x l. absurd (omega arith);
       }
-
--- a table of noughts
-nought : (n x : ℕ) → _≡_ {A = ℕ} (getD (replicate n 0) x 0) 0
-nought zero x = refl
-nought (suc n) zero = refl
-nought (suc n) (suc x) = nought n x
 
 module _ (s : Sheet) (n : ℕ) where
   pub counts-made : (kind : Naming) (t : List ℕ) → Standing (λ x. repeat (marked Count) (namedBy s kind x) (getD (replicate n 0) x 0)) t

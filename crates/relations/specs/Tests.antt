@@ -1,7 +1,7 @@
 -- The tests that one loop over a list's entries and one over a section's records make. Assumes nothing.
 use Prim.Native.Nat.{ℕ}
 use mathlib.Core.Bool.{Bool, not}
-use lib.Dec.{eqb}
+use lib.Dec.{eqb, leb}
 use Rattle.sheet.specs.Words.{Sheet}
 use Rattle.sheet.specs.Layout.{count, field, number, entry}
 use Rattle.sheet.specs.Fields.{programmes, contents, objects, packs, tracks, contentList, contentObject, complementList, packKind, trackPack, trackOrdinal}
@@ -10,7 +10,7 @@ use Rattle.profile.specs.Counting.{any, howMany, lowest}
 use Rattle.profile.specs.Relations.{lists, hasObjectsPack, leader, member, members, includes, hasSet, namesSet}
 use Rattle.profile.specs.Rules.{lacks}
 use Rattle.relations.specs.declared.EntryTest.{EntryTest}
-use Rattle.relations.specs.declared.EntryTest.the-variants.{Is, Lacks, NoLanguage, NoObjectsPack, OtherPack, Ordinal, ContentOf, SetOf}
+use Rattle.relations.specs.declared.EntryTest.the-variants.{Is, Lacks, NoLanguage, NoObjectsPack, OtherPack, Ordinal, OrdinalPast, ContentOf, SetOf}
 use Rattle.relations.specs.declared.RecordTest.{RecordTest}
 use Rattle.relations.specs.declared.RecordTest.the-variants.{Names, ObjectsPack, Leader, LeaderOf, OwnerOf, HasContent}
 use Rattle.relations.specs.declared.MemberTest.{MemberTest}
@@ -24,6 +24,7 @@ entryTest s NoLanguage e = not (language e)
 entryTest s NoObjectsPack e = not (hasObjectsPack s e)
 entryTest s (OtherPack pack) e = not (eqb (field s tracks e trackPack) pack)
 entryTest s (Ordinal n) e = eqb (field s tracks e trackOrdinal) n
+entryTest s (OrdinalPast n) e = leb n (field s tracks e trackOrdinal)
 entryTest s (ContentOf o) e = eqb (field s contents e contentObject) o
 entryTest s (SetOf o) e = hasSet s o e
 

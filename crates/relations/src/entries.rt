@@ -38,6 +38,7 @@ pub fn entry_test(s: &[u8], test: EntryTest, e: u16) -> bool
         EntryTest::NoObjectsPack => !has_objects_pack(s, e),
         EntryTest::OtherPack(pack) => field(s, TRACKS, e, TRACK_PACK) != pack,
         EntryTest::Ordinal(n) => field(s, TRACKS, e, TRACK_ORDINAL) == n,
+        EntryTest::OrdinalPast(n) => n <= field(s, TRACKS, e, TRACK_ORDINAL),
         EntryTest::ContentOf(o) => field(s, CONTENTS, e, CONTENT_OBJECT) == o,
         EntryTest::SetOf(o) => has_set(s, o, e),
     }

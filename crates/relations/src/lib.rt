@@ -22,6 +22,8 @@ pub enum EntryTest {
     OtherPack(u16),
     // the track has this ordinal
     Ordinal(u16),
+    // the track has this ordinal or a higher one
+    OrdinalPast(u16),
     // the content names this object
     ContentOf(u16),
     // the value set is this object's

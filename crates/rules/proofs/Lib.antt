@@ -1,1 +1,3 @@
 mod GroupTestLaws
+mod SeenLaws
+mod OrdinalLaws

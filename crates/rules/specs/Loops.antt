@@ -10,6 +10,8 @@ use Rattle.profile.specs.Counting.{any, howMany, sum, twoOf}
 use Rattle.profile.specs.Relations.{times, leader, leaderOf, members, includes, included, whollyIncluded, owner, channels, trackAt}
 use Rattle.profile.specs.Rules.{badComplement, differs, setsNamed, setsDiffer}
 use Rattle.tables.specs.Right.{Tops, Complemented, Leaders, Owners, Included}
+use Rattle.rules.specs.declared.Key.{Key}
+use Rattle.rules.specs.declared.Key.the-variants.{Entry, Owner, Ordinal}
 use Rattle.rules.specs.declared.PairTest.{PairTest}
 use Rattle.rules.specs.declared.PairTest.the-variants.{Same, OneOwner, DifferInGroup}
 use Rattle.rules.specs.declared.ListedTest.{ListedTest}
@@ -30,6 +32,22 @@ earlierEntry s section k at test j = any (λ i. pairTest s test (entry s section
 -- two entries of the list pass it
 unfoldable pub twoEntries : Sheet → ℕ → ℕ → ℕ → PairTest → Bool
 twoEntries s section k at test = twoOf (λ i j. pairTest s test (entry s section k at i) (entry s section k at j)) (number s section k at)
+
+-- what is compared of an entry
+abbrev pub keyOf : Sheet → Key → ℕ → ℕ
+keyOf s Entry e = e
+keyOf s Owner e = owner s e
+keyOf s Ordinal e = field s tracks e trackOrdinal
+
+-- the table that it is read from is right
+abbrev pub keyRight : Sheet → Key → List ℕ → Type 0
+keyRight s Entry owners = Unit {0}
+keyRight s Owner owners = Owners s owners
+keyRight s Ordinal owners = Unit {0}
+
+-- two entries of the list have the same key
+unfoldable pub keysAlike : Sheet → ℕ → ℕ → ℕ → Key → Bool
+keysAlike s section k at key = twoOf (λ i j. eqb (keyOf s key (entry s section k at i)) (keyOf s key (entry s section k at j))) (number s section k at)
 
 -- the tables that a test of two entries reads are right
 abbrev pub pairRight : Sheet → PairTest → List ℕ → List ℕ → Type 0

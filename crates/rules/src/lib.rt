@@ -1,4 +1,5 @@
-// Rules 1 to 24 as functions on a lent sheet: each is the definition of the same name in the profile crate.
+// Rules 1 to 24 as functions on a lent sheet: each is the definition of the same name in the profile crate, where the tables that some
+// of them are lent are right.
 pub mod groups;
 pub mod header;
 pub mod limits;
@@ -7,6 +8,7 @@ pub mod loops;
 pub mod naming;
 pub mod objects;
 pub mod ranges;
+pub mod repeats;
 pub mod sets;
 pub mod totals;
 pub mod words;
@@ -19,6 +21,16 @@ pub enum PairTest {
     OneOwner,
     // they are sets in one group that differ
     DifferInGroup,
+}
+
+// What of two entries of a list is compared.
+pub enum Key {
+    // the entries themselves
+    Entry,
+    // the objects whose value sets they are
+    Owner,
+    // the ordinals of the tracks that they are
+    Ordinal,
 }
 
 // What an entry of a list is tested for, where the test looks into other lists.

@@ -1,6 +1,5 @@
 // Rules 4, 5 and 9: lists and the indices and labels in them.
-use crate::PairTest;
-use crate::loops::two_entries;
+use crate::repeats::repeats;
 use relations::EntryTest;
 use relations::entries::any_entry;
 use relations::objects::has_pack;
@@ -27,7 +26,7 @@ use sheet::layout::count;
 use sheet::layout::field;
 use sheet::layout::number;
 ghost use mathlib.Core.Path.{_≡_};
-ghost use Rattle.profile.specs.Rules.{beyond, listLacks, repeats, rule4, rule5, rule9};
+ghost use Rattle.profile.specs.Rules.{beyond, listLacks, rule4, rule5, rule9};
 ghost use Rattle.sheet.specs.Words.{sheetOf};
 
 // The list or span at a position of a record ends beyond the target section.
@@ -78,14 +77,6 @@ pub fn rule5(s: &[u8], section: u8, k: u16) -> bool
         5 => lacks(s, PACKS, field(s, TRACKS, k, TRACK_PACK)),
         _ => false,
     }
-}
-
-// The list at a position of a record has one entry at two of its places.
-pub fn repeats(s: &[u8], section: u8, k: u16, at: u8) -> bool
-    ensures { λ r. ⌜ r ≡ repeats (sheetOf (now (s .entry))) section k at ⌝ }
-{
-    let none: [u16; 1] = [0];
-    two_entries(s, &none, &none, section, k, at, PairTest::Same)
 }
 
 pub fn rule9(s: &[u8], section: u8, k: u16) -> bool

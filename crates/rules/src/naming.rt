@@ -1,6 +1,6 @@
 // Rules 11 and 12: what names what, and how often.
-use crate::lists::repeats;
 use crate::loops::total_times;
+use crate::repeats::repeats;
 use relations::RecordTest;
 use relations::records::any_record;
 use relations::records::how_many_records;

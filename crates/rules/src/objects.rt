@@ -1,7 +1,7 @@
 // Rules 13 to 16: what an object has and may have.
-use crate::loops::bad_channel;
 use crate::loops::channels;
 use crate::loops::own_set;
+use crate::repeats::bad_ordinals;
 use crate::words::object_range;
 use relations::EntryTest;
 use relations::entries::any_entry;
@@ -39,15 +39,17 @@ pub fn rule13(s: &[u8], section: u8, o: u16) -> bool
 pub fn rule14(s: &[u8], section: u8, o: u16) -> bool
     ensures { λ r. ⌜ r ≡ rule14 (sheetOf (now (s .entry))) section o ⌝ }
 {
-    (number(s, OBJECTS, o, TRACK_LIST) != channels(s, o))
-        | any_entry(
-            s,
-            OBJECTS,
-            o,
-            TRACK_LIST,
-            EntryTest::OtherPack(pack_of(s, o)),
-        )
-        | bad_channel(s, o)
+    if number(s, OBJECTS, o, TRACK_LIST) != channels(s, o) {
+        return true;
+    }
+    any_entry(
+        s,
+        OBJECTS,
+        o,
+        TRACK_LIST,
+        EntryTest::OtherPack(pack_of(s, o)),
+    )
+        | bad_ordinals(s, o)
 }
 
 pub fn rule15(s: &[u8], tops: &[u16], section: u8, o: u16) -> bool

@@ -5,6 +5,7 @@ use crate::PairTest;
 use crate::loops::any_group;
 use crate::loops::any_listed;
 use crate::loops::two_entries;
+use crate::repeats::one_owner;
 use sheet::fields::PROGRAMMES;
 use sheet::fields::SET_LIST;
 ghost use mathlib.Core.Path.{_≡_};
@@ -15,7 +16,7 @@ ghost use Rattle.tables.specs.Right.{Included, Leaders, Owners};
 pub fn rule22(s: &[u8], owners: &[u16], leaders: &[u16], marks: &[u16], section: u8, p: u16) -> bool
     ensures { λ r. ⌜ (Owners (sheetOf (now (s .entry))) (now (owners .entry)) → Leaders (sheetOf (now (s .entry))) (now (leaders .entry)) → Included (sheetOf (now (s .entry))) p (now (marks .entry)) → r ≡ rule22 (sheetOf (now (s .entry))) section p) ⌝ }
 {
-    any_listed(
+    if any_listed(
         s,
         owners,
         marks,
@@ -23,17 +24,13 @@ pub fn rule22(s: &[u8], owners: &[u16], leaders: &[u16], marks: &[u16], section:
         p,
         SET_LIST,
         ListedTest::NotIncluded(p),
-    )
-        | two_entries(
-            s,
-            owners,
-            leaders,
-            PROGRAMMES,
-            p,
-            SET_LIST,
-            PairTest::OneOwner,
-        )
-        | any_group(s, p, marks, GroupTest::PartlySet)
+    ) {
+        return true;
+    }
+    if one_owner(s, owners, p) {
+        return true;
+    }
+    any_group(s, p, marks, GroupTest::PartlySet)
         | two_entries(
             s,
             owners,

@@ -8,7 +8,7 @@ use native.Mathlib.Nat.{add-zero}
 use native.Mathlib.Numerals.{add-one}
 use borrow.Author.Tests.{eqb-true, eq-eqb, ne-eqb, eqb-false}
 use lib.Dec.{eqb, ltb}
-use lib.ListN.{length, getD, set, length-set}
+use lib.ListN.{length, getD, set, replicate, length-set}
 use lib.Seq.{getD-set-same, getD-set-other}
 use Rattle.sheet.specs.Words.{Sheet}
 use Rattle.profile.specs.Counting.{any, howMany, sum}
@@ -106,3 +106,9 @@ first-more s kind t₀ t t′ q n long before now x l =
     swap : (b : Bool) (c d : ℕ) → cond b c d ≡ cond (not b) d c
     swap true c d = refl
     swap false c d = refl
+
+-- a table of noughts
+pub nought : (n x : ℕ) → _≡_ {A = ℕ} (getD (replicate n 0) x 0) 0
+nought zero x = refl
+nought (suc n) zero = refl
+nought (suc n) (suc x) = nought n x

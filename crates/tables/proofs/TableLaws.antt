@@ -13,7 +13,7 @@ use Rattle.sheet.specs.Fields.{programmes, contents, objects, contentList, cont
 use Rattle.profile.specs.Counting.{any, howMany, sum, lowest, lowestFrom}
 use Rattle.profile.specs.Relations.{lists, times, top, complement, leaderOf, includes, hasSet, owner, namings}
 use Rattle.profile.proofs.CountingLaws.{any-howMany, any-none, found, nothing, lowest-le}
-use Rattle.profile.proofs.SumLaws.{sum-eq}
+use Rattle.profile.proofs.SumLaws.{sum-eq, howMany-sum, any-nowhere}
 use Rattle.tables.specs.declared.Naming.{Naming}
 use Rattle.tables.specs.declared.Naming.the-variants.{ContentObjects, Children, Complements, ContentLists, Included, SetSpans}
 use Rattle.tables.specs.declared.Mark.the-variants.{Count, Store}
@@ -45,12 +45,6 @@ unfolding counted repeat
 counted-more zero = refl
 counted-more (suc zero) = refl
 counted-more (suc (suc n)) = ap (λ (c : ℕ). ltb 1 c) (counted-two n) ∙ sym (lt-ltb 1 (suc (suc n)) (omega arith))
-
--- a sum of counts of 0 or 1 is a count
-pub sum-flags : (p : ℕ → Bool) (n : ℕ) → sum (λ i. cond (p i) 1 0) n ≡ howMany p n
-unfolding sum howMany
-sum-flags p zero = refl
-sum-flags p (suc n) = ap (λ (c : ℕ). c + cond (p n) 1 0) (sum-flags p n)
 
 -- something in some list: the counts of all lists are not 0
 pub any-sum : (p : ℕ → ℕ → Bool) (m : ℕ → ℕ) (n : ℕ) → any (λ q. any (p q) (m q)) n ≡ not (eqb (sum (λ q. howMany (p q) (m q)) n) 0)
@@ -111,11 +105,6 @@ unfolding lowestFrom
 lowest-same p q i zero h = refl
 lowest-same p q i (suc n) h = ap₂ (λ (b : Bool) (c : ℕ). cond b i c) (h i) (lowest-same p q (suc i) n h)
 
-none-any : (p : ℕ → Bool) (n : ℕ) → ((k : ℕ) → k < n → p k ≡ false) → any p n ≡ false
-unfolding any
-none-any p zero h = refl
-none-any p (suc n) h = rw (none-any p n (λ k l. h k (omega arith)), h n (omega arith)) refl
-
 -- the first, by the lowest
 first-any : (p : ℕ → Bool) (d i n : ℕ) → firstFrom p d i n ≡ cond (ltb (lowestFrom p i n) (i + n)) (suc (lowestFrom p i n)) d
 unfolding firstFrom lowestFrom
@@ -133,7 +122,7 @@ lowest-any p n =
         | true ↦ λ f. refl
         | false ↦ λ f. sym (found p n e) ∙ any-none p n f (lowest p n) (ltb-true (lowest p n) n e)
       ]) refl
-      | false ↦ λ e. sym (none-any p n (nothing p n e))
+      | false ↦ λ e. sym (any-nowhere p n (nothing p n e))
     ]) refl
 
 -- what stands in a table, read
@@ -163,7 +152,7 @@ module _ (s : Sheet) where
   unfolding namedBy timesBy howMany
   content-namings o =
       sum-eq (λ c. 0 + cond (eqb (field s contents c contentObject) o) 1 0) (λ c. cond (eqb (field s contents c contentObject) o) 1 0) (count s contents) (λ i l. zero-add _)
-      ∙ sum-flags (λ c. eqb (field s contents c contentObject) o) (count s contents)
+      ∙ sym (howMany-sum (λ c. eqb (field s contents c contentObject) o) (count s contents))
 
   pub top-counted : (o : ℕ) → top s o ≡ not (eqb (counted (namedBy s ContentObjects o)) 0)
   unfolding top
@@ -206,7 +195,7 @@ module _ (s : Sheet) where
   span-namings v =
       sum-eq (λ o. howMany (λ i. eqb (first s objects o setSpan + i) v) (number s objects o setSpan)) (λ o. cond (leb (first s objects o setSpan) v && ltb v (first s objects o setSpan + number s objects o setSpan)) 1 0) (count s objects)
       (λ o l. run-times (first s objects o setSpan) v (number s objects o setSpan))
-      ∙ sum-flags (λ o. leb (first s objects o setSpan) v && ltb v (first s objects o setSpan + number s objects o setSpan)) (count s objects)
+      ∙ sym (howMany-sum (λ o. leb (first s objects o setSpan) v && ltb v (first s objects o setSpan + number s objects o setSpan)) (count s objects))
 
   pub owner-told : (v : ℕ) → told (count s objects) (firstBy s SetSpans v 0) ≡ owner s v
   unfolding firstBy owner

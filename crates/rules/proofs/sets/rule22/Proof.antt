@@ -1,7 +1,9 @@
 -- Its four parts. Assumes nothing.
+use mathlib.Core.Path.{sym, _∙_}
 use Rattle.profile.specs.Rules.{rule22, ownerAt}
 use Rattle.profile.specs.Relations.{namedSet}
-use Rattle.rules.specs.Loops.{anyListed, twoEntries, anyGroup}
+use Rattle.profile.proofs.BoolLaws.{or-true}
+use Rattle.rules.specs.Loops.{anyListed, twoEntries, anyGroup, keysAlike}
 use borrow.Author.Needs.{needs}
 use Rattle.rules.proofs.sets.rule22.Statement.{statement}
 use Rattle.rules.proofs.sets.rule22.Tie as tie
@@ -9,25 +11,35 @@ use Rattle.rules.proofs.sets.rule22.Tie as tie
 any-listed-requires : tie.Need-any-listed-requires
 any-listed-requires c κs = search needs
 
-two-entries-requires : tie.Need-two-entries-requires
-two-entries-requires c κs = search needs
+returns : tie.Need-returns
+unfolding rule22 anyListed twoEntries anyGroup keysAlike ownerAt namedSet
+returns c = λ owners leaders marks. simp (sym (c .before .any-listed .ensures (owners, marks)) ∙ c .if1 .taken)
+
+one-owner-requires : tie.Need-one-owner-requires
+one-owner-requires c κs = search needs
+
+returns-2 : tie.Need-returns-2
+unfolding rule22 anyListed twoEntries anyGroup keysAlike ownerAt namedSet
+returns-2 c = λ owners leaders marks. simp (sym (c .before .before .before .any-listed .ensures (owners, marks)) ∙ c .before .before .if1 .left, sym (c .before .one-owner .ensures owners) ∙ c .if2 .taken)
 
 any-group-requires : tie.Need-any-group-requires
 any-group-requires c κs = search needs
 
-two-entries-requires-2 : tie.Need-two-entries-requires-2
-two-entries-requires-2 c κs = search needs
+two-entries-requires : tie.Need-two-entries-requires
+two-entries-requires c κs = search needs
 
-returns : tie.Need-returns
-unfolding rule22 anyListed twoEntries anyGroup ownerAt namedSet
-returns c = λ owners leaders marks. simp (c .two-entries2 .ensures (owners, leaders), c .before .any-group .ensures marks, c .before .before .two-entries .ensures owners, c .before .before .before .any-listed .ensures (owners, marks))
+returns-3 : tie.Need-returns-3
+unfolding rule22 anyListed twoEntries anyGroup keysAlike ownerAt namedSet
+returns-3 c = λ owners leaders marks. simp (c .two-entries .ensures (owners, leaders), c .before .any-group .ensures marks, sym (c .before .before .before .before .before .any-listed .ensures (owners, marks)) ∙ c .before .before .before .before .if1 .left, sym (c .before .before .before .one-owner .ensures owners) ∙ c .before .before .if2 .left)
 
 pub rule22-spec : {M : Type 1} → statement M
 rule22-spec =
     tie.close
     (tie.spec
     any-listed-requires
-    two-entries-requires
+    returns
+    one-owner-requires
+    returns-2
     any-group-requires
-    two-entries-requires-2
-    returns)
+    two-entries-requires
+    returns-3)

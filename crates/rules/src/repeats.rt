@@ -1,0 +1,116 @@
+// Lists with two entries alike: short lists by their pairs, long ones by a table of what was seen.
+use crate::Key;
+use crate::PairTest;
+use crate::loops::bad_channel;
+use crate::loops::two_entries;
+use relations::EntryTest;
+use relations::entries::any_entry;
+use sheet::fields::OBJECTS;
+use sheet::fields::PROGRAMMES;
+use sheet::fields::SET_LIST;
+use sheet::fields::TRACK_LIST;
+use sheet::fields::TRACK_ORDINAL;
+use sheet::fields::TRACKS;
+use sheet::layout::entry;
+use sheet::layout::field;
+use sheet::layout::number;
+use tables::reads::owner_by;
+ghost use lib.Dec.{eqb};
+ghost use lib.ListN.{getD, length};
+ghost use mathlib.Core.Bool.{cond, not};
+ghost use mathlib.Core.Path.{_≡_};
+ghost use Rattle.profile.specs.Relations.{channels};
+ghost use Rattle.profile.specs.Rules.{repeats};
+ghost use Rattle.rules.specs.Loops.{badChannel, keyOf, keyRight, keysAlike};
+ghost use Rattle.sheet.specs.Words.{sheetOf};
+ghost use Rattle.sheet.specs.Fields.{objects, programmes, setList, trackList};
+ghost use Rattle.sheet.specs.Layout.{number};
+ghost use Rattle.tables.specs.Marks.{Standing};
+ghost use Rattle.tables.specs.Right.{Owners};
+ghost use Rattle.rules.specs.declared.Key.the-variants.{Owner};
+
+// What is compared of an entry.
+fn key_of(s: &[u8], owners: &[u16], key: Key, e: u16) -> u16
+    ensures { λ r. ⌜ (keyRight (sheetOf (now (s .entry))) key (now (owners .entry)) → r ≡ keyOf (sheetOf (now (s .entry))) key e) ⌝ }
+{
+    match key {
+        Key::Entry => e,
+        Key::Owner => owner_by(s, owners, e),
+        Key::Ordinal => field(s, TRACKS, e, TRACK_ORDINAL),
+    }
+}
+
+// Marks a number as seen, and tells whether it was before.
+fn see(seen: &mut [u16], x: u16) -> bool
+    requires { ⌜ length (now seen) ≡ 65536 ⌝ }
+    ensures { λ r. ⌜ (length (now (seen .exit)) ≡ 65536) × (r ≡ not (eqb (getD (now (seen .entry)) x 0) 0)) × Standing (λ z. cond (eqb x z) 1 (getD (now (seen .entry)) z 0)) (now (seen .exit)) ⌝ }
+{
+    let i = x as usize;
+    let before = seen[i] != 0;
+    seen[i] = 1;
+    before
+}
+
+// Whether two entries of the list at a position of a record have the same key.
+pub fn keys_alike(s: &[u8], owners: &[u16], section: u8, k: u16, at: u8, key: Key) -> bool
+    ensures { λ r. ⌜ (keyRight (sheetOf (now (s .entry))) key (now (owners .entry)) → r ≡ keysAlike (sheetOf (now (s .entry))) section k at key) ⌝ }
+{
+    let n = number(s, section, k, at);
+    let mut seen: [u16; 65536] = [0; 65536];
+    let mut j: u16 = 0;
+    while j < n {
+        let x = key_of(s, owners, key, entry(s, section, k, at, j));
+        if see(&mut seen, x) {
+            return true;
+        }
+        j += 1;
+    }
+    false
+}
+
+// A list of so many entries is compared by pairs, a longer one by a table.
+const SHORT: u16 = 48;
+
+// The list at a position of a record has one entry at two of its places.
+pub fn repeats(s: &[u8], section: u8, k: u16, at: u8) -> bool
+    ensures { λ r. ⌜ r ≡ repeats (sheetOf (now (s .entry))) section k at ⌝ }
+{
+    let none: [u16; 1] = [0];
+    if number(s, section, k, at) <= SHORT {
+        two_entries(s, &none, &none, section, k, at, PairTest::Same)
+    } else {
+        keys_alike(s, &none, section, k, at, Key::Entry)
+    }
+}
+
+// A programme names two sets of one object.
+pub fn one_owner(s: &[u8], owners: &[u16], p: u16) -> bool
+    ensures { λ r. ⌜ (Owners (sheetOf (now (s .entry))) (now (owners .entry)) → r ≡ keysAlike (sheetOf (now (s .entry))) programmes p setList Owner) ⌝ }
+{
+    if number(s, PROGRAMMES, p, SET_LIST) <= SHORT {
+        two_entries(
+            s,
+            owners,
+            owners,
+            PROGRAMMES,
+            p,
+            SET_LIST,
+            PairTest::OneOwner,
+        )
+    } else {
+        keys_alike(s, owners, PROGRAMMES, p, SET_LIST, Key::Owner)
+    }
+}
+
+// Whether some channel of n is not the ordinal of exactly one of the object's n tracks.
+pub fn bad_ordinals(s: &[u8], o: u16) -> bool
+    ensures { λ r. ⌜ (number (sheetOf (now (s .entry))) objects o trackList ≡ channels (sheetOf (now (s .entry))) o → r ≡ badChannel (sheetOf (now (s .entry))) o) ⌝ }
+{
+    let none: [u16; 1] = [0];
+    let n = number(s, OBJECTS, o, TRACK_LIST);
+    if n <= SHORT {
+        return bad_channel(s, o);
+    }
+    any_entry(s, OBJECTS, o, TRACK_LIST, EntryTest::OrdinalPast(n))
+        | keys_alike(s, &none, OBJECTS, o, TRACK_LIST, Key::Ordinal)
+}
