@@ -2,20 +2,17 @@
 use crate::MemberTest;
 use crate::RecordTest;
 use crate::entries::one;
-use crate::objects::leader;
 use crate::programmes::includes;
 use crate::programmes::names_set;
 use crate::records::complement;
 use crate::records::lowest_record;
-use crate::records::top;
 use sheet::fields::COMPLEMENT_LIST;
 use sheet::fields::OBJECTS;
 use sheet::layout::entry;
 use sheet::layout::number;
 ghost use Prim.Native.Nat.{_≤_};
 ghost use mathlib.Core.Path.{_≡_};
-ghost use Rattle.profile.specs.Relations.{included, leaderOf, lone, member, members, whollyIncluded};
-ghost use Rattle.profile.specs.Rules.{setsNamed};
+ghost use Rattle.profile.specs.Relations.{included, leaderOf, member, members, whollyIncluded};
 ghost use Rattle.relations.specs.Tests.{howManyMembers, memberTest};
 ghost use Rattle.sheet.specs.Words.{sheetOf};
 
@@ -48,13 +45,6 @@ pub fn leader_of(s: &[u8], o: u16) -> u16
     }
 }
 
-// A top object in no group.
-pub fn lone(s: &[u8], o: u16) -> bool
-    ensures { λ r. ⌜ r ≡ lone (sheetOf (now (s .entry))) o ⌝ }
-{
-    top(s, o) & !leader(s, o) & !complement(s, o)
-}
-
 // Whether a member passes the test.
 pub fn member_test(s: &[u8], test: MemberTest, o: u16) -> bool
     ensures { λ r. ⌜ r ≡ memberTest (sheetOf (now (s .entry))) test o ⌝ }
@@ -84,13 +74,6 @@ pub fn included(s: &[u8], p: u16, l: u16) -> u32
     ensures { λ r. ⌜ r ≡ included (sheetOf (now (s .entry))) p l ⌝ }
 {
     how_many_members(s, l, MemberTest::IncludedIn(p))
-}
-
-// How many members of a leader's group the programme names a set for.
-pub fn sets_named(s: &[u8], p: u16, l: u16) -> u32
-    ensures { λ r. ⌜ r ≡ setsNamed (sheetOf (now (s .entry))) p l ⌝ }
-{
-    how_many_members(s, l, MemberTest::SetIn(p))
 }
 
 // "a group is wholly included if all its members are"

@@ -1,3 +1,4 @@
 mod GroupTestLaws
 mod SeenLaws
 mod OrdinalLaws
+mod DifferLaws

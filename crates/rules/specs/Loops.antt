@@ -9,7 +9,9 @@ use Rattle.sheet.specs.Fields.{objects, tracks, valueSets, trackList, setSpan, 
 use Rattle.profile.specs.Counting.{any, howMany, sum, twoOf}
 use Rattle.profile.specs.Relations.{times, leader, leaderOf, members, includes, included, whollyIncluded, owner, channels, trackAt}
 use Rattle.profile.specs.Rules.{badComplement, differs, setsNamed, setsDiffer}
-use Rattle.tables.specs.Right.{Tops, Complemented, Leaders, Owners, Included}
+use Rattle.tables.specs.Right.{Tops, Complemented, Leaders, Owners, Included, NamedSets}
+use Rattle.relations.specs.declared.MemberTest.{MemberTest}
+use Rattle.relations.specs.declared.MemberTest.the-variants.{IncludedIn, SetIn}
 use Rattle.rules.specs.declared.Key.{Key}
 use Rattle.rules.specs.declared.Key.the-variants.{Entry, Owner, Ordinal}
 use Rattle.rules.specs.declared.PairTest.{PairTest}
@@ -75,6 +77,15 @@ anyListed s section k at test = any (λ i. listedTest s test (entry s section k 
 abbrev pub groupTest : Sheet → ℕ → GroupTest → ℕ → Bool
 groupTest s p Split l = leader s l && not (eqb (included s p l) 0) && not (eqb (included s p l) 1) && not (whollyIncluded s p l)
 groupTest s p PartlySet l = leader s l && whollyIncluded s p l && not (eqb (setsNamed s p l) 0) && not (eqb (setsNamed s p l) (members s l))
+
+-- the tables that the tests of members and groups read are right
+abbrev pub memberRight : Sheet → MemberTest → List ℕ → Type 0
+memberRight s (IncludedIn p) marks = Included s p marks
+memberRight s (SetIn p) sets = NamedSets s p sets
+
+abbrev pub groupRight : Sheet → ℕ → GroupTest → List ℕ → Type 0
+groupRight s p Split sets = Unit {0}
+groupRight s p PartlySet sets = NamedSets s p sets
 
 -- some leader does
 unfoldable pub anyGroup : Sheet → ℕ → GroupTest → Bool

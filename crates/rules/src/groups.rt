@@ -43,5 +43,5 @@ pub fn rule20(s: &[u8], section: u8, o: u16) -> bool
 pub fn rule21(s: &[u8], marks: &[u16], section: u8, p: u16) -> bool
     ensures { λ r. ⌜ (Included (sheetOf (now (s .entry))) p (now (marks .entry)) → r ≡ rule21 (sheetOf (now (s .entry))) section p) ⌝ }
 {
-    any_group(s, p, marks, GroupTest::Split)
+    any_group(s, p, marks, marks, GroupTest::Split)
 }

@@ -3,12 +3,12 @@ use crate::GroupTest;
 use crate::ListedTest;
 use crate::PairTest;
 use relations::EntryTest;
+use relations::MemberTest;
 use relations::entries::how_many_entries;
 use relations::entries::one;
 use relations::entries::times;
 use relations::groups::member;
 use relations::groups::members;
-use relations::groups::sets_named;
 use relations::objects::has_children;
 use relations::objects::kind;
 use relations::objects::leader;
@@ -30,14 +30,16 @@ use sheet::layout::number;
 use sheet::layout::wide_field;
 use tables::reads::included_by;
 use tables::reads::leader_by;
+use tables::reads::names_set_by;
 use tables::reads::owner_by;
 use tables::reads::top_by;
 ghost use Prim.Native.Nat.{_*_, _≤_};
 ghost use lib.Dec.{ltb};
 ghost use mathlib.Core.Path.{_≡_};
-ghost use Rattle.profile.specs.Relations.{channels, included};
+ghost use Rattle.profile.specs.Relations.{channels};
 ghost use Rattle.profile.specs.Rules.{badComplement, differs, setsDiffer};
-ghost use Rattle.rules.specs.Loops.{anyGroup, anyListed, badChannel, earlierEntry, fieldsDiffer, groupTest, listedRight, listedTest, ownSet, pairRight, pairTest, totalTimes, twoEntries};
+ghost use Rattle.relations.specs.Tests.{howManyMembers, memberTest};
+ghost use Rattle.rules.specs.Loops.{anyGroup, anyListed, badChannel, earlierEntry, fieldsDiffer, groupRight, groupTest, listedRight, listedTest, memberRight, ownSet, pairRight, pairTest, totalTimes, twoEntries};
 ghost use Rattle.sheet.specs.Fields.{complementList};
 ghost use Rattle.sheet.specs.Words.{sheetOf};
 ghost use Rattle.tables.specs.Right.{Complemented, Included, Tops};
@@ -200,34 +202,44 @@ pub fn two_entries(
     found
 }
 
-// How many members of a leader's group the programme includes.
-fn included_members(s: &[u8], p: u16, marks: &[u16], l: u16) -> u32
-    ensures { λ r. ⌜ (Included (sheetOf (now (s .entry))) p (now (marks .entry)) → r ≡ included (sheetOf (now (s .entry))) p l) ⌝ }
+// Whether a member passes the test, with the table that the test reads.
+fn member_passes(s: &[u8], marks: &[u16], test: MemberTest, o: u16) -> bool
+    ensures { λ r. ⌜ (memberRight (sheetOf (now (s .entry))) test (now (marks .entry)) → r ≡ memberTest (sheetOf (now (s .entry))) test o) ⌝ }
+{
+    match test {
+        MemberTest::IncludedIn(p) => included_by(s, p, marks, o),
+        MemberTest::SetIn(p) => names_set_by(s, p, marks, o),
+    }
+}
+
+// How many members of a leader's group pass the test.
+fn members_passing(s: &[u8], marks: &[u16], test: MemberTest, l: u16) -> u32
+    ensures { λ r. ⌜ (memberRight (sheetOf (now (s .entry))) test (now (marks .entry)) → r ≡ howManyMembers (sheetOf (now (s .entry))) l test) ⌝ }
 {
     let n = members(s, l);
     let mut found: u32 = 0;
     let mut i: u32 = 0;
     while i < n {
-        found += one(included_by(s, p, marks, member(s, l, i as u16))) as u32;
+        found += one(member_passes(s, marks, test, member(s, l, i as u16))) as u32;
         i += 1;
     }
     found
 }
 
 // Whether an object passes the test as a leader.
-pub fn group_test(s: &[u8], p: u16, marks: &[u16], test: GroupTest, l: u16) -> bool
-    ensures { λ r. ⌜ (Included (sheetOf (now (s .entry))) p (now (marks .entry)) → r ≡ groupTest (sheetOf (now (s .entry))) p test l) ⌝ }
+pub fn group_test(s: &[u8], p: u16, marks: &[u16], sets: &[u16], test: GroupTest, l: u16) -> bool
+    ensures { λ r. ⌜ (Included (sheetOf (now (s .entry))) p (now (marks .entry)) → groupRight (sheetOf (now (s .entry))) p test (now (sets .entry)) → r ≡ groupTest (sheetOf (now (s .entry))) p test l) ⌝ }
 {
     if !leader(s, l) {
         return false;
     }
-    let n = included_members(s, p, marks, l);
+    let n = members_passing(s, marks, MemberTest::IncludedIn(p), l);
     let all = members(s, l);
     match test {
         GroupTest::Split => (n != 0) & (n != 1) & (n != all),
         GroupTest::PartlySet => {
             if n == all {
-                let m = sets_named(s, p, l);
+                let m = members_passing(s, sets, MemberTest::SetIn(p), l);
                 (m != 0) & (m != all)
             } else {
                 false
@@ -237,14 +249,14 @@ pub fn group_test(s: &[u8], p: u16, marks: &[u16], test: GroupTest, l: u16) -> b
 }
 
 // Whether some leader passes the test.
-pub fn any_group(s: &[u8], p: u16, marks: &[u16], test: GroupTest) -> bool
-    ensures { λ r. ⌜ (Included (sheetOf (now (s .entry))) p (now (marks .entry)) → r ≡ anyGroup (sheetOf (now (s .entry))) p test) ⌝ }
+pub fn any_group(s: &[u8], p: u16, marks: &[u16], sets: &[u16], test: GroupTest) -> bool
+    ensures { λ r. ⌜ (Included (sheetOf (now (s .entry))) p (now (marks .entry)) → groupRight (sheetOf (now (s .entry))) p test (now (sets .entry)) → r ≡ anyGroup (sheetOf (now (s .entry))) p test) ⌝ }
 {
     let n = count(s, OBJECTS);
     let mut found = false;
     let mut l: u16 = 0;
     while l < n {
-        found = found | group_test(s, p, marks, test, l);
+        found = found | group_test(s, p, marks, sets, test, l);
         l += 1;
     }
     found

@@ -2,9 +2,11 @@
 use crate::Key;
 use crate::PairTest;
 use crate::loops::bad_channel;
+use crate::loops::sets_differ;
 use crate::loops::two_entries;
 use relations::EntryTest;
 use relations::entries::any_entry;
+use relations::programmes::named_set;
 use sheet::fields::OBJECTS;
 use sheet::fields::PROGRAMMES;
 use sheet::fields::SET_LIST;
@@ -14,20 +16,23 @@ use sheet::fields::TRACKS;
 use sheet::layout::entry;
 use sheet::layout::field;
 use sheet::layout::number;
+use tables::reads::leader_by;
 use tables::reads::owner_by;
+ghost use Prim.Native.Nat.{suc, _<_};
 ghost use lib.Dec.{eqb};
 ghost use lib.ListN.{getD, length};
 ghost use mathlib.Core.Bool.{cond, not};
 ghost use mathlib.Core.Path.{_≡_};
 ghost use Rattle.profile.specs.Relations.{channels};
 ghost use Rattle.profile.specs.Rules.{repeats};
-ghost use Rattle.rules.specs.Loops.{badChannel, keyOf, keyRight, keysAlike};
+ghost use Rattle.rules.specs.Loops.{badChannel, keyOf, keyRight, keysAlike, twoEntries};
 ghost use Rattle.sheet.specs.Words.{sheetOf};
 ghost use Rattle.sheet.specs.Fields.{objects, programmes, setList, trackList};
 ghost use Rattle.sheet.specs.Layout.{number};
 ghost use Rattle.tables.specs.Marks.{Standing};
-ghost use Rattle.tables.specs.Right.{Owners};
+ghost use Rattle.tables.specs.Right.{Leaders, Owners, told};
 ghost use Rattle.rules.specs.declared.Key.the-variants.{Owner};
+ghost use Rattle.rules.specs.declared.PairTest.the-variants.{DifferInGroup};
 
 // What is compared of an entry.
 fn key_of(s: &[u8], owners: &[u16], key: Key, e: u16) -> u16
@@ -113,4 +118,57 @@ pub fn bad_ordinals(s: &[u8], o: u16) -> bool
     }
     any_entry(s, OBJECTS, o, TRACK_LIST, EntryTest::OrdinalPast(n))
         | keys_alike(s, &none, OBJECTS, o, TRACK_LIST, Key::Ordinal)
+}
+
+// The first place of a group among those passed; where there is none, this one, which is kept.
+fn first_of(first: &mut [u16], l: u16, j: u16) -> u16
+    requires { ⌜ (length (now first) ≡ 65536) × (j < 65535) ⌝ }
+    ensures { λ r. ⌜ (length (now (first .exit)) ≡ 65536) × (r ≡ told j (getD (now (first .entry)) l 0)) × Standing (λ z. cond (eqb l z) (suc r) (getD (now (first .entry)) z 0)) (now (first .exit)) ⌝ }
+{
+    let i = l as usize;
+    let c = first[i];
+    if c == 0 {
+        first[i] = j + 1;
+        j
+    } else {
+        c - 1
+    }
+}
+
+// Whether the sets that a programme names differ within a group: each is compared with the first of its group.
+fn differ_from_first(s: &[u8], owners: &[u16], leaders: &[u16], p: u16) -> bool
+    ensures { λ r. ⌜ (Owners (sheetOf (now (s .entry))) (now (owners .entry)) → Leaders (sheetOf (now (s .entry))) (now (leaders .entry)) → r ≡ twoEntries (sheetOf (now (s .entry))) programmes p setList DifferInGroup) ⌝ }
+{
+    let n = number(s, PROGRAMMES, p, SET_LIST);
+    let mut first: [u16; 65536] = [0; 65536];
+    let mut j: u16 = 0;
+    while j < n {
+        let v = named_set(s, p, j);
+        let l = leader_by(s, leaders, owner_by(s, owners, v));
+        let i = first_of(&mut first, l, j);
+        if sets_differ(s, named_set(s, p, i), v) {
+            return true;
+        }
+        j += 1;
+    }
+    false
+}
+
+// Whether they do: a short list by its pairs.
+pub fn differ_in_group(s: &[u8], owners: &[u16], leaders: &[u16], p: u16) -> bool
+    ensures { λ r. ⌜ (Owners (sheetOf (now (s .entry))) (now (owners .entry)) → Leaders (sheetOf (now (s .entry))) (now (leaders .entry)) → r ≡ twoEntries (sheetOf (now (s .entry))) programmes p setList DifferInGroup) ⌝ }
+{
+    if number(s, PROGRAMMES, p, SET_LIST) <= SHORT {
+        two_entries(
+            s,
+            owners,
+            leaders,
+            PROGRAMMES,
+            p,
+            SET_LIST,
+            PairTest::DifferInGroup,
+        )
+    } else {
+        differ_from_first(s, owners, leaders, p)
+    }
 }

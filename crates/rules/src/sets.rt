@@ -1,13 +1,13 @@
 // Rule 22: the sets that a programme names.
 use crate::GroupTest;
 use crate::ListedTest;
-use crate::PairTest;
 use crate::loops::any_group;
 use crate::loops::any_listed;
-use crate::loops::two_entries;
+use crate::repeats::differ_in_group;
 use crate::repeats::one_owner;
 use sheet::fields::PROGRAMMES;
 use sheet::fields::SET_LIST;
+use tables::marks::mark_named_sets;
 ghost use mathlib.Core.Path.{_≡_};
 ghost use Rattle.profile.specs.Rules.{rule22};
 ghost use Rattle.sheet.specs.Words.{sheetOf};
@@ -30,14 +30,7 @@ pub fn rule22(s: &[u8], owners: &[u16], leaders: &[u16], marks: &[u16], section:
     if one_owner(s, owners, p) {
         return true;
     }
-    any_group(s, p, marks, GroupTest::PartlySet)
-        | two_entries(
-            s,
-            owners,
-            leaders,
-            PROGRAMMES,
-            p,
-            SET_LIST,
-            PairTest::DifferInGroup,
-        )
+    let mut sets: [u16; 4680] = [0; 4680];
+    mark_named_sets(s, p, &mut sets);
+    any_group(s, p, marks, &sets, GroupTest::PartlySet) | differ_in_group(s, owners, leaders, p)
 }

@@ -6,20 +6,22 @@ use mathlib.Core.Bool.{Bool, true, false, cond, not, _&&_, _||_}
 use native.Mathlib.Omega.{arith}
 use native.Mathlib.Nat.{zero-add, add-zero, eq-or-lt-of-le}
 use borrow.Author.Tests.{eq-eqb, ne-eqb, lt-ltb, le-ltb, le-leb, lt-leb, ltb-true, ltb-false, leb-true, eqb-true, eqb-false}
+use mathlib.Core.List.{List}
 use lib.Dec.{eqb, leb, ltb}
+use lib.ListN.{length, getD}
 use Rattle.sheet.specs.Words.{Sheet}
 use Rattle.sheet.specs.Layout.{count, field, first, number, entry}
-use Rattle.sheet.specs.Fields.{programmes, contents, objects, contentList, contentObject, childList, complementList, setSpan}
+use Rattle.sheet.specs.Fields.{programmes, contents, objects, contentList, setList, contentObject, childList, complementList, setSpan}
 use Rattle.profile.specs.Counting.{any, howMany, sum, lowest, lowestFrom}
-use Rattle.profile.specs.Relations.{lists, times, top, complement, leaderOf, includes, hasSet, owner, namings}
+use Rattle.profile.specs.Relations.{lists, times, top, complement, leaderOf, includes, hasSet, owner, namedSet, namesSet, namings}
 use Rattle.profile.proofs.CountingLaws.{any-howMany, any-none, found, nothing, lowest-le}
-use Rattle.profile.proofs.SumLaws.{sum-eq, howMany-sum, any-nowhere}
+use Rattle.profile.proofs.SumLaws.{sum-eq, sum-swap, howMany-sum, any-nowhere}
 use Rattle.tables.specs.declared.Naming.{Naming}
-use Rattle.tables.specs.declared.Naming.the-variants.{ContentObjects, Children, Complements, ContentLists, Included, SetSpans}
+use Rattle.tables.specs.declared.Naming.the-variants.{ContentObjects, Children, Complements, ContentLists, Included, SetLists, SetSpans}
 use Rattle.tables.specs.declared.Mark.the-variants.{Count, Store}
 use Rattle.tables.specs.Namings.{namers, items, item}
 use Rattle.tables.specs.Marks.{Standing, marked, repeat, timesBy, namedBy, namesBy, firstFrom, firstBy}
-use Rattle.tables.specs.Right.{counted, told}
+use Rattle.tables.specs.Right.{counted, told, NamedSets}
 use Rattle.tables.proofs.MarkLaws.{repeat-add, repeat-store}
 
 -- a count tells none, one and more apart
@@ -95,10 +97,10 @@ run-has : (f v n : ℕ) → any (λ i. eqb (f + i) v) n ≡ (leb f v && ltb v (f
 run-has f v n = any-howMany (λ i. eqb (f + i) v) n ∙ ap (λ (c : ℕ). not (eqb c 0)) (run-times f v n) ∙ flag (leb f v && ltb v (f + n))
 
 -- tests that agree
-any-same : (p q : ℕ → Bool) (n : ℕ) → ((i : ℕ) → p i ≡ q i) → any p n ≡ any q n
+any-below : (p q : ℕ → Bool) (n : ℕ) → ((i : ℕ) → i < n → p i ≡ q i) → any p n ≡ any q n
 unfolding any
-any-same p q zero h = refl
-any-same p q (suc n) h = ap₂ (λ (a b : Bool). a || b) (any-same p q n h) (h n)
+any-below p q zero h = refl
+any-below p q (suc n) h = ap₂ (λ (a b : Bool). a || b) (any-below p q n (λ i l. h i (omega arith))) (h n (omega arith))
 
 lowest-same : (p q : ℕ → Bool) (i n : ℕ) → ((j : ℕ) → p j ≡ q j) → lowestFrom p i n ≡ lowestFrom q i n
 unfolding lowestFrom
@@ -124,6 +126,27 @@ lowest-any p n =
       ]) refl
       | false ↦ λ e. sym (any-nowhere p n (nothing p n e))
     ]) refl
+
+turned : (b : Bool) → _≡_ {A = ℕ} (cond b 0 1) (cond (not b) 1 0)
+turned true = refl
+turned false = refl
+
+eqb-turned : (a b : ℕ) → eqb a b ≡ eqb b a
+eqb-turned a b =
+    (elim (eqb a b) as (λ c. eqb a b ≡ c → c ≡ eqb b a) [
+      | true ↦ λ e. sym (eq-eqb b a (sym (eqb-true a b e)))
+      | false ↦ λ e. sym (ne-eqb b a (λ q. eqb-false a b e (sym q)))
+    ]) refl
+
+-- something in some list, either way round
+any-swap : (p : ℕ → ℕ → Bool) (m n : ℕ) → any (λ k. any (p k) n) m ≡ any (λ i. any (λ k. p k i) m) n
+any-swap p m n =
+    any-sum p (λ k. n) m
+    ∙ ap (λ (c : ℕ). not (eqb c 0))
+    (sum-eq (λ k. howMany (p k) n) (λ k. sum (λ i. cond (p k i) 1 0) n) m (λ k l. howMany-sum (p k) n)
+    ∙ sum-swap (λ k i. cond (p k i) 1 0) m n
+    ∙ sum-eq (λ i. sum (λ k. cond (p k i) 1 0) m) (λ i. howMany (λ k. p k i) m) n (λ i l. sym (howMany-sum (λ k. p k i) m)))
+    ∙ sym (any-sum (λ i k. p k i) (λ i. m) n)
 
 -- what stands in a table, read
 told-read : (d : ℕ) (b : Bool) (l : ℕ) → told d (cond b (suc l) 0) ≡ cond b l d
@@ -216,9 +239,28 @@ module _ (s : Sheet) where
   unfolding timesBy includes
   included-marked p o =
       repeat-store 1 (timesBy s Included p o) 0
-      ∙ flip (eqb (timesBy s Included p o) 0)
+      ∙ turned (eqb (timesBy s Included p o) 0)
       ∙ ap (λ (b : Bool). cond b 1 0) (sym (any-howMany (λ i. eqb (field s contents (entry s programmes p contentList i) contentObject) o) (number s programmes p contentList)))
-    where
-      flip : (b : Bool) → _≡_ {A = ℕ} (cond b 0 1) (cond (not b) 1 0)
-      flip true = refl
-      flip false = refl
+
+  -- the value sets that a programme names
+  pub set-marked : (p v : ℕ) → repeat (marked (Store 1)) (timesBy s SetLists p v) 0 ≡ cond (lists s programmes p setList v) 1 0
+  unfolding timesBy lists
+  set-marked p v =
+      repeat-store 1 (timesBy s SetLists p v) 0
+      ∙ turned (eqb (timesBy s SetLists p v) 0)
+      ∙ ap (λ (b : Bool). cond b 1 0) (sym (any-howMany (λ i. eqb (entry s programmes p setList i) v) (number s programmes p setList)))
+
+  -- a set of the object's span is named
+  pub span-named : (p o : ℕ) → any (λ k. lists s programmes p setList (first s objects o setSpan + k)) (number s objects o setSpan) ≡ namesSet s p o
+  unfolding lists namesSet namedSet hasSet
+  span-named p o =
+      any-swap (λ k i. eqb (entry s programmes p setList i) (first s objects o setSpan + k)) (number s objects o setSpan) (number s programmes p setList)
+      ∙ any-below (λ i. any (λ k. eqb (entry s programmes p setList i) (first s objects o setSpan + k)) (number s objects o setSpan)) (λ i. leb (first s objects o setSpan) (entry s programmes p setList i) && ltb (entry s programmes p setList i) (first s objects o setSpan + number s objects o setSpan)) (number s programmes p setList)
+      (λ i l. any-below (λ k. eqb (entry s programmes p setList i) (first s objects o setSpan + k)) (λ k. eqb (first s objects o setSpan + k) (entry s programmes p setList i)) (number s objects o setSpan) (λ k m. eqb-turned (entry s programmes p setList i) (first s objects o setSpan + k)) ∙ run-has (first s objects o setSpan) (entry s programmes p setList i) (number s objects o setSpan))
+
+  pub names-marked : (p o : ℕ) (t : List ℕ) → NamedSets s p t → first s objects o setSpan + number s objects o setSpan ≤ length t
+      → any (λ k. not (eqb (getD t (first s objects o setSpan + k) 0) 0)) (number s objects o setSpan) ≡ namesSet s p o
+  names-marked p o t right l =
+      any-below (λ k. not (eqb (getD t (first s objects o setSpan + k) 0) 0)) (λ k. lists s programmes p setList (first s objects o setSpan + k)) (number s objects o setSpan)
+      (λ k m. ap (λ (c : ℕ). not (eqb c 0)) (right (first s objects o setSpan + k) (omega arith)) ∙ flag (lists s programmes p setList (first s objects o setSpan + k)))
+      ∙ span-named p o

@@ -5,9 +5,9 @@ use mathlib.Core.List.{List}
 use lib.Dec.{eqb}
 use Rattle.sheet.specs.Words.{Sheet}
 use Rattle.sheet.specs.Layout.{count}
-use Rattle.sheet.specs.Fields.{objects}
+use Rattle.sheet.specs.Fields.{programmes, objects, setList}
 use Rattle.profile.specs.Counting.{howMany}
-use Rattle.profile.specs.Relations.{includes, hasSet, namings}
+use Rattle.profile.specs.Relations.{lists, includes, hasSet, namings}
 use Rattle.tables.specs.declared.Naming.the-variants.{ContentObjects, Complements, ContentLists, SetSpans}
 use Rattle.tables.specs.declared.Mark.the-variants.{Count}
 use Rattle.tables.specs.Marks.{Standing, marked, repeat, namedBy, firstBy}
@@ -47,6 +47,10 @@ Owners s = Standing (λ v. firstBy s SetSpans v 0)
 -- how often content lists name a content
 abbrev pub Listed : Sheet → List ℕ → Type 0
 Listed s = Standing (λ c. counted (namedBy s ContentLists c))
+
+-- 1 for the value sets that a programme names
+abbrev pub NamedSets : Sheet → ℕ → List ℕ → Type 0
+NamedSets s p = Standing (λ v. cond (lists s programmes p setList v) 1 0)
 
 -- 1 for the objects that a programme includes
 abbrev pub Included : Sheet → ℕ → List ℕ → Type 0

@@ -17,6 +17,8 @@ pub enum Naming {
     ContentLists,
     // a programme includes the objects of its contents
     Included,
+    // a programme names value sets
+    SetLists,
     // an object has value sets
     SetSpans,
 }

@@ -11,7 +11,7 @@ ghost use mathlib.Core.Bool.{cond};
 ghost use mathlib.Core.Path.{_≡_};
 ghost use Rattle.sheet.specs.Words.{sheetOf};
 ghost use Rattle.tables.specs.Marks.{Standing, firstBy, marked, namedBy, repeat, timesBy};
-ghost use Rattle.tables.specs.Right.{Included};
+ghost use Rattle.tables.specs.Right.{Included, NamedSets};
 ghost use Rattle.tables.specs.declared.Mark.the-variants.{Count};
 
 // What a place has after a mark.
@@ -86,4 +86,11 @@ pub fn mark_included(s: &[u8], p: u16, table: &mut [u16])
 {
     clear(table);
     mark_items(s, Naming::Included, p, Mark::Store(1), table);
+}
+
+// Writes 1 for the value sets that a programme names, into a table of noughts.
+pub fn mark_named_sets(s: &[u8], p: u16, table: &mut [u16])
+    ensures { λ r. ⌜ (length (now (table .exit)) ≡ length (now (table .entry))) × (Standing (λ x. 0) (now (table .entry)) → NamedSets (sheetOf (now (s .entry))) p (now (table .exit))) ⌝ }
+{
+    mark_items(s, Naming::SetLists, p, Mark::Store(1), table);
 }

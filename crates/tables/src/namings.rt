@@ -7,6 +7,7 @@ use sheet::fields::CONTENT_OBJECT;
 use sheet::fields::CONTENTS;
 use sheet::fields::OBJECTS;
 use sheet::fields::PROGRAMMES;
+use sheet::fields::SET_LIST;
 use sheet::fields::SET_SPAN;
 use sheet::layout::count;
 use sheet::layout::entry;
@@ -26,6 +27,7 @@ pub fn namers(s: &[u8], kind: Naming) -> u16
         Naming::Complements => count(s, OBJECTS),
         Naming::ContentLists => count(s, PROGRAMMES),
         Naming::Included => count(s, PROGRAMMES),
+        Naming::SetLists => count(s, PROGRAMMES),
         Naming::SetSpans => count(s, OBJECTS),
     }
 }
@@ -40,6 +42,7 @@ pub fn items(s: &[u8], kind: Naming, q: u16) -> u16
         Naming::Complements => number(s, OBJECTS, q, COMPLEMENT_LIST),
         Naming::ContentLists => number(s, PROGRAMMES, q, CONTENT_LIST),
         Naming::Included => number(s, PROGRAMMES, q, CONTENT_LIST),
+        Naming::SetLists => number(s, PROGRAMMES, q, SET_LIST),
         Naming::SetSpans => number(s, OBJECTS, q, SET_SPAN),
     }
 }
@@ -61,6 +64,7 @@ pub fn item(s: &[u8], kind: Naming, q: u16, i: u16) -> u32
                 CONTENT_OBJECT,
             ) as u32
         }
+        Naming::SetLists => entry(s, PROGRAMMES, q, SET_LIST, i) as u32,
         Naming::SetSpans => field(s, OBJECTS, q, SET_SPAN) as u32 + i as u32,
     }
 }

@@ -2,15 +2,24 @@
 use relations::groups::leader_of;
 use relations::objects::leader;
 use relations::programmes::includes;
+use relations::programmes::names_set;
 use relations::records::complement;
 use relations::records::owner;
 use relations::records::top;
 use sheet::fields::OBJECTS;
+use sheet::fields::SET_SPAN;
 use sheet::layout::count;
+use sheet::layout::field;
+use sheet::layout::number;
+ghost use Prim.Native.Nat.{_+_, _≤_};
+ghost use lib.Dec.{eqb};
+ghost use lib.ListN.{getD, length};
+ghost use mathlib.Core.Bool.{not};
 ghost use mathlib.Core.Path.{_≡_};
-ghost use Rattle.profile.specs.Relations.{complement, includes, leaderOf, lone, owner, top};
+ghost use Rattle.profile.specs.Counting.{any};
+ghost use Rattle.profile.specs.Relations.{complement, includes, leaderOf, lone, namesSet, owner, top};
 ghost use Rattle.sheet.specs.Words.{sheetOf};
-ghost use Rattle.tables.specs.Right.{Complemented, Included, Leaders, Owners, Tops, told};
+ghost use Rattle.tables.specs.Right.{Complemented, Included, Leaders, NamedSets, Owners, Tops, told};
 
 // "A top object is one that a content names."
 pub fn top_by(s: &[u8], tops: &[u16], o: u16) -> bool
@@ -83,5 +92,32 @@ pub fn included_by(s: &[u8], p: u16, marks: &[u16], o: u16) -> bool
         marks[i] != 0
     } else {
         includes(s, p, o)
+    }
+}
+
+// Whether one of n places from one on is marked.
+fn any_marked(table: &[u16], from: usize, n: usize) -> bool
+    requires { ⌜ from + n ≤ length (now table) ⌝ }
+    ensures { λ r. ⌜ r ≡ any (λ k. not (eqb (getD (now (table .entry)) (from + k) 0) 0)) n ⌝ }
+{
+    let mut found = false;
+    let mut k: usize = 0;
+    while k < n {
+        found = found | (table[from + k] != 0);
+        k += 1;
+    }
+    found
+}
+
+// The programme names a set for the object.
+pub fn names_set_by(s: &[u8], p: u16, sets: &[u16], o: u16) -> bool
+    ensures { λ r. ⌜ (NamedSets (sheetOf (now (s .entry))) p (now (sets .entry)) → r ≡ namesSet (sheetOf (now (s .entry))) p o) ⌝ }
+{
+    let from = field(s, OBJECTS, o, SET_SPAN) as usize;
+    let n = number(s, OBJECTS, o, SET_SPAN) as usize;
+    if from + n <= sets.len() {
+        any_marked(sets, from, n)
+    } else {
+        names_set(s, p, o)
     }
 }

@@ -18,36 +18,6 @@ const CROWDED_SHEETS: usize = 20_000;
 /// The sizes in words of hostile sheets beside the largest ones.
 const SMALL_SIZES: [usize; 2] = [512, 1024];
 
-/// The hostile sheets on which the proved checker's plain bodies take 10 seconds or much longer.
-/// They are left out here, but not in smaller sizes; the benchmark has them, with a limit on the
-/// time.
-const TOO_SLOW: [&str; 24] = [
-    "hostile programme labels",
-    "hostile content labels",
-    "hostile complements",
-    "hostile pairs in every programme",
-    "hostile one group in every programme",
-    "hostile tracks",
-    "hostile sets of pairs",
-    "hostile one set",
-    "hostile shifted complements",
-    "hostile alternating packs",
-    "hostile jumping sets",
-    "hostile shifted programme labels",
-    "hostile shifted content labels",
-    "hostile shifted contents",
-    "hostile shifted contents, one twice",
-    "hostile shifted contents, one of a group left out",
-    "hostile shifted sets",
-    "hostile shifted sets, one of a pair left out",
-    "hostile alternating sets",
-    "hostile shifted tracks",
-    "hostile shifted tracks, an ordinal twice",
-    "hostile children, all the last object",
-    "hostile programme labels, one twice",
-    "hostile content labels, one twice",
-];
-
 fn main() -> ExitCode {
     let mut counts = Counts::default();
     for generated in all_sheets() {
@@ -67,7 +37,6 @@ fn main() -> ExitCode {
 
 fn all_sheets() -> impl Iterator<Item = Generated> {
     let fixed = fixed_sheets().into_iter();
-    let fixed = fixed.filter(|generated| !TOO_SLOW.contains(&generated.name.as_str()));
     let small = SMALL_SIZES.into_iter().flat_map(hostile::sheets_of);
     let crowded = CrowdedSheets::new(SEEDS[0]).take(CROWDED_SHEETS);
     let random = |seed| RandomSheets::new(seed).take(SHEETS_OF_A_SEED);

@@ -10,7 +10,7 @@ any-group-requires c κs = search needs
 
 returns : tie.Need-returns
 unfolding rule21 anyGroup
-returns c = λ marks. c .any-group .ensures marks
+returns c = λ marks. c .any-group .ensures marks tt
 
 pub rule21-spec : {M : Type 1} → statement M
 rule21-spec = tie.close (tie.spec any-group-requires returns)

@@ -6,23 +6,23 @@ use native.Mathlib.Numerals.{add-one}
 use Rattle.profile.specs.Counting.{any}
 use Rattle.sheet.specs.Words.{sheetOf}
 use Rattle.tables.specs.Right.{Included}
-use Rattle.rules.specs.Loops.{groupTest, anyGroup}
+use Rattle.rules.specs.Loops.{groupTest, groupRight, anyGroup}
 use Rattle.rules.proofs.loops.any_group.Statement.{statement}
 use Rattle.rules.proofs.loops.any_group.Tie as tie
 use borrow.Author.Needs.{needs}
 
 abbrev Inv-loop : tie.InvT-loop
-Inv-loop s p marks test n found₀ l₀ found l = (l ≤ n) × (Included (sheetOf s) p marks → found ≡ any (groupTest (sheetOf s) p test) l)
+Inv-loop s p marks sets test n found₀ l₀ found l = (l ≤ n) × (Included (sheetOf s) p marks → groupRight (sheetOf s) p test sets → found ≡ any (groupTest (sheetOf s) p test) l)
 
 abbrev μ-loop : tie.MeasureT-loop
-μ-loop s p marks test n found₀ l₀ found l = n - l
+μ-loop s p marks sets test n found₀ l₀ found l = n - l
 
 count-requires : tie.Need-count-requires Inv-loop μ-loop
 count-requires c κs = search needs
 
 loop-holds : tie.Need-loop-holds Inv-loop μ-loop
 unfolding any
-loop-holds c = (search needs, λ right. refl)
+loop-holds c = (search needs, λ marks sets. refl)
 
 group-test-requires : tie.Need-group-test-requires Inv-loop μ-loop
 group-test-requires c κs = search needs
@@ -35,11 +35,11 @@ loop-less c = search needs
 
 loop-again : tie.Need-loop-again Inv-loop μ-loop
 unfolding any
-loop-again c = (search needs, λ right. rw (add-one, c .group-test .ensures right, c .before .before .loop .inv .1 right))
+loop-again c = (search needs, λ marks sets. rw (add-one, c .group-test .ensures marks sets, c .before .before .loop .inv .1 marks sets))
 
 returns : tie.Need-returns Inv-loop μ-loop
 unfolding anyGroup
-returns c = let e : c .before .loop .l ≡ c .before .before .count .result = omega arith in λ right. c .before .loop .inv .1 right ∙ ap (any _) (e ∙ c .before .before .count .ensures)
+returns c = let e : c .before .loop .l ≡ c .before .before .count .result = omega arith in λ marks sets. c .before .loop .inv .1 marks sets ∙ ap (any _) (e ∙ c .before .before .count .ensures)
 
 pub any-group-spec : {M : Type 1} → statement M
 any-group-spec =

@@ -1,7 +1,11 @@
 -- Each test by its definition. Assumes nothing.
 use mathlib.Core.Path.{_≡_, sym, _∙_}
 use borrow.Author.Tests.{eq-eqb, ne-eqb, not-true, not-false}
-use Rattle.profile.specs.Relations.{whollyIncluded}
+use Rattle.profile.specs.Relations.{included, whollyIncluded}
+use Rattle.profile.specs.Rules.{setsNamed}
+use Rattle.relations.specs.Tests.{howManyMembers}
+use Rattle.sheet.specs.Words.{sheetOf}
+use Rattle.tables.specs.Right.{NamedSets}
 use Rattle.rules.proofs.GroupTestLaws.{no-leader}
 use borrow.Author.Needs.{needs}
 use Rattle.rules.proofs.loops.group_test.Statement.{statement}
@@ -11,10 +15,10 @@ leader-requires : tie.Need-leader-requires
 leader-requires c κs = search needs
 
 returns : tie.Need-returns
-returns c = λ right. no-leader _ (c .before .before .before .before .args .p) (c .before .before .before .before .args .test) _ (sym (c .before .leader .ensures) ∙ not-true _ (c .if1 .taken))
+returns c = λ marks sets. no-leader _ (c .before .before .before .before .before .args .p) (c .before .before .before .before .before .args .test) _ (sym (c .before .leader .ensures) ∙ not-true _ (c .if1 .taken))
 
-included-members-requires : tie.Need-included-members-requires
-included-members-requires c κs = search needs
+members-passing-requires : tie.Need-members-passing-requires
+members-passing-requires c κs = search needs
 
 members-requires : tie.Need-members-requires
 members-requires c κs = search needs
@@ -25,20 +29,20 @@ enum-told c = search needs
 enum-told-2 : tie.Need-enum-told-2
 enum-told-2 c = search needs
 
-sets-named-requires : tie.Need-sets-named-requires
-sets-named-requires c κs = search needs
+members-passing-requires-2 : tie.Need-members-passing-requires-2
+members-passing-requires-2 c κs = search needs
 
 returns-2 : tie.Need-returns-2
-unfolding whollyIncluded
-returns-2 c = λ right. simp (c .enum-told .given .1, c .before .before .before .included-members .ensures right, c .before .before .members .ensures .0, sym (c .before .before .before .before .before .leader .ensures) ∙ not-false _ (c .before .before .before .before .if1 .left))
+unfolding whollyIncluded included setsNamed howManyMembers
+returns-2 c = λ marks sets. simp (c .enum-told .given .1, c .before .before .before .members-passing .ensures marks, c .before .before .members .ensures .0, sym (c .before .before .before .before .before .leader .ensures) ∙ not-false _ (c .before .before .before .before .if1 .left))
 
 returns-3 : tie.Need-returns-3
-unfolding whollyIncluded
-returns-3 c = λ right. simp (c .before .before .enum-told2 .given .1, c .sets-named .ensures, eq-eqb _ _ (sym (c .before .before .before .before .before .included-members .ensures right) ∙ c .before .if2 .taken ∙ c .before .before .before .before .members .ensures .0), c .before .before .before .before .members .ensures .0, sym (c .before .before .before .before .before .before .before .leader .ensures) ∙ not-false _ (c .before .before .before .before .before .before .if1 .left))
+unfolding whollyIncluded included setsNamed howManyMembers
+returns-3 c = λ marks sets. let named : NamedSets (sheetOf (c .before .before .before .before .before .before .before .before .before .before .before .args .s .now)) (c .before .before .before .before .before .before .before .before .before .before .before .args .p) (c .before .before .before .before .before .before .before .before .before .before .before .args .sets .now) = rw (c .before .before .enum-told2 .given .1) at sets in simp (c .before .before .enum-told2 .given .1, c .members-passing2 .ensures named, eq-eqb _ _ (sym (c .before .before .before .before .before .members-passing .ensures marks) ∙ c .before .if2 .taken ∙ c .before .before .before .before .members .ensures .0), c .before .before .before .before .members .ensures .0, sym (c .before .before .before .before .before .before .before .leader .ensures) ∙ not-false _ (c .before .before .before .before .before .before .if1 .left))
 
 returns-4 : tie.Need-returns-4
-unfolding whollyIncluded
-returns-4 c = λ right. simp (c .before .enum-told2 .given .1, ne-eqb _ _ (λ q. c .if2 .left (c .before .before .before .before .included-members .ensures right ∙ q ∙ sym (c .before .before .before .members .ensures .0))), sym (c .before .before .before .before .before .before .leader .ensures) ∙ not-false _ (c .before .before .before .before .before .if1 .left))
+unfolding whollyIncluded included setsNamed howManyMembers
+returns-4 c = λ marks sets. simp (c .before .enum-told2 .given .1, ne-eqb _ _ (λ q. c .if2 .left (c .before .before .before .before .members-passing .ensures marks ∙ q ∙ sym (c .before .before .before .members .ensures .0))), sym (c .before .before .before .before .before .before .leader .ensures) ∙ not-false _ (c .before .before .before .before .before .if1 .left))
 
 pub group-test-spec : {M : Type 1} → statement M
 group-test-spec =
@@ -46,11 +50,11 @@ group-test-spec =
     (tie.spec
     leader-requires
     returns
-    included-members-requires
+    members-passing-requires
     members-requires
     enum-told
     enum-told-2
-    sets-named-requires
+    members-passing-requires-2
     returns-2
     returns-3
     returns-4)

@@ -2,7 +2,7 @@
 use mathlib.Core.Path.{sym, _∙_}
 use Rattle.profile.specs.Rules.{rule22, ownerAt}
 use Rattle.profile.specs.Relations.{namedSet}
-use Rattle.profile.proofs.BoolLaws.{or-true}
+use Rattle.tables.proofs.MarkLaws.{nought}
 use Rattle.rules.specs.Loops.{anyListed, twoEntries, anyGroup, keysAlike}
 use borrow.Author.Needs.{needs}
 use Rattle.rules.proofs.sets.rule22.Statement.{statement}
@@ -22,15 +22,24 @@ returns-2 : tie.Need-returns-2
 unfolding rule22 anyListed twoEntries anyGroup keysAlike ownerAt namedSet
 returns-2 c = λ owners leaders marks. simp (sym (c .before .before .before .any-listed .ensures (owners, marks)) ∙ c .before .before .if1 .left, sym (c .before .one-owner .ensures owners) ∙ c .if2 .taken)
 
+slice-aggregate-mark-named-sets : tie.Need-slice-aggregate-mark-named-sets
+slice-aggregate-mark-named-sets c = search needs
+
+mark-named-sets-requires : tie.Need-mark-named-sets-requires
+mark-named-sets-requires c κs = search needs
+
+slice-aggregate-any-group : tie.Need-slice-aggregate-any-group
+slice-aggregate-any-group c = search needs
+
 any-group-requires : tie.Need-any-group-requires
 any-group-requires c κs = search needs
 
-two-entries-requires : tie.Need-two-entries-requires
-two-entries-requires c κs = search needs
+differ-in-group-requires : tie.Need-differ-in-group-requires
+differ-in-group-requires c κs = search needs
 
 returns-3 : tie.Need-returns-3
 unfolding rule22 anyListed twoEntries anyGroup keysAlike ownerAt namedSet
-returns-3 c = λ owners leaders marks. simp (c .two-entries .ensures (owners, leaders), c .before .any-group .ensures marks, sym (c .before .before .before .before .before .any-listed .ensures (owners, marks)) ∙ c .before .before .before .before .if1 .left, sym (c .before .before .before .one-owner .ensures owners) ∙ c .before .before .if2 .left)
+returns-3 c = λ owners leaders marks. simp (c .differ-in-group .ensures owners leaders, c .before .any-group .ensures marks (c .before .before .before .before .mark-named-sets .ensures .1 (λ x l. nought 4680 x)), sym (c .before .before .before .before .before .before .before .before .before .any-listed .ensures (owners, marks)) ∙ c .before .before .before .before .before .before .before .before .if1 .left, sym (c .before .before .before .before .before .before .before .one-owner .ensures owners) ∙ c .before .before .before .before .before .before .if2 .left)
 
 pub rule22-spec : {M : Type 1} → statement M
 rule22-spec =
@@ -40,6 +49,9 @@ rule22-spec =
     returns
     one-owner-requires
     returns-2
+    slice-aggregate-mark-named-sets
+    mark-named-sets-requires
+    slice-aggregate-any-group
     any-group-requires
-    two-entries-requires
+    differ-in-group-requires
     returns-3)

@@ -54,11 +54,20 @@ cast-result-5 c = search needs
 enum-told-6 : tie.Need-enum-told-6
 enum-told-6 c = search needs
 
-field-requires-3 : tie.Need-field-requires-3
-field-requires-3 c κs = search needs
+entry-requires-5 : tie.Need-entry-requires-5
+entry-requires-5 c κs = search needs
 
 cast-result-6 : tie.Need-cast-result-6
 cast-result-6 c = search needs
+
+enum-told-7 : tie.Need-enum-told-7
+enum-told-7 c = search needs
+
+field-requires-3 : tie.Need-field-requires-3
+field-requires-3 c κs = search needs
+
+cast-result-7 : tie.Need-cast-result-7
+cast-result-7 c = search needs
 
 add-result : tie.Need-add-result
 add-result c = search needs
@@ -79,7 +88,10 @@ returns-5 : tie.Need-returns-5
 returns-5 c = simp (c .before .before .enum-told5 .given .1, c .field2 .ensures, c .before .entry4 .ensures)
 
 returns-6 : tie.Need-returns-6
-returns-6 c = simp (c .before .enum-told6 .given .1, c .field3 .ensures)
+returns-6 c = simp (c .before .enum-told6 .given .1, c .entry5 .ensures)
+
+returns-7 : tie.Need-returns-7
+returns-7 c = simp (c .before .enum-told7 .given .1, c .field3 .ensures)
 
 pub item-spec : {M : Type 1} → statement M
 item-spec =
@@ -102,12 +114,16 @@ item-spec =
     field-requires-2
     cast-result-5
     enum-told-6
-    field-requires-3
+    entry-requires-5
     cast-result-6
+    enum-told-7
+    field-requires-3
+    cast-result-7
     add-result
     returns
     returns-2
     returns-3
     returns-4
     returns-5
-    returns-6)
+    returns-6
+    returns-7)

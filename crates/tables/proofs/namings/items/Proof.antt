@@ -36,6 +36,12 @@ enum-told-6 c = search needs
 number-requires-5 : tie.Need-number-requires-5
 number-requires-5 c κs = search needs
 
+enum-told-7 : tie.Need-enum-told-7
+enum-told-7 c = search needs
+
+number-requires-6 : tie.Need-number-requires-6
+number-requires-6 c κs = search needs
+
 returns : tie.Need-returns
 returns c = simp (c .enum-told .given .1)
 
@@ -54,6 +60,9 @@ returns-5 c = simp (c .before .enum-told5 .given .1, c .number4 .ensures)
 returns-6 : tie.Need-returns-6
 returns-6 c = simp (c .before .enum-told6 .given .1, c .number5 .ensures)
 
+returns-7 : tie.Need-returns-7
+returns-7 c = simp (c .before .enum-told7 .given .1, c .number6 .ensures)
+
 pub items-spec : {M : Type 1} → statement M
 items-spec =
     tie.close
@@ -69,9 +78,12 @@ items-spec =
     number-requires-4
     enum-told-6
     number-requires-5
+    enum-told-7
+    number-requires-6
     returns
     returns-2
     returns-3
     returns-4
     returns-5
-    returns-6)
+    returns-6
+    returns-7)

@@ -39,6 +39,12 @@ enum-told-6 c = search needs
 count-requires-6 : tie.Need-count-requires-6
 count-requires-6 c κs = search needs
 
+enum-told-7 : tie.Need-enum-told-7
+enum-told-7 c = search needs
+
+count-requires-7 : tie.Need-count-requires-7
+count-requires-7 c κs = search needs
+
 returns : tie.Need-returns
 returns c = simp (c .before .enum-told .given .1, c .count .ensures)
 
@@ -57,6 +63,9 @@ returns-5 c = simp (c .before .enum-told5 .given .1, c .count5 .ensures)
 returns-6 : tie.Need-returns-6
 returns-6 c = simp (c .before .enum-told6 .given .1, c .count6 .ensures)
 
+returns-7 : tie.Need-returns-7
+returns-7 c = simp (c .before .enum-told7 .given .1, c .count7 .ensures)
+
 pub namers-spec : {M : Type 1} → statement M
 namers-spec =
     tie.close
@@ -73,9 +82,12 @@ namers-spec =
     count-requires-5
     enum-told-6
     count-requires-6
+    enum-told-7
+    count-requires-7
     returns
     returns-2
     returns-3
     returns-4
     returns-5
-    returns-6)
+    returns-6
+    returns-7)

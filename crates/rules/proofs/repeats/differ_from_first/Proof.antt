@@ -1,0 +1,91 @@
+-- No two of the sets passed differ within a group. Assumes nothing.
+use Prim.Native.Nat.{ℕ, _-_, _<_, _≤_}
+use mathlib.Core.Path.{_≡_, refl, sym, ap, ap₂, _∙_}
+use mathlib.Core.Bool.{true, false}
+use native.Mathlib.Omega.{arith}
+use borrow.Author.Count.{below-none, below-more}
+use lib.ListN.{length, replicate, length-replicate}
+use Rattle.profile.specs.Counting.{any, twoOf}
+use Rattle.profile.specs.Relations.{leaderOf, owner, namedSet}
+use Rattle.profile.specs.Rules.{setsDiffer}
+use Rattle.profile.proofs.SumLaws.{any-one, any-nowhere}
+use Rattle.sheet.specs.Layout.{number}
+use Rattle.sheet.specs.Fields.{programmes, setList}
+use Rattle.sheet.specs.Words.{sheetOf}
+use Rattle.tables.specs.Right.{Owners, Leaders}
+use Rattle.rules.specs.Loops.{twoEntries}
+use Rattle.rules.proofs.DifferLaws.{differ, Firsts, Agree, firsts-none, firsts-more, agree-next, found-next}
+use Rattle.rules.proofs.repeats.differ_from_first.Statement.{statement}
+use Rattle.rules.proofs.repeats.differ_from_first.Tie as tie
+use borrow.Author.Needs.{needs}
+
+abbrev Inv-loop : tie.InvT-loop
+Inv-loop s owners leaders p n first₀ j₀ first j = (j ≤ n) × (length first ≡ 65536) × (Owners (sheetOf s) owners → Leaders (sheetOf s) leaders → Firsts (sheetOf s) (λ h. namedSet (sheetOf s) p h) (λ h. leaderOf (sheetOf s) (owner (sheetOf s) (namedSet (sheetOf s) p h))) first j × Agree (sheetOf s) (λ h. namedSet (sheetOf s) p h) (λ h. leaderOf (sheetOf s) (owner (sheetOf s) (namedSet (sheetOf s) p h))) j)
+
+abbrev μ-loop : tie.MeasureT-loop
+μ-loop s owners leaders p n first₀ j₀ first j = n - j
+
+number-requires : tie.Need-number-requires Inv-loop μ-loop
+number-requires c κs = search needs
+
+loop-holds : tie.Need-loop-holds Inv-loop μ-loop
+loop-holds c = (search needs, length-replicate {A = ℕ} 65536 0, λ owners leaders. (firsts-none (sheetOf (c .before .before .before .before .args .s .now)) (λ i. namedSet (sheetOf (c .before .before .before .before .args .s .now)) (c .before .before .before .before .args .p) i) (λ i. leaderOf (sheetOf (c .before .before .before .before .args .s .now)) (owner (sheetOf (c .before .before .before .before .args .s .now)) (namedSet (sheetOf (c .before .before .before .before .args .s .now)) (c .before .before .before .before .args .p) i))) 65536, below-none _))
+
+named-set-requires : tie.Need-named-set-requires Inv-loop μ-loop
+named-set-requires c κs = search needs
+
+owner-by-requires : tie.Need-owner-by-requires Inv-loop μ-loop
+owner-by-requires c κs = search needs
+
+leader-by-requires : tie.Need-leader-by-requires Inv-loop μ-loop
+leader-by-requires c κs = search needs
+
+slice-aggregate-first-of : tie.Need-slice-aggregate-first-of Inv-loop μ-loop
+slice-aggregate-first-of c = search needs
+
+first-of-requires : tie.Need-first-of-requires Inv-loop μ-loop
+first-of-requires c κs = (c .before .before .before .before .before .loop .inv .1, omega (arith, c .before .before .before .before .loop-test .taken))
+
+named-set-requires-2 : tie.Need-named-set-requires-2 Inv-loop μ-loop
+named-set-requires-2 c κs = search needs
+
+sets-differ-requires : tie.Need-sets-differ-requires Inv-loop μ-loop
+sets-differ-requires c κs = search needs
+
+returns : tie.Need-returns Inv-loop μ-loop
+unfolding twoEntries twoOf namedSet
+returns c = λ owners leaders. sym (any-one (λ m. any (λ i. differ (sheetOf (c .before .before .before .before .before .before .before .before .before .before .before .before .before .before .before .args .s .now)) (λ i. namedSet (sheetOf (c .before .before .before .before .before .before .before .before .before .before .before .before .before .before .before .args .s .now)) (c .before .before .before .before .before .before .before .before .before .before .before .before .before .before .before .args .p) i) (λ i. leaderOf (sheetOf (c .before .before .before .before .before .before .before .before .before .before .before .before .before .before .before .args .s .now)) (owner (sheetOf (c .before .before .before .before .before .before .before .before .before .before .before .before .before .before .before .args .s .now)) (namedSet (sheetOf (c .before .before .before .before .before .before .before .before .before .before .before .before .before .before .before .args .s .now)) (c .before .before .before .before .before .before .before .before .before .before .before .before .before .before .before .args .p) i))) i m) m) (number (sheetOf (c .before .before .before .before .before .before .before .before .before .before .before .before .before .before .before .args .s .now)) programmes (c .before .before .before .before .before .before .before .before .before .before .before .before .before .before .before .args .p) setList) (c .before .before .before .before .before .before .before .before .before .before .loop .j) (omega (arith, c .before .before .before .before .before .before .before .before .before .loop-test .taken, c .before .before .before .before .before .before .before .before .before .before .before .number .ensures)) (found-next (sheetOf (c .before .before .before .before .before .before .before .before .before .before .before .before .before .before .before .args .s .now)) (λ i. namedSet (sheetOf (c .before .before .before .before .before .before .before .before .before .before .before .before .before .before .before .args .s .now)) (c .before .before .before .before .before .before .before .before .before .before .before .before .before .before .before .args .p) i) (λ i. leaderOf (sheetOf (c .before .before .before .before .before .before .before .before .before .before .before .before .before .before .before .args .s .now)) (owner (sheetOf (c .before .before .before .before .before .before .before .before .before .before .before .before .before .before .before .args .s .now)) (namedSet (sheetOf (c .before .before .before .before .before .before .before .before .before .before .before .before .before .before .before .args .s .now)) (c .before .before .before .before .before .before .before .before .before .before .before .before .before .before .before .args .p) i))) (c .before .before .before .before .before .before .before .before .before .before .loop .first) (c .before .before .before .before .before .before .before .before .before .before .loop .j) (c .before .before .before .before .before .before .leader-by .result) (c .before .before .before .before .first-of .result) (c .before .before .before .before .before .before .before .before .before .before .loop .inv .2 owners leaders .0) (c .before .before .before .before .before .before .leader-by .ensures leaders ∙ ap (leaderOf (sheetOf (c .before .before .before .before .before .before .before .before .before .before .before .before .before .before .before .args .s .now))) (c .before .before .before .before .before .before .before .owner-by .ensures owners ∙ ap (owner (sheetOf (c .before .before .before .before .before .before .before .before .before .before .before .before .before .before .before .args .s .now))) (c .before .before .before .before .before .before .before .before .named-set .ensures))) (omega (arith, c .before .before .before .before .before .before .before .before .before .before .loop .inv .1)) (c .before .before .before .before .first-of .ensures .1) (c .before .before .before .before .before .before .before .before .before .before .loop .inv .2 owners leaders .1) (sym (c .before .sets-differ .ensures ∙ ap₂ (setsDiffer (sheetOf (c .before .before .before .before .before .before .before .before .before .before .before .before .before .before .before .args .s .now))) (c .before .before .named-set2 .ensures) (c .before .before .before .before .before .before .before .before .named-set .ensures)) ∙ c .if1 .taken)))
+
+add-j : tie.Need-add-j Inv-loop μ-loop
+add-j c = search needs
+
+loop-less : tie.Need-loop-less Inv-loop μ-loop
+loop-less c = search needs
+
+loop-again : tie.Need-loop-again Inv-loop μ-loop
+loop-again c = (search needs, c .before .before .before .before .first-of .ensures .0, λ owners leaders. (firsts-more (sheetOf (c .before .before .before .before .before .before .before .before .before .before .before .before .before .before .before .args .s .now)) (λ i. namedSet (sheetOf (c .before .before .before .before .before .before .before .before .before .before .before .before .before .before .before .args .s .now)) (c .before .before .before .before .before .before .before .before .before .before .before .before .before .before .before .args .p) i) (λ i. leaderOf (sheetOf (c .before .before .before .before .before .before .before .before .before .before .before .before .before .before .before .args .s .now)) (owner (sheetOf (c .before .before .before .before .before .before .before .before .before .before .before .before .before .before .before .args .s .now)) (namedSet (sheetOf (c .before .before .before .before .before .before .before .before .before .before .before .before .before .before .before .args .s .now)) (c .before .before .before .before .before .before .before .before .before .before .before .before .before .before .before .args .p) i))) (c .before .before .before .before .before .before .before .before .before .before .loop .first) (c .before .before .before .before .before .before .before .before .before .before .loop .j) (c .before .before .before .before .before .before .leader-by .result) (c .before .before .before .before .first-of .result) (c .before .before .before .before .before .before .before .before .before .before .loop .inv .2 owners leaders .0) (c .before .before .before .before .before .before .leader-by .ensures leaders ∙ ap (leaderOf (sheetOf (c .before .before .before .before .before .before .before .before .before .before .before .before .before .before .before .args .s .now))) (c .before .before .before .before .before .before .before .owner-by .ensures owners ∙ ap (owner (sheetOf (c .before .before .before .before .before .before .before .before .before .before .before .before .before .before .before .args .s .now))) (c .before .before .before .before .before .before .before .before .named-set .ensures))) (omega (arith, c .before .before .before .before .before .before .before .before .before .before .loop .inv .1)) (c .before .before .before .before .first-of .ensures .1) (c .before .before .before .before .first-of .last .0) (c .before .before .before .before .first-of .ensures .0 ∙ sym (c .before .before .before .before .before .before .before .before .before .before .loop .inv .1)) (c .before .before .before .before .first-of .ensures .2), below-more (λ m. any (λ i. differ (sheetOf (c .before .before .before .before .before .before .before .before .before .before .before .before .before .before .before .args .s .now)) (λ i. namedSet (sheetOf (c .before .before .before .before .before .before .before .before .before .before .before .before .before .before .before .args .s .now)) (c .before .before .before .before .before .before .before .before .before .before .before .before .before .before .before .args .p) i) (λ i. leaderOf (sheetOf (c .before .before .before .before .before .before .before .before .before .before .before .before .before .before .before .args .s .now)) (owner (sheetOf (c .before .before .before .before .before .before .before .before .before .before .before .before .before .before .before .args .s .now)) (namedSet (sheetOf (c .before .before .before .before .before .before .before .before .before .before .before .before .before .before .before .args .s .now)) (c .before .before .before .before .before .before .before .before .before .before .before .before .before .before .before .args .p) i))) i m) m ≡ false) (c .before .before .before .before .before .before .before .before .before .before .loop .j) (c .before .before .before .before .before .before .before .before .before .before .loop .inv .2 owners leaders .1) (agree-next (sheetOf (c .before .before .before .before .before .before .before .before .before .before .before .before .before .before .before .args .s .now)) (λ i. namedSet (sheetOf (c .before .before .before .before .before .before .before .before .before .before .before .before .before .before .before .args .s .now)) (c .before .before .before .before .before .before .before .before .before .before .before .before .before .before .before .args .p) i) (λ i. leaderOf (sheetOf (c .before .before .before .before .before .before .before .before .before .before .before .before .before .before .before .args .s .now)) (owner (sheetOf (c .before .before .before .before .before .before .before .before .before .before .before .before .before .before .before .args .s .now)) (namedSet (sheetOf (c .before .before .before .before .before .before .before .before .before .before .before .before .before .before .before .args .s .now)) (c .before .before .before .before .before .before .before .before .before .before .before .before .before .before .before .args .p) i))) (c .before .before .before .before .before .before .before .before .before .before .loop .first) (c .before .before .before .before .before .before .before .before .before .before .loop .j) (c .before .before .before .before .before .before .leader-by .result) (c .before .before .before .before .first-of .result) (c .before .before .before .before .before .before .before .before .before .before .loop .inv .2 owners leaders .0) (c .before .before .before .before .before .before .leader-by .ensures leaders ∙ ap (leaderOf (sheetOf (c .before .before .before .before .before .before .before .before .before .before .before .before .before .before .before .args .s .now))) (c .before .before .before .before .before .before .before .owner-by .ensures owners ∙ ap (owner (sheetOf (c .before .before .before .before .before .before .before .before .before .before .before .before .before .before .before .args .s .now))) (c .before .before .before .before .before .before .before .before .named-set .ensures))) (omega (arith, c .before .before .before .before .before .before .before .before .before .before .loop .inv .1)) (c .before .before .before .before .first-of .ensures .1) (c .before .before .before .before .before .before .before .before .before .before .loop .inv .2 owners leaders .1) (sym (c .before .sets-differ .ensures ∙ ap₂ (setsDiffer (sheetOf (c .before .before .before .before .before .before .before .before .before .before .before .before .before .before .before .args .s .now))) (c .before .before .named-set2 .ensures) (c .before .before .before .before .before .before .before .before .named-set .ensures)) ∙ c .if1 .left))))
+
+returns-2 : tie.Need-returns-2 Inv-loop μ-loop
+unfolding twoEntries twoOf namedSet
+returns-2 c = λ owners leaders. sym (any-nowhere (λ m. any (λ i. differ (sheetOf (c .before .before .before .before .before .before .args .s .now)) (λ i. namedSet (sheetOf (c .before .before .before .before .before .before .args .s .now)) (c .before .before .before .before .before .before .args .p) i) (λ i. leaderOf (sheetOf (c .before .before .before .before .before .before .args .s .now)) (owner (sheetOf (c .before .before .before .before .before .before .args .s .now)) (namedSet (sheetOf (c .before .before .before .before .before .before .args .s .now)) (c .before .before .before .before .before .before .args .p) i))) i m) m) (number (sheetOf (c .before .before .before .before .before .before .args .s .now)) programmes (c .before .before .before .before .before .before .args .p) setList) (λ m l. (c .before .loop .inv .2 owners leaders .1) m (omega (arith, l, c .loop-test .left, c .before .before .number .ensures))))
+
+pub differ-from-first-spec : {M : Type 1} → statement M
+differ-from-first-spec =
+    tie.close
+    (tie.spec
+    Inv-loop
+    μ-loop
+    number-requires
+    loop-holds
+    named-set-requires
+    owner-by-requires
+    leader-by-requires
+    slice-aggregate-first-of
+    first-of-requires
+    named-set-requires-2
+    sets-differ-requires
+    returns
+    add-j
+    loop-less
+    loop-again
+    returns-2)
