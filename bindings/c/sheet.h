@@ -22,7 +22,7 @@ extern "C" {
  *
  * Every length and all bytes are answered. The bytes are read and never written, none beyond sheet_len is touched, and they must
  * not change during the call. With sheet_len 0 the pointer is not followed and may be NULL. Nothing is kept from call to call, so
- * threads may call at the same time.
+ * threads may call at the same time. Tables stand on the stack: a thread that calls needs 512 KiB of it.
  */
 uint32_t sheet_check(const uint8_t *sheet, size_t sheet_len);
 
@@ -41,7 +41,7 @@ uint32_t sheet_check(const uint8_t *sheet, size_t sheet_len);
  * Every length, all bytes and every number are answered. Bytes of the buffer after the last track stay as they are, and a refusal
  * changes none. The sheet is read and never written, must not change during the call and must not overlap the buffer; no byte
  * beyond sheet_len or buffer_len is touched. With a length of 0 that pointer is not followed and may be NULL. Nothing is kept from
- * call to call, so threads may call at the same time, each with a buffer of its own.
+ * call to call, so threads may call at the same time, each with a buffer of its own and with 512 KiB of stack.
  */
 int32_t sheet_start_listing(const uint8_t *sheet, size_t sheet_len, uint32_t programme, uint8_t *buffer, size_t buffer_len);
 
