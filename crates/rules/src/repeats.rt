@@ -122,8 +122,8 @@ pub fn bad_ordinals(s: &[u8], o: u16) -> bool
 
 // The first place of a group among those passed; where there is none, this one, which is kept.
 fn first_of(first: &mut [u16], l: u16, j: u16) -> u16
-    requires { ⌜ (length (now first) ≡ 65536) × (j < 65535) ⌝ }
-    ensures { λ r. ⌜ (length (now (first .exit)) ≡ 65536) × (r ≡ told j (getD (now (first .entry)) l 0)) × Standing (λ z. cond (eqb l z) (suc r) (getD (now (first .entry)) z 0)) (now (first .exit)) ⌝ }
+    requires { ⌜ (length (now first) ≡ 2048) × (l < 2048) × (j < 65535) ⌝ }
+    ensures { λ r. ⌜ (length (now (first .exit)) ≡ 2048) × (r ≡ told j (getD (now (first .entry)) l 0)) × Standing (λ z. cond (eqb l z) (suc r) (getD (now (first .entry)) z 0)) (now (first .exit)) ⌝ }
 {
     let i = l as usize;
     let c = first[i];
@@ -135,16 +135,35 @@ fn first_of(first: &mut [u16], l: u16, j: u16) -> u16
     }
 }
 
-// Whether the sets that a programme names differ within a group: each is compared with the first of its group.
+// Whether the sets that a programme names differ within a group, pair by pair.
+fn group_pairs_differ(s: &[u8], owners: &[u16], leaders: &[u16], p: u16) -> bool
+    ensures { λ r. ⌜ (Owners (sheetOf (now (s .entry))) (now (owners .entry)) → Leaders (sheetOf (now (s .entry))) (now (leaders .entry)) → r ≡ twoEntries (sheetOf (now (s .entry))) programmes p setList DifferInGroup) ⌝ }
+{
+    two_entries(
+        s,
+        owners,
+        leaders,
+        PROGRAMMES,
+        p,
+        SET_LIST,
+        PairTest::DifferInGroup,
+    )
+}
+
+// The same for a long list: each is compared with the first of its group. No sheet has more than 2,046 objects; a larger number would
+// be past the table.
 fn differ_from_first(s: &[u8], owners: &[u16], leaders: &[u16], p: u16) -> bool
     ensures { λ r. ⌜ (Owners (sheetOf (now (s .entry))) (now (owners .entry)) → Leaders (sheetOf (now (s .entry))) (now (leaders .entry)) → r ≡ twoEntries (sheetOf (now (s .entry))) programmes p setList DifferInGroup) ⌝ }
 {
     let n = number(s, PROGRAMMES, p, SET_LIST);
-    let mut first: [u16; 65536] = [0; 65536];
+    let mut first: [u16; 2048] = [0; 2048];
     let mut j: u16 = 0;
     while j < n {
         let v = named_set(s, p, j);
         let l = leader_by(s, leaders, owner_by(s, owners, v));
+        if 2048 <= l {
+            return group_pairs_differ(s, owners, leaders, p);
+        }
         let i = first_of(&mut first, l, j);
         if sets_differ(s, named_set(s, p, i), v) {
             return true;
@@ -154,20 +173,12 @@ fn differ_from_first(s: &[u8], owners: &[u16], leaders: &[u16], p: u16) -> bool
     false
 }
 
-// Whether they do: a short list by its pairs.
+// A short list by its pairs, a long one by a table.
 pub fn differ_in_group(s: &[u8], owners: &[u16], leaders: &[u16], p: u16) -> bool
     ensures { λ r. ⌜ (Owners (sheetOf (now (s .entry))) (now (owners .entry)) → Leaders (sheetOf (now (s .entry))) (now (leaders .entry)) → r ≡ twoEntries (sheetOf (now (s .entry))) programmes p setList DifferInGroup) ⌝ }
 {
     if number(s, PROGRAMMES, p, SET_LIST) <= SHORT {
-        two_entries(
-            s,
-            owners,
-            leaders,
-            PROGRAMMES,
-            p,
-            SET_LIST,
-            PairTest::DifferInGroup,
-        )
+        group_pairs_differ(s, owners, leaders, p)
     } else {
         differ_from_first(s, owners, leaders, p)
     }

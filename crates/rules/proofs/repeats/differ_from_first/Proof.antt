@@ -20,7 +20,7 @@ use Rattle.rules.proofs.repeats.differ_from_first.Tie as tie
 use borrow.Author.Needs.{needs}
 
 abbrev Inv-loop : tie.InvT-loop
-Inv-loop s owners leaders p n first₀ j₀ first j = (j ≤ n) × (length first ≡ 65536) × (Owners (sheetOf s) owners → Leaders (sheetOf s) leaders → Firsts (sheetOf s) (λ h. namedSet (sheetOf s) p h) (λ h. leaderOf (sheetOf s) (owner (sheetOf s) (namedSet (sheetOf s) p h))) first j × Agree (sheetOf s) (λ h. namedSet (sheetOf s) p h) (λ h. leaderOf (sheetOf s) (owner (sheetOf s) (namedSet (sheetOf s) p h))) j)
+Inv-loop s owners leaders p n first₀ j₀ first j = (j ≤ n) × (length first ≡ 2048) × (Owners (sheetOf s) owners → Leaders (sheetOf s) leaders → Firsts (sheetOf s) (λ h. namedSet (sheetOf s) p h) (λ h. leaderOf (sheetOf s) (owner (sheetOf s) (namedSet (sheetOf s) p h))) first j × Agree (sheetOf s) (λ h. namedSet (sheetOf s) p h) (λ h. leaderOf (sheetOf s) (owner (sheetOf s) (namedSet (sheetOf s) p h))) j)
 
 abbrev μ-loop : tie.MeasureT-loop
 μ-loop s owners leaders p n first₀ j₀ first j = n - j
@@ -29,7 +29,7 @@ number-requires : tie.Need-number-requires Inv-loop μ-loop
 number-requires c κs = search needs
 
 loop-holds : tie.Need-loop-holds Inv-loop μ-loop
-loop-holds c = (search needs, length-replicate {A = ℕ} 65536 0, λ owners leaders. (firsts-none (sheetOf (c .before .before .before .before .args .s .now)) (λ i. namedSet (sheetOf (c .before .before .before .before .args .s .now)) (c .before .before .before .before .args .p) i) (λ i. leaderOf (sheetOf (c .before .before .before .before .args .s .now)) (owner (sheetOf (c .before .before .before .before .args .s .now)) (namedSet (sheetOf (c .before .before .before .before .args .s .now)) (c .before .before .before .before .args .p) i))) 65536, below-none _))
+loop-holds c = (search needs, length-replicate {A = ℕ} 2048 0, λ owners leaders. (firsts-none (sheetOf (c .before .before .before .before .args .s .now)) (λ i. namedSet (sheetOf (c .before .before .before .before .args .s .now)) (c .before .before .before .before .args .p) i) (λ i. leaderOf (sheetOf (c .before .before .before .before .args .s .now)) (owner (sheetOf (c .before .before .before .before .args .s .now)) (namedSet (sheetOf (c .before .before .before .before .args .s .now)) (c .before .before .before .before .args .p) i))) 2048, below-none _))
 
 named-set-requires : tie.Need-named-set-requires Inv-loop μ-loop
 named-set-requires c κs = search needs
@@ -40,11 +40,17 @@ owner-by-requires c κs = search needs
 leader-by-requires : tie.Need-leader-by-requires Inv-loop μ-loop
 leader-by-requires c κs = search needs
 
+group-pairs-differ-requires : tie.Need-group-pairs-differ-requires Inv-loop μ-loop
+group-pairs-differ-requires c κs = search needs
+
+returns : tie.Need-returns Inv-loop μ-loop
+returns c = λ owners leaders. c .group-pairs-differ .ensures owners leaders
+
 slice-aggregate-first-of : tie.Need-slice-aggregate-first-of Inv-loop μ-loop
 slice-aggregate-first-of c = search needs
 
 first-of-requires : tie.Need-first-of-requires Inv-loop μ-loop
-first-of-requires c κs = (c .before .before .before .before .before .loop .inv .1, omega (arith, c .before .before .before .before .loop-test .taken))
+first-of-requires c κs = (c .before .before .before .before .before .before .loop .inv .1, omega (arith, c .before .if1 .left), omega (arith, c .before .before .before .before .before .loop-test .taken))
 
 named-set-requires-2 : tie.Need-named-set-requires-2 Inv-loop μ-loop
 named-set-requires-2 c κs = search needs
@@ -52,9 +58,9 @@ named-set-requires-2 c κs = search needs
 sets-differ-requires : tie.Need-sets-differ-requires Inv-loop μ-loop
 sets-differ-requires c κs = search needs
 
-returns : tie.Need-returns Inv-loop μ-loop
+returns-2 : tie.Need-returns-2 Inv-loop μ-loop
 unfolding twoEntries twoOf namedSet
-returns c = λ owners leaders. sym (any-one (λ m. any (λ i. differ (sheetOf (c .before .before .before .before .before .before .before .before .before .before .before .before .before .before .before .args .s .now)) (λ i. namedSet (sheetOf (c .before .before .before .before .before .before .before .before .before .before .before .before .before .before .before .args .s .now)) (c .before .before .before .before .before .before .before .before .before .before .before .before .before .before .before .args .p) i) (λ i. leaderOf (sheetOf (c .before .before .before .before .before .before .before .before .before .before .before .before .before .before .before .args .s .now)) (owner (sheetOf (c .before .before .before .before .before .before .before .before .before .before .before .before .before .before .before .args .s .now)) (namedSet (sheetOf (c .before .before .before .before .before .before .before .before .before .before .before .before .before .before .before .args .s .now)) (c .before .before .before .before .before .before .before .before .before .before .before .before .before .before .before .args .p) i))) i m) m) (number (sheetOf (c .before .before .before .before .before .before .before .before .before .before .before .before .before .before .before .args .s .now)) programmes (c .before .before .before .before .before .before .before .before .before .before .before .before .before .before .before .args .p) setList) (c .before .before .before .before .before .before .before .before .before .before .loop .j) (omega (arith, c .before .before .before .before .before .before .before .before .before .loop-test .taken, c .before .before .before .before .before .before .before .before .before .before .before .number .ensures)) (found-next (sheetOf (c .before .before .before .before .before .before .before .before .before .before .before .before .before .before .before .args .s .now)) (λ i. namedSet (sheetOf (c .before .before .before .before .before .before .before .before .before .before .before .before .before .before .before .args .s .now)) (c .before .before .before .before .before .before .before .before .before .before .before .before .before .before .before .args .p) i) (λ i. leaderOf (sheetOf (c .before .before .before .before .before .before .before .before .before .before .before .before .before .before .before .args .s .now)) (owner (sheetOf (c .before .before .before .before .before .before .before .before .before .before .before .before .before .before .before .args .s .now)) (namedSet (sheetOf (c .before .before .before .before .before .before .before .before .before .before .before .before .before .before .before .args .s .now)) (c .before .before .before .before .before .before .before .before .before .before .before .before .before .before .before .args .p) i))) (c .before .before .before .before .before .before .before .before .before .before .loop .first) (c .before .before .before .before .before .before .before .before .before .before .loop .j) (c .before .before .before .before .before .before .leader-by .result) (c .before .before .before .before .first-of .result) (c .before .before .before .before .before .before .before .before .before .before .loop .inv .2 owners leaders .0) (c .before .before .before .before .before .before .leader-by .ensures leaders ∙ ap (leaderOf (sheetOf (c .before .before .before .before .before .before .before .before .before .before .before .before .before .before .before .args .s .now))) (c .before .before .before .before .before .before .before .owner-by .ensures owners ∙ ap (owner (sheetOf (c .before .before .before .before .before .before .before .before .before .before .before .before .before .before .before .args .s .now))) (c .before .before .before .before .before .before .before .before .named-set .ensures))) (omega (arith, c .before .before .before .before .before .before .before .before .before .before .loop .inv .1)) (c .before .before .before .before .first-of .ensures .1) (c .before .before .before .before .before .before .before .before .before .before .loop .inv .2 owners leaders .1) (sym (c .before .sets-differ .ensures ∙ ap₂ (setsDiffer (sheetOf (c .before .before .before .before .before .before .before .before .before .before .before .before .before .before .before .args .s .now))) (c .before .before .named-set2 .ensures) (c .before .before .before .before .before .before .before .before .named-set .ensures)) ∙ c .if1 .taken)))
+returns-2 c = λ owners leaders. sym (any-one (λ m. any (λ i. differ (sheetOf (c .before .before .before .before .before .before .before .before .before .before .before .before .before .before .before .before .args .s .now)) (λ i. namedSet (sheetOf (c .before .before .before .before .before .before .before .before .before .before .before .before .before .before .before .before .args .s .now)) (c .before .before .before .before .before .before .before .before .before .before .before .before .before .before .before .before .args .p) i) (λ i. leaderOf (sheetOf (c .before .before .before .before .before .before .before .before .before .before .before .before .before .before .before .before .args .s .now)) (owner (sheetOf (c .before .before .before .before .before .before .before .before .before .before .before .before .before .before .before .before .args .s .now)) (namedSet (sheetOf (c .before .before .before .before .before .before .before .before .before .before .before .before .before .before .before .before .args .s .now)) (c .before .before .before .before .before .before .before .before .before .before .before .before .before .before .before .before .args .p) i))) i m) m) (number (sheetOf (c .before .before .before .before .before .before .before .before .before .before .before .before .before .before .before .before .args .s .now)) programmes (c .before .before .before .before .before .before .before .before .before .before .before .before .before .before .before .before .args .p) setList) (c .before .before .before .before .before .before .before .before .before .before .before .loop .j) (omega (arith, c .before .before .before .before .before .before .before .before .before .before .loop-test .taken, c .before .before .before .before .before .before .before .before .before .before .before .before .number .ensures)) (found-next (sheetOf (c .before .before .before .before .before .before .before .before .before .before .before .before .before .before .before .before .args .s .now)) (λ i. namedSet (sheetOf (c .before .before .before .before .before .before .before .before .before .before .before .before .before .before .before .before .args .s .now)) (c .before .before .before .before .before .before .before .before .before .before .before .before .before .before .before .before .args .p) i) (λ i. leaderOf (sheetOf (c .before .before .before .before .before .before .before .before .before .before .before .before .before .before .before .before .args .s .now)) (owner (sheetOf (c .before .before .before .before .before .before .before .before .before .before .before .before .before .before .before .before .args .s .now)) (namedSet (sheetOf (c .before .before .before .before .before .before .before .before .before .before .before .before .before .before .before .before .args .s .now)) (c .before .before .before .before .before .before .before .before .before .before .before .before .before .before .before .before .args .p) i))) (c .before .before .before .before .before .before .before .before .before .before .before .loop .first) (c .before .before .before .before .before .before .before .before .before .before .before .loop .j) (c .before .before .before .before .before .before .before .leader-by .result) (c .before .before .before .before .first-of .result) (c .before .before .before .before .before .before .before .before .before .before .before .loop .inv .2 owners leaders .0) (c .before .before .before .before .before .before .before .leader-by .ensures leaders ∙ ap (leaderOf (sheetOf (c .before .before .before .before .before .before .before .before .before .before .before .before .before .before .before .before .args .s .now))) (c .before .before .before .before .before .before .before .before .owner-by .ensures owners ∙ ap (owner (sheetOf (c .before .before .before .before .before .before .before .before .before .before .before .before .before .before .before .before .args .s .now))) (c .before .before .before .before .before .before .before .before .before .named-set .ensures))) (omega (arith, c .before .before .before .before .before .before .before .before .before .before .before .loop .inv .1, c .before .before .before .before .before .before .if1 .left)) (c .before .before .before .before .first-of .ensures .1) (c .before .before .before .before .before .before .before .before .before .before .before .loop .inv .2 owners leaders .1) (sym (c .before .sets-differ .ensures ∙ ap₂ (setsDiffer (sheetOf (c .before .before .before .before .before .before .before .before .before .before .before .before .before .before .before .before .args .s .now))) (c .before .before .named-set2 .ensures) (c .before .before .before .before .before .before .before .before .before .named-set .ensures)) ∙ c .if2 .taken)))
 
 add-j : tie.Need-add-j Inv-loop μ-loop
 add-j c = search needs
@@ -63,11 +69,11 @@ loop-less : tie.Need-loop-less Inv-loop μ-loop
 loop-less c = search needs
 
 loop-again : tie.Need-loop-again Inv-loop μ-loop
-loop-again c = (search needs, c .before .before .before .before .first-of .ensures .0, λ owners leaders. (firsts-more (sheetOf (c .before .before .before .before .before .before .before .before .before .before .before .before .before .before .before .args .s .now)) (λ i. namedSet (sheetOf (c .before .before .before .before .before .before .before .before .before .before .before .before .before .before .before .args .s .now)) (c .before .before .before .before .before .before .before .before .before .before .before .before .before .before .before .args .p) i) (λ i. leaderOf (sheetOf (c .before .before .before .before .before .before .before .before .before .before .before .before .before .before .before .args .s .now)) (owner (sheetOf (c .before .before .before .before .before .before .before .before .before .before .before .before .before .before .before .args .s .now)) (namedSet (sheetOf (c .before .before .before .before .before .before .before .before .before .before .before .before .before .before .before .args .s .now)) (c .before .before .before .before .before .before .before .before .before .before .before .before .before .before .before .args .p) i))) (c .before .before .before .before .before .before .before .before .before .before .loop .first) (c .before .before .before .before .before .before .before .before .before .before .loop .j) (c .before .before .before .before .before .before .leader-by .result) (c .before .before .before .before .first-of .result) (c .before .before .before .before .before .before .before .before .before .before .loop .inv .2 owners leaders .0) (c .before .before .before .before .before .before .leader-by .ensures leaders ∙ ap (leaderOf (sheetOf (c .before .before .before .before .before .before .before .before .before .before .before .before .before .before .before .args .s .now))) (c .before .before .before .before .before .before .before .owner-by .ensures owners ∙ ap (owner (sheetOf (c .before .before .before .before .before .before .before .before .before .before .before .before .before .before .before .args .s .now))) (c .before .before .before .before .before .before .before .before .named-set .ensures))) (omega (arith, c .before .before .before .before .before .before .before .before .before .before .loop .inv .1)) (c .before .before .before .before .first-of .ensures .1) (c .before .before .before .before .first-of .last .0) (c .before .before .before .before .first-of .ensures .0 ∙ sym (c .before .before .before .before .before .before .before .before .before .before .loop .inv .1)) (c .before .before .before .before .first-of .ensures .2), below-more (λ m. any (λ i. differ (sheetOf (c .before .before .before .before .before .before .before .before .before .before .before .before .before .before .before .args .s .now)) (λ i. namedSet (sheetOf (c .before .before .before .before .before .before .before .before .before .before .before .before .before .before .before .args .s .now)) (c .before .before .before .before .before .before .before .before .before .before .before .before .before .before .before .args .p) i) (λ i. leaderOf (sheetOf (c .before .before .before .before .before .before .before .before .before .before .before .before .before .before .before .args .s .now)) (owner (sheetOf (c .before .before .before .before .before .before .before .before .before .before .before .before .before .before .before .args .s .now)) (namedSet (sheetOf (c .before .before .before .before .before .before .before .before .before .before .before .before .before .before .before .args .s .now)) (c .before .before .before .before .before .before .before .before .before .before .before .before .before .before .before .args .p) i))) i m) m ≡ false) (c .before .before .before .before .before .before .before .before .before .before .loop .j) (c .before .before .before .before .before .before .before .before .before .before .loop .inv .2 owners leaders .1) (agree-next (sheetOf (c .before .before .before .before .before .before .before .before .before .before .before .before .before .before .before .args .s .now)) (λ i. namedSet (sheetOf (c .before .before .before .before .before .before .before .before .before .before .before .before .before .before .before .args .s .now)) (c .before .before .before .before .before .before .before .before .before .before .before .before .before .before .before .args .p) i) (λ i. leaderOf (sheetOf (c .before .before .before .before .before .before .before .before .before .before .before .before .before .before .before .args .s .now)) (owner (sheetOf (c .before .before .before .before .before .before .before .before .before .before .before .before .before .before .before .args .s .now)) (namedSet (sheetOf (c .before .before .before .before .before .before .before .before .before .before .before .before .before .before .before .args .s .now)) (c .before .before .before .before .before .before .before .before .before .before .before .before .before .before .before .args .p) i))) (c .before .before .before .before .before .before .before .before .before .before .loop .first) (c .before .before .before .before .before .before .before .before .before .before .loop .j) (c .before .before .before .before .before .before .leader-by .result) (c .before .before .before .before .first-of .result) (c .before .before .before .before .before .before .before .before .before .before .loop .inv .2 owners leaders .0) (c .before .before .before .before .before .before .leader-by .ensures leaders ∙ ap (leaderOf (sheetOf (c .before .before .before .before .before .before .before .before .before .before .before .before .before .before .before .args .s .now))) (c .before .before .before .before .before .before .before .owner-by .ensures owners ∙ ap (owner (sheetOf (c .before .before .before .before .before .before .before .before .before .before .before .before .before .before .before .args .s .now))) (c .before .before .before .before .before .before .before .before .named-set .ensures))) (omega (arith, c .before .before .before .before .before .before .before .before .before .before .loop .inv .1)) (c .before .before .before .before .first-of .ensures .1) (c .before .before .before .before .before .before .before .before .before .before .loop .inv .2 owners leaders .1) (sym (c .before .sets-differ .ensures ∙ ap₂ (setsDiffer (sheetOf (c .before .before .before .before .before .before .before .before .before .before .before .before .before .before .before .args .s .now))) (c .before .before .named-set2 .ensures) (c .before .before .before .before .before .before .before .before .named-set .ensures)) ∙ c .if1 .left))))
+loop-again c = (search needs, c .before .before .before .before .first-of .ensures .0, λ owners leaders. (firsts-more (sheetOf (c .before .before .before .before .before .before .before .before .before .before .before .before .before .before .before .before .args .s .now)) (λ i. namedSet (sheetOf (c .before .before .before .before .before .before .before .before .before .before .before .before .before .before .before .before .args .s .now)) (c .before .before .before .before .before .before .before .before .before .before .before .before .before .before .before .before .args .p) i) (λ i. leaderOf (sheetOf (c .before .before .before .before .before .before .before .before .before .before .before .before .before .before .before .before .args .s .now)) (owner (sheetOf (c .before .before .before .before .before .before .before .before .before .before .before .before .before .before .before .before .args .s .now)) (namedSet (sheetOf (c .before .before .before .before .before .before .before .before .before .before .before .before .before .before .before .before .args .s .now)) (c .before .before .before .before .before .before .before .before .before .before .before .before .before .before .before .before .args .p) i))) (c .before .before .before .before .before .before .before .before .before .before .before .loop .first) (c .before .before .before .before .before .before .before .before .before .before .before .loop .j) (c .before .before .before .before .before .before .before .leader-by .result) (c .before .before .before .before .first-of .result) (c .before .before .before .before .before .before .before .before .before .before .before .loop .inv .2 owners leaders .0) (c .before .before .before .before .before .before .before .leader-by .ensures leaders ∙ ap (leaderOf (sheetOf (c .before .before .before .before .before .before .before .before .before .before .before .before .before .before .before .before .args .s .now))) (c .before .before .before .before .before .before .before .before .owner-by .ensures owners ∙ ap (owner (sheetOf (c .before .before .before .before .before .before .before .before .before .before .before .before .before .before .before .before .args .s .now))) (c .before .before .before .before .before .before .before .before .before .named-set .ensures))) (omega (arith, c .before .before .before .before .before .before .before .before .before .before .before .loop .inv .1, c .before .before .before .before .before .before .if1 .left)) (c .before .before .before .before .first-of .ensures .1) (c .before .before .before .before .first-of .last .0) (c .before .before .before .before .first-of .ensures .0 ∙ sym (c .before .before .before .before .before .before .before .before .before .before .before .loop .inv .1)) (c .before .before .before .before .first-of .ensures .2), below-more (λ m. any (λ i. differ (sheetOf (c .before .before .before .before .before .before .before .before .before .before .before .before .before .before .before .before .args .s .now)) (λ i. namedSet (sheetOf (c .before .before .before .before .before .before .before .before .before .before .before .before .before .before .before .before .args .s .now)) (c .before .before .before .before .before .before .before .before .before .before .before .before .before .before .before .before .args .p) i) (λ i. leaderOf (sheetOf (c .before .before .before .before .before .before .before .before .before .before .before .before .before .before .before .before .args .s .now)) (owner (sheetOf (c .before .before .before .before .before .before .before .before .before .before .before .before .before .before .before .before .args .s .now)) (namedSet (sheetOf (c .before .before .before .before .before .before .before .before .before .before .before .before .before .before .before .before .args .s .now)) (c .before .before .before .before .before .before .before .before .before .before .before .before .before .before .before .before .args .p) i))) i m) m ≡ false) (c .before .before .before .before .before .before .before .before .before .before .before .loop .j) (c .before .before .before .before .before .before .before .before .before .before .before .loop .inv .2 owners leaders .1) (agree-next (sheetOf (c .before .before .before .before .before .before .before .before .before .before .before .before .before .before .before .before .args .s .now)) (λ i. namedSet (sheetOf (c .before .before .before .before .before .before .before .before .before .before .before .before .before .before .before .before .args .s .now)) (c .before .before .before .before .before .before .before .before .before .before .before .before .before .before .before .before .args .p) i) (λ i. leaderOf (sheetOf (c .before .before .before .before .before .before .before .before .before .before .before .before .before .before .before .before .args .s .now)) (owner (sheetOf (c .before .before .before .before .before .before .before .before .before .before .before .before .before .before .before .before .args .s .now)) (namedSet (sheetOf (c .before .before .before .before .before .before .before .before .before .before .before .before .before .before .before .before .args .s .now)) (c .before .before .before .before .before .before .before .before .before .before .before .before .before .before .before .before .args .p) i))) (c .before .before .before .before .before .before .before .before .before .before .before .loop .first) (c .before .before .before .before .before .before .before .before .before .before .before .loop .j) (c .before .before .before .before .before .before .before .leader-by .result) (c .before .before .before .before .first-of .result) (c .before .before .before .before .before .before .before .before .before .before .before .loop .inv .2 owners leaders .0) (c .before .before .before .before .before .before .before .leader-by .ensures leaders ∙ ap (leaderOf (sheetOf (c .before .before .before .before .before .before .before .before .before .before .before .before .before .before .before .before .args .s .now))) (c .before .before .before .before .before .before .before .before .owner-by .ensures owners ∙ ap (owner (sheetOf (c .before .before .before .before .before .before .before .before .before .before .before .before .before .before .before .before .args .s .now))) (c .before .before .before .before .before .before .before .before .before .named-set .ensures))) (omega (arith, c .before .before .before .before .before .before .before .before .before .before .before .loop .inv .1, c .before .before .before .before .before .before .if1 .left)) (c .before .before .before .before .first-of .ensures .1) (c .before .before .before .before .before .before .before .before .before .before .before .loop .inv .2 owners leaders .1) (sym (c .before .sets-differ .ensures ∙ ap₂ (setsDiffer (sheetOf (c .before .before .before .before .before .before .before .before .before .before .before .before .before .before .before .before .args .s .now))) (c .before .before .named-set2 .ensures) (c .before .before .before .before .before .before .before .before .before .named-set .ensures)) ∙ c .if2 .left))))
 
-returns-2 : tie.Need-returns-2 Inv-loop μ-loop
+returns-3 : tie.Need-returns-3 Inv-loop μ-loop
 unfolding twoEntries twoOf namedSet
-returns-2 c = λ owners leaders. sym (any-nowhere (λ m. any (λ i. differ (sheetOf (c .before .before .before .before .before .before .args .s .now)) (λ i. namedSet (sheetOf (c .before .before .before .before .before .before .args .s .now)) (c .before .before .before .before .before .before .args .p) i) (λ i. leaderOf (sheetOf (c .before .before .before .before .before .before .args .s .now)) (owner (sheetOf (c .before .before .before .before .before .before .args .s .now)) (namedSet (sheetOf (c .before .before .before .before .before .before .args .s .now)) (c .before .before .before .before .before .before .args .p) i))) i m) m) (number (sheetOf (c .before .before .before .before .before .before .args .s .now)) programmes (c .before .before .before .before .before .before .args .p) setList) (λ m l. (c .before .loop .inv .2 owners leaders .1) m (omega (arith, l, c .loop-test .left, c .before .before .number .ensures))))
+returns-3 c = λ owners leaders. sym (any-nowhere (λ m. any (λ i. differ (sheetOf (c .before .before .before .before .before .before .args .s .now)) (λ i. namedSet (sheetOf (c .before .before .before .before .before .before .args .s .now)) (c .before .before .before .before .before .before .args .p) i) (λ i. leaderOf (sheetOf (c .before .before .before .before .before .before .args .s .now)) (owner (sheetOf (c .before .before .before .before .before .before .args .s .now)) (namedSet (sheetOf (c .before .before .before .before .before .before .args .s .now)) (c .before .before .before .before .before .before .args .p) i))) i m) m) (number (sheetOf (c .before .before .before .before .before .before .args .s .now)) programmes (c .before .before .before .before .before .before .args .p) setList) (λ m l. (c .before .loop .inv .2 owners leaders .1) m (omega (arith, l, c .loop-test .left, c .before .before .number .ensures))))
 
 pub differ-from-first-spec : {M : Type 1} → statement M
 differ-from-first-spec =
@@ -80,12 +86,14 @@ differ-from-first-spec =
     named-set-requires
     owner-by-requires
     leader-by-requires
+    group-pairs-differ-requires
+    returns
     slice-aggregate-first-of
     first-of-requires
     named-set-requires-2
     sets-differ-requires
-    returns
+    returns-2
     add-j
     loop-less
     loop-again
-    returns-2)
+    returns-3)

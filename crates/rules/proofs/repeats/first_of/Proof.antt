@@ -13,7 +13,7 @@ mul-c : tie.Need-mul-c
 mul-c c = search needs
 
 slice-read-c : tie.Need-slice-read-c
-slice-read-c c = omega (arith, c .before .pre .0)
+slice-read-c c = omega (arith, c .before .pre .0, c .before .pre .1)
 
 add-first : tie.Need-add-first
 add-first c = search needs
@@ -22,7 +22,7 @@ mul-first : tie.Need-mul-first
 mul-first c = search needs
 
 slice-write-first : tie.Need-slice-write-first
-slice-write-first c = omega (arith, c .before .before .pre .0)
+slice-write-first c = omega (arith, c .before .before .pre .0, c .before .before .pre .1)
 
 sub-result : tie.Need-sub-result
 sub-result c = search needs
