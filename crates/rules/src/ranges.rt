@@ -40,7 +40,7 @@ pub fn rule17(s: &[u8], owners: &[u16], section: u8, k: u16) -> bool
 }
 
 // A value leaves a range, which has no bounds where it is absent.
-fn leaves(sort: Sort, value: u16, minimum: u16, maximum: u16) -> bool
+pub fn leaves(sort: Sort, value: u16, minimum: u16, maximum: u16) -> bool
     ensures { λ r. ⌜ r ≡ leaves sort value minimum maximum ⌝ }
 {
     !is_absent(minimum) & !in_range(sort, minimum, value, maximum)

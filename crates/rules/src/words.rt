@@ -51,7 +51,7 @@ fn bad_speech(s: &[u8], section: u8, k: u16, lang: u8, labels: u8, loud: u8) -> 
 }
 
 // A value and its range, of one sort: words outside, or half a pair; each word may be absent.
-fn bad_words(sort: Sort, value: u16, minimum: u16, maximum: u16) -> bool
+pub fn bad_words(sort: Sort, value: u16, minimum: u16, maximum: u16) -> bool
     ensures { λ r. ⌜ r ≡ badWords sort value minimum maximum ⌝ }
 {
     let low = is_absent(minimum);

@@ -1,0 +1,4 @@
+mod CountLaws
+mod KeptLaws
+mod MemberLaws
+mod PassLaws

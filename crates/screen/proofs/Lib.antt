@@ -1,0 +1,4 @@
+mod NoughtLaws
+mod ObjectLaws
+mod ScreenedLaws
+mod SpeechLaws

@@ -1,0 +1,216 @@
+-- What the tests of an object say of the rules. Assumes nothing.
+use Prim.Native.Nat.{ℕ, zero, suc, _+_, _<_, _≤_}
+use mathlib.Core.Path.{_≡_, refl, sym, ap, _∙_}
+use mathlib.Core.Bool.{Bool, true, false, not, cond, true≢false, _&&_, _||_}
+use native.Mathlib.Omega.{arith}
+use native.Mathlib.Nat.{add-zero}
+use lib.Dec.{eqb, leb, ltb}
+use borrow.Author.Tests.{eqb-true, eqb-false, ltb-true, ltb-false, le-ltb, eq-eqb, ne-eqb, lt-ltb, not-false}
+use Rattle.sheet.specs.Words.{Sheet, word}
+use Rattle.sheet.specs.Layout.{count, offset, start, field, first, number, entry, reference}
+use Rattle.sheet.specs.Fields.{objects, packs, tracks, references, valueSets, objectPack, noPack, trackList, childList, complementList, interact, setSpan, packChannels, trackPack, trackOrdinal, setOwn}
+use Rattle.values.specs.declared.Sort.the-variants.{Gains, Offsets}
+use Rattle.values.specs.Values.{isAbsent}
+use Rattle.profile.specs.Counting.{any, howMany}
+use Rattle.profile.specs.Relations.{hasPack, packOf, hasChildren, hasObjectsPack, hasFrontPack, channels, trackAt, ownValue, setValue, effectiveValue, effectiveMinimum, effectiveMaximum}
+use Rattle.profile.specs.Rules.{beyond, lacks, listLacks, leaves, badSet, badSetWords, setRange, setLeaves, badObject, badObjectWords, objectRange, objectLeaves, rule4, rule5, rule6, rule8, rule11, rule13, rule14, rule15, rule16, rule17, rule18, rule19, rule20}
+use Rattle.profile.proofs.BoolLaws.{or-false, or-none, or-none-3, or-none-4, and-second}
+use Rattle.profile.proofs.CountingLaws.{any-none}
+use Rattle.profile.proofs.SumLaws.{any-nowhere, howMany-eq}
+use Rattle.screen.specs.Entries.{listed, badChildAt, outOfOrderAt}
+use Rattle.screen.specs.Values.{valuesAt, hasRange, wordsBroken, valueLeaves, setBroken}
+use Rattle.screen.specs.Objects.{objectListsBroken, objectValues, valuesBroken, childrenBroken, tracksBroken, sourceKept, complementsKept, setsBroken, objectBroken}
+
+-- two tests of each number below n
+module _ (p q : ℕ → Bool) (n : ℕ) (e : any (λ i. p i || q i) n ≡ false) where
+  pub any-left : any p n ≡ false
+  any-left = any-nowhere p n (λ k l. or-none (p k) (q k) (any-none (λ i. p i || q i) n e k l) .0)
+
+  pub any-right : any q n ≡ false
+  any-right = any-nowhere q n (λ k l. or-none (p k) (q k) (any-none (λ i. p i || q i) n e k l) .1)
+
+-- an or of seven that fails
+pub or-none-7 : (a b c d e f g : Bool) → (a || b || c || d || e || f || g) ≡ false → (a ≡ false) × (b ≡ false) × (c ≡ false) × (d ≡ false) × (e ≡ false) × (f ≡ false) × (g ≡ false)
+or-none-7 a b c d e f g h =
+    let l = or-none-4 (a || b || c || d) e f g h in
+    let m = or-none-4 a b c d (l .0) in
+    (m .0, m .1, m .2, m .3, l .1, l .2, l .3)
+
+-- an or of eight
+pub or-none-8 : (a b c d e f g h : Bool) → (a || b || c || d || e || f || g || h) ≡ false
+    → (a ≡ false) × (b ≡ false) × (c ≡ false) × (d ≡ false) × (e ≡ false) × (f ≡ false) × (g ≡ false) × (h ≡ false)
+or-none-8 a b c d e f g h q =
+    let l = or-none (a || b || c || d || e || f || g) h q in
+    let m = or-none-7 a b c d e f g (l .0) in
+    (m .0, m .1, m .2, m .3, m .4, m .5, m .6, l .1)
+
+pub lists-kept : (s : Sheet) (o : ℕ) → objectListsBroken s o ≡ false → (rule4 s objects o ≡ false) × (rule8 s objects o ≡ false)
+unfolding objectListsBroken rule4 beyond rule8
+lists-kept s o e =
+    let p = or-none-7
+    (beyond s references objects o trackList)
+    (beyond s references objects o childList)
+    (beyond s references objects o complementList)
+    (beyond s valueSets objects o setSpan) _ _ _ e in
+    (simp (p .0, p .1, p .2, p .3), simp (p .4, p .5, p .6))
+
+pub values-kept : (s : Sheet) (o : ℕ) → valuesBroken (objectValues s o) ≡ false
+    → (rule6 s objects o ≡ false)
+    × (rule17 s objects o ≡ false)
+    × (rule18 s objects o ≡ false)
+    × ((eqb (field s objects o interact) 0 && (objectRange s o Gains || objectRange s o Offsets)) ≡ false)
+unfolding valuesBroken objectValues valuesAt hasRange wordsBroken rule6 badObject badObjectWords rule17 rule18 objectLeaves ownValue objectRange field
+values-kept s o e =
+    let p = or-none-7
+    (ltb 1 (field s objects o interact))
+    (badObjectWords s o Gains)
+    (badObjectWords s o Offsets)
+    (eqb (field s objects o interact) 0 && (objectRange s o Gains || objectRange s o Offsets))
+    ((not (isAbsent (field s objects o 11)) || objectRange s o Offsets) && not (hasFrontPack s o))
+    (objectLeaves s o Gains)
+    (objectLeaves s o Offsets) e in
+    (simp (p .0, p .1, p .2, or-false), simp (p .4, or-false), simp (p .5, p .6, or-false), p .3)
+
+-- the object at a place of a list has the place's number: each number below n comes once
+howMany-place : (m n : ℕ) → howMany (λ i. eqb i m) n ≡ cond (ltb m n) 1 0
+unfolding howMany
+howMany-place m zero = rw (le-ltb m 0 (omega arith)) refl
+howMany-place m (suc n) =
+    (elim (eqb n m) as (λ b. eqb n m ≡ b → howMany (λ i. eqb i m) n + cond (eqb n m) 1 0 ≡ cond (ltb m (suc n)) 1 0) [
+      | true ↦ λ e. let h : n ≡ m = eqb-true n m e in rw (howMany-place m n, e, h, lt-ltb m (suc m) (omega arith), le-ltb m m (omega arith)) refl
+      | false ↦ λ e. let h : (n ≡ m) → ⊥ = eqb-false n m e in rw (howMany-place m n, e, add-zero (cond (ltb m n) 1 0)) (ap (λ (b : Bool). cond b 1 0) (below m n h))
+    ]) refl
+  where
+    below : (m n : ℕ) → ((n ≡ m) → ⊥) → ltb m n ≡ ltb m (suc n)
+    below m n h =
+        (elim (ltb m n) as (λ b. ltb m n ≡ b → b ≡ ltb m (suc n)) [
+          | true ↦ λ e. let l : m < n = ltb-true m n e in sym (lt-ltb m (suc n) (omega arith))
+          | false ↦ λ e. let l : n ≤ m = ltb-false m n e in sym (le-ltb m (suc n) (omega (arith, h)))
+        ]) refl
+
+-- an object without a pack
+pub children-kept : (s : Sheet) (o : ℕ) → packOf s o ≡ noPack → childrenBroken s o ≡ false → sourceKept s o
+unfolding any childrenBroken hasPack hasChildren lacks listLacks rule13 rule14 channels badChildAt listed entry reference
+children-kept s o e h =
+    let p = or-none-3 (eqb (number s objects o childList) 0) (not (eqb (number s objects o trackList) 0)) (any (badChildAt s (offset s references) (first s objects o childList) (count s objects)) (number s objects o childList)) h in
+    let none : number s objects o trackList ≡ 0 = eqb-true (number s objects o trackList) 0 (not-false (eqb (number s objects o trackList) 0) (p .1)) in
+    let some : ltb 0 (number s objects o childList) ≡ true = lt-ltb 0 (number s objects o childList) (omega (arith, eqb-false (number s objects o childList) 0 (p .0))) in
+    let lacking = any-left (λ i. leb (count s objects) (entry s objects o childList i)) (λ i. not (hasObjectsPack s (entry s objects o childList i))) (number s objects o childList) (p .2) in
+    let packless = any-right (λ i. leb (count s objects) (entry s objects o childList i)) (λ i. not (hasObjectsPack s (entry s objects o childList i))) (number s objects o childList) (p .2) in
+    (simp e, simp none, lacking, simp (e, some, packless), simp (some, none))
+
+-- an object with a pack
+module _ (s : Sheet) (o pack : ℕ) (named : pack ≡ packOf s o) (some : (pack ≡ noPack) → ⊥) (h : tracksBroken s o pack ≡ false) where
+  parts : (ltb 0 (number s objects o childList) ≡ false)
+      × (leb (count s packs) pack ≡ false)
+      × (not (eqb (number s objects o trackList) (field s packs pack packChannels)) ≡ false)
+      × (any (outOfOrderAt s (offset s references) (first s objects o trackList) pack) (number s objects o trackList) ≡ false)
+  unfolding tracksBroken
+  parts =
+      or-none-4 (ltb 0 (number s objects o childList)) (leb (count s packs) pack) (not (eqb (number s objects o trackList) (field s packs pack packChannels)))
+      (any (outOfOrderAt s (offset s references) (first s objects o trackList) pack) (number s objects o trackList)) h
+
+  in-order : (i : ℕ) → i < number s objects o trackList
+      → (leb (count s tracks) (trackAt s o i) ≡ false) × (not (eqb (field s tracks (trackAt s o i) trackPack) pack) ≡ false) × (not (eqb (field s tracks (trackAt s o i) trackOrdinal) i) ≡ false)
+  unfolding outOfOrderAt listed trackAt entry reference
+  in-order i l =
+      or-none-3 (leb (count s tracks) (trackAt s o i)) (not (eqb (field s tracks (trackAt s o i) trackPack) pack)) (not (eqb (field s tracks (trackAt s o i) trackOrdinal) i))
+      (any-none (outOfOrderAt s (offset s references) (first s objects o trackList) pack) (number s objects o trackList) (parts .3) i l)
+
+  childless : number s objects o childList ≡ 0
+  childless = let l : number s objects o childList ≤ 0 = ltb-false 0 (number s objects o childList) (parts .0) in omega (arith, l)
+
+  each-once : (n : ℕ) → n < number s objects o trackList → not (eqb (howMany (λ i. eqb (field s tracks (trackAt s o i) trackOrdinal) n) (number s objects o trackList)) 1) ≡ false
+  each-once n l =
+      let e : howMany (λ i. eqb (field s tracks (trackAt s o i) trackOrdinal) n) (number s objects o trackList) ≡ 1 =
+      howMany-eq (λ i. eqb (field s tracks (trackAt s o i) trackOrdinal) n) (λ i. eqb i n) (number s objects o trackList)
+      (λ i h. ap (λ (x : ℕ). eqb x n) (eqb-true (field s tracks (trackAt s o i) trackOrdinal) i (not-false (eqb (field s tracks (trackAt s o i) trackOrdinal) i) (in-order i h .2))))
+      ∙ (howMany-place n (number s objects o trackList) ∙ ap (λ (b : Bool). cond b 1 0) (lt-ltb n (number s objects o trackList) l)) in
+      rw e refl
+
+  all-channels : number s objects o trackList ≡ channels s o
+  unfolding channels hasChildren
+  all-channels =
+      rw (parts .0, sym named) (eqb-true (number s objects o trackList) (field s packs pack packChannels) (not-false (eqb (number s objects o trackList) (field s packs pack packChannels)) (parts .2)))
+
+  with-pack : hasPack s o ≡ true
+  unfolding hasPack
+  with-pack = rw (sym named, ne-eqb pack noPack some) refl
+
+  in-section : (i : ℕ) → i < number s objects o trackList → lacks s tracks (entry s objects o trackList i) ≡ false
+  unfolding trackAt lacks
+  in-section i l = in-order i l .0
+
+  rule14-kept : rule14 s objects o ≡ false
+  unfolding rule14
+  rule14-kept =
+      rw (
+        eq-eqb (number s objects o trackList) (channels s o) all-channels,
+        any-nowhere (λ i. not (eqb (field s tracks (trackAt s o i) trackPack) (packOf s o))) (number s objects o trackList) (λ i l. rw (sym named) (in-order i l .1)),
+        any-nowhere (λ n. not (eqb (howMany (λ i. eqb (field s tracks (trackAt s o i) trackOrdinal) n) (number s objects o trackList)) 1)) (channels s o) (λ n l. each-once n (omega (arith, l, all-channels))),
+      ) refl
+
+  pub tracks-kept : sourceKept s o
+  unfolding any hasChildren lacks listLacks rule13
+  tracks-kept = (
+    rw (with-pack, sym named) (parts .1),
+    any-nowhere (λ i. lacks s tracks (entry s objects o trackList i)) (number s objects o trackList) in-section,
+    simp childless,
+    simp (with-pack, childless),
+    rule14-kept,
+  )
+
+-- an object without complements
+pub no-complements : (s : Sheet) (o : ℕ) → number s objects o complementList ≡ 0 → complementsKept s o
+unfolding any listLacks rule19 rule20
+no-complements s o e = (simp e, simp e, simp e)
+
+-- a set of the object, as it is tested
+sets : (s : Sheet) (o : ℕ) → setsBroken s o ≡ false → any (λ i. setBroken s (objectValues s o) (start s valueSets (first s objects o setSpan + i))) (number s objects o setSpan) ≡ false
+unfolding setsBroken
+sets s o e = e
+
+-- a set that passes, as a set of object o
+pub set-kept : (s : Sheet) (o v : ℕ) → setBroken s (objectValues s o) (start s valueSets v) ≡ false
+    → (badSet s v ≡ false)
+    × ((eqb (field s objects o interact) 0 && eqb (field s valueSets v setOwn) 1) ≡ false)
+    × (((not (isAbsent (field s valueSets v (setValue Offsets))) || setRange s v Offsets) && not (hasFrontPack s o)) ≡ false)
+    × (setLeaves s o v Gains ≡ false)
+    × (setLeaves s o v Offsets ≡ false)
+unfolding setBroken objectValues valuesAt hasRange wordsBroken valueLeaves badSet badSetWords setRange setLeaves effectiveValue effectiveMinimum effectiveMaximum ownValue field
+set-kept s o v e =
+    let p = or-none-8
+    (ltb 1 (field s valueSets v setOwn))
+    (badSetWords s v Gains)
+    (badSetWords s v Offsets)
+    (eqb (field s valueSets v setOwn) 0 && (setRange s v Gains || setRange s v Offsets))
+    (eqb (field s objects o interact) 0 && eqb (field s valueSets v setOwn) 1)
+    ((not (isAbsent (field s valueSets v (setValue Offsets))) || setRange s v Offsets) && not (hasFrontPack s o))
+    (setLeaves s o v Gains)
+    (setLeaves s o v Offsets) e in
+    (simp (p .0, p .1, p .2, p .3), p .4, p .5, p .6, p .7)
+
+own-set : (s : Sheet) (o i : ℕ) → setBroken s (objectValues s o) (start s valueSets (first s objects o setSpan + i)) ≡ false
+    → (eqb (field s objects o interact) 0 && eqb (field s valueSets (first s objects o setSpan + i) setOwn) 1) ≡ false
+own-set s o i e = set-kept s o (first s objects o setSpan + i) e .1
+
+-- rule 16: the object's own ranges, and its sets
+pub own-kept : (s : Sheet) (o : ℕ) → (eqb (field s objects o interact) 0 && (objectRange s o Gains || objectRange s o Offsets)) ≡ false → setsBroken s o ≡ false → rule16 s objects o ≡ false
+unfolding rule16
+own-kept s o e h =
+    (elim (eqb (field s objects o interact) 0) as (λ b. eqb (field s objects o interact) 0 ≡ b → rule16 s objects o ≡ false) [
+      | true ↦ λ t. rw (t, and-second (eqb (field s objects o interact) 0) (objectRange s o Gains || objectRange s o Offsets) e t, any-nowhere (λ i. eqb (field s valueSets (first s objects o setSpan + i) setOwn) 1) (number s objects o setSpan) (λ i l. and-second (eqb (field s objects o interact) 0) (eqb (field s valueSets (first s objects o setSpan + i) setOwn) 1) (own-set s o i (any-none (λ i. setBroken s (objectValues s o) (start s valueSets (first s objects o setSpan + i))) (number s objects o setSpan) (sets s o h) i l)) t)) refl
+      | false ↦ λ t. rw t refl
+    ]) refl
+
+rule5-kept : (s : Sheet) (o : ℕ) → sourceKept s o → complementsKept s o → rule5 s objects o ≡ false
+unfolding rule5
+rule5-kept s o source others = simp (source .0, source .1, source .2, others .0, or-false)
+
+pub object-kept : (s : Sheet) (o : ℕ) → objectListsBroken s o ≡ false → valuesBroken (objectValues s o) ≡ false → setsBroken s o ≡ false → sourceKept s o → complementsKept s o
+    → rule11 s objects o ≡ false → rule15 s objects o ≡ false → objectBroken s o ≡ false
+unfolding objectBroken
+object-kept s o lists values sets source others once child =
+    let l = lists-kept s o lists in
+    let v = values-kept s o values in
+    rw (l .0, rule5-kept s o source others, v .0, l .1, once, source .3, source .4, child, own-kept s o (v .3) sets, v .1, v .2, others .1, others .2, sets) refl

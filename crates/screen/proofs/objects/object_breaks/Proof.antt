@@ -1,0 +1,73 @@
+-- Each part is its callee's. Assumes nothing.
+use mathlib.Core.Path.{_≡_, sym, _∙_}
+use mathlib.Core.Bool.{false, _||_}
+use Rattle.sheet.specs.Words.{sheetOf}
+use native.Mathlib.Omega.{arith}
+use Rattle.screen.specs.Objects.{setsBroken}
+use Rattle.screen.proofs.ObjectLaws.{object-kept, or-none-7}
+use borrow.Author.Needs.{needs}
+use Rattle.screen.proofs.objects.object_breaks.Statement.{statement}
+use Rattle.screen.proofs.objects.object_breaks.Tie as tie
+
+object-values-requires : tie.Need-object-values-requires
+object-values-requires c κs = search needs
+
+object-lists-break-requires : tie.Need-object-lists-break-requires
+object-lists-break-requires c κs = search needs
+
+values-break-requires : tie.Need-values-break-requires
+values-break-requires c κs = search needs
+
+field-requires : tie.Need-field-requires
+field-requires c κs = search needs
+
+number-requires : tie.Need-number-requires
+number-requires c κs = search needs
+
+any-set-breaks-requires : tie.Need-any-set-breaks-requires
+any-set-breaks-requires c κs = search needs
+
+source-breaks-requires : tie.Need-source-breaks-requires
+source-breaks-requires c κs = search needs
+
+complements-break-requires : tie.Need-complements-break-requires
+complements-break-requires c κs = search needs
+
+slice-aggregate-rule11 : tie.Need-slice-aggregate-rule11
+slice-aggregate-rule11 c = search needs
+
+rule11-requires : tie.Need-rule11-requires
+rule11-requires c κs = search needs
+
+rule15-requires : tie.Need-rule15-requires
+rule15-requires c κs = search needs
+
+returns : tie.Need-returns
+unfolding setsBroken
+returns c = λ e named tops complements.
+    let p = or-none-7 (c .before .before .before .before .before .before .before .before .before .object-lists-break .result) (c .before .before .before .before .before .before .before .before .values-break .result) (c .before .before .before .before .before .any-set-breaks .result) (c .before .before .before .before .source-breaks .result) (c .before .before .before .complements-break .result) (c .before .rule11 .result) (c .rule15 .result) e in
+    object-kept (sheetOf (c .before .before .before .before .before .before .before .before .before .before .before .before .before .before .before .args .s .now)) (c .before .before .before .before .before .before .before .before .before .before .before .before .before .before .before .args .o)
+    (sym (c .before .before .before .before .before .before .before .before .before .object-lists-break .ensures) ∙ p .0)
+    (rw (c .before .before .before .before .before .before .before .before .before .before .object-values .ensures) at (sym (c .before .before .before .before .before .before .before .before .values-break .ensures) ∙ p .1))
+    (rw (c .before .before .before .before .before .before .before .field .ensures, c .before .before .before .before .before .before .number .ensures, c .before .before .before .before .before .before .before .before .before .before .object-values .ensures) at (sym (c .before .before .before .before .before .any-set-breaks .ensures) ∙ p .2))
+    (c .before .before .before .before .source-breaks .ensures (p .3))
+    (c .before .before .before .complements-break .ensures (p .4) tops complements)
+    (sym (c .before .rule11 .ensures named (λ x l. absurd (omega arith))) ∙ p .5)
+    (sym (c .rule15 .ensures tops) ∙ p .6)
+
+pub object-breaks-spec : {M : Type 1} → statement M
+object-breaks-spec =
+    tie.close
+    (tie.spec
+    object-values-requires
+    object-lists-break-requires
+    values-break-requires
+    field-requires
+    number-requires
+    any-set-breaks-requires
+    source-breaks-requires
+    complements-break-requires
+    slice-aggregate-rule11
+    rule11-requires
+    rule15-requires
+    returns)

@@ -1,0 +1,56 @@
+-- Each test is its callee's. Assumes nothing.
+use Rattle.profile.specs.Rules.{outside}
+use Rattle.screen.specs.Screened.{programmeListsBroken}
+use borrow.Author.Needs.{needs}
+use Rattle.screen.proofs.speech.programme_lists_break.Statement.{statement}
+use Rattle.screen.proofs.speech.programme_lists_break.Tie as tie
+
+offset-requires : tie.Need-offset-requires
+offset-requires c κs = search needs
+
+count-requires : tie.Need-count-requires
+count-requires c κs = search needs
+
+beyond-requires : tie.Need-beyond-requires
+beyond-requires c κs = search needs
+
+beyond-requires-2 : tie.Need-beyond-requires-2
+beyond-requires-2 c κs = search needs
+
+exceeds-requires : tie.Need-exceeds-requires
+exceeds-requires c κs = search needs
+
+exceeds-requires-2 : tie.Need-exceeds-requires-2
+exceeds-requires-2 c κs = search needs
+
+count-requires-2 : tie.Need-count-requires-2
+count-requires-2 c κs = search needs
+
+any-lacking-requires : tie.Need-any-lacking-requires
+any-lacking-requires c κs = search needs
+
+count-requires-3 : tie.Need-count-requires-3
+count-requires-3 c κs = search needs
+
+any-lacking-requires-2 : tie.Need-any-lacking-requires-2
+any-lacking-requires-2 c κs = search needs
+
+returns : tie.Need-returns
+unfolding programmeListsBroken outside
+returns c = simp (c .any-lacking2 .ensures, c .before .count3 .ensures, c .before .before .any-lacking .ensures, c .before .before .before .count2 .ensures, c .before .before .before .before .exceeds2 .ensures, c .before .before .before .before .before .exceeds .ensures, c .before .before .before .before .before .before .beyond2 .ensures, c .before .before .before .before .before .before .before .beyond .ensures, c .before .before .before .before .before .before .before .before .count .ensures, c .before .before .before .before .before .before .before .before .before .offset .ensures)
+
+pub programme-lists-break-spec : {M : Type 1} → statement M
+programme-lists-break-spec =
+    tie.close
+    (tie.spec
+    offset-requires
+    count-requires
+    beyond-requires
+    beyond-requires-2
+    exceeds-requires
+    exceeds-requires-2
+    count-requires-2
+    any-lacking-requires
+    count-requires-3
+    any-lacking-requires-2
+    returns)

@@ -1,0 +1,4 @@
+pub mod Entries
+pub mod Objects
+pub mod Screened
+pub mod Values

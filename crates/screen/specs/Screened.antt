@@ -1,0 +1,96 @@
+-- What the screening of a sheet tests of a record. Assumes nothing.
+use Prim.Native.Nat.{ℕ, _+_}
+use mathlib.Core.Bool.{Bool, cond, not, _&&_, _||_}
+use mathlib.Core.List.{List}
+use lib.Dec.{eqb, ltb}
+use Rattle.sheet.specs.Words.{Sheet}
+use Rattle.sheet.specs.Layout.{count, offset}
+use Rattle.sheet.specs.Fields.{programmes, contents, objects, packs, tracks, references, valueSets}
+use Rattle.values.specs.Language.{language, loudness}
+use Rattle.profile.specs.Counting.{any, twoOf}
+use Rattle.profile.specs.Limits.{exceeds, labelsLimit, programmeContentsLimit, programmeSetsLimit}
+use Rattle.profile.specs.Rules.{outside, rule1, rule2, rule3, rule4, rule5, rule6, rule7, rule8, rule9, rule10, rule11, rule12}
+use Rattle.tables.specs.Marks.{Standing}
+use Rattle.tables.specs.Right.{Named, Spanned, Listed, Tops, Complemented}
+use Rattle.screen.specs.Entries.{lackingAt, noLanguageAt, sameAt}
+use Rattle.screen.specs.Objects.{objectBroken}
+
+-- a language, a label list and a loudness that break rule 4, 6, 8 or 9
+unfoldable pub speechBroken : Sheet → ℕ → ℕ → ℕ → ℕ → Bool
+speechBroken s lang first n loud =
+    ltb (count s references) (first + n)
+    || (not (language lang) || any (noLanguageAt s (offset s references) first) n || not (loudness loud))
+    || exceeds s labelsLimit n
+    || twoOf (sameAt s (offset s references) first) n
+
+-- a content breaks a rule that needs no table
+unfoldable pub contentBroken : Sheet → ℕ → Bool
+contentBroken s k = rule4 s contents k || rule5 s contents k || rule6 s contents k || rule8 s contents k || rule9 s contents k
+
+-- a content list and a set list that break rule 4, 5 or 8
+unfoldable pub programmeListsBroken : Sheet → ℕ → ℕ → ℕ → ℕ → Bool
+programmeListsBroken s first n from sets =
+    ltb (count s references) (first + n)
+    || ltb (count s references) (from + sets)
+    || outside s programmeContentsLimit n
+    || exceeds s programmeSetsLimit sets
+    || any (lackingAt s (offset s references) first (count s contents)) n
+    || any (lackingAt s (offset s references) from (count s valueSets)) sets
+
+-- a programme breaks a rule that needs no table
+unfoldable pub programmeBroken : Sheet → ℕ → Bool
+programmeBroken s k = rule4 s programmes k || rule5 s programmes k || rule6 s programmes k || rule8 s programmes k || rule9 s programmes k
+
+-- the header breaks rule 1 or 2, or a section rule 3 or 7
+unfoldable pub headerBroken : Sheet → Bool
+headerBroken s =
+    rule1 s 0 0
+    || rule2 s 0 0
+    || rule3 s 1 0
+    || rule3 s 2 0
+    || rule3 s 3 0
+    || rule3 s 4 0
+    || rule3 s 5 0
+    || rule3 s 6 0
+    || rule3 s 7 0
+    || rule7 s 1 0
+    || rule7 s 2 0
+    || rule7 s 3 0
+    || rule7 s 4 0
+    || rule7 s 5 0
+
+-- a record of a section breaks a rule from 4 to 20; of a value set, those of its object are with the object
+unfoldable pub recordBroken : Sheet → ℕ → ℕ → Bool
+recordBroken s section k =
+    eqb section programmes && programmeBroken s k
+    || eqb section contents && (contentBroken s k || rule12 s contents k)
+    || eqb section objects && objectBroken s k
+    || eqb section packs && (rule6 s packs k || rule10 s packs k)
+    || eqb section tracks && rule5 s tracks k
+    || eqb section valueSets && rule11 s valueSets k
+
+-- how many records of a section are tested: the entries of section 6 are, with the lists that have them
+unfoldable pub recordCount : Sheet → ℕ → ℕ
+recordCount s section = cond (eqb section references) 0 (count s section)
+
+-- some record of a section does
+unfoldable pub sectionBroken : Sheet → ℕ → Bool
+sectionBroken s section = any (recordBroken s section) (recordCount s section)
+
+-- the tables that the records are tested with are right
+pub record RecordsTabled (s : Sheet) (named spanned listed tops complements : List ℕ) : Type 0 where
+  pub named-right : Named s named
+  pub spanned-right : Spanned s spanned
+  pub listed-right : Listed s listed
+  pub tops-right : Tops s tops
+  pub complements-right : Complemented s complements
+
+-- the seven tables that the screening begins with have only noughts
+pub record Noughts (named spanned listed tops complements owners leaders : List ℕ) : Type 0 where
+  pub named-nought : Standing (λ x. 0) named
+  pub spanned-nought : Standing (λ x. 0) spanned
+  pub listed-nought : Standing (λ x. 0) listed
+  pub tops-nought : Standing (λ x. 0) tops
+  pub complements-nought : Standing (λ x. 0) complements
+  pub owners-nought : Standing (λ x. 0) owners
+  pub leaders-nought : Standing (λ x. 0) leaders

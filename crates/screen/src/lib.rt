@@ -1,0 +1,23 @@
+// The screening of a sheet: one pass over each section that shows for most accepted sheets that no rule is broken. Where it cannot tell,
+// the search of the checker decides.
+pub mod lists;
+pub mod objects;
+pub mod records;
+pub mod screening;
+pub mod sets;
+pub mod speech;
+
+// A gain with its range, or an offset with its range: three words.
+pub struct Values {
+    pub value: u16,
+    pub minimum: u16,
+    pub maximum: u16,
+}
+
+// What of an object counts for the values of its sets: its interact word, whether its pack is of kind 3 with front 1, and its values.
+pub struct ObjectValues {
+    pub interact: u16,
+    pub front: bool,
+    pub gains: Values,
+    pub offsets: Values,
+}

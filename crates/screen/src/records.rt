@@ -1,0 +1,123 @@
+// The records of each section.
+use crate::objects::object_breaks;
+use crate::speech::content_breaks;
+use crate::speech::programme_breaks;
+use rules::header::rule1;
+use rules::header::rule2;
+use rules::header::rule3;
+use rules::limits::rule7;
+use rules::limits::rule10;
+use rules::lists::rule5;
+use rules::naming::rule11;
+use rules::naming::rule12;
+use rules::words::rule6;
+use sheet::fields::CONTENTS;
+use sheet::fields::PACKS;
+use sheet::fields::REFERENCES;
+use sheet::fields::TRACKS;
+use sheet::fields::VALUE_SETS;
+use sheet::layout::count;
+ghost use mathlib.Core.Bool.{false, true};
+ghost use mathlib.Core.Path.{_≡_};
+ghost use Rattle.profile.specs.Counting.{any};
+ghost use Rattle.screen.specs.Screened.{RecordsTabled, headerBroken, recordBroken, recordCount, sectionBroken};
+ghost use Rattle.sheet.specs.Words.{sheetOf};
+
+// The header and the sections themselves: rules 1, 2, 3 and 7.
+pub fn header_breaks(s: &[u8]) -> bool
+    ensures { λ r. ⌜ r ≡ headerBroken (sheetOf (now (s .entry))) ⌝ }
+{
+    rule1(s, 0, 0)
+        | rule2(s, 0, 0)
+        | rule3(s, 1, 0)
+        | rule3(s, 2, 0)
+        | rule3(s, 3, 0)
+        | rule3(s, 4, 0)
+        | rule3(s, 5, 0)
+        | rule3(s, 6, 0)
+        | rule3(s, 7, 0)
+        | rule7(s, 1, 0)
+        | rule7(s, 2, 0)
+        | rule7(s, 3, 0)
+        | rule7(s, 4, 0)
+        | rule7(s, 5, 0)
+}
+
+// Whether a record may break a rule from 4 to 20.
+fn record_breaks(
+    s: &[u8],
+    named: &[u16],
+    spanned: &[u16],
+    listed: &[u16],
+    tops: &[u16],
+    complements: &[u16],
+    section: u8,
+    k: u16,
+) -> bool
+    ensures { λ r. ⌜ (r ≡ false → RecordsTabled (sheetOf (now (s .entry))) (now (named .entry)) (now (spanned .entry)) (now (listed .entry)) (now (tops .entry)) (now (complements .entry)) → recordBroken (sheetOf (now (s .entry))) section k ≡ false) ⌝ }
+{
+    match section {
+        1 => programme_breaks(s, k),
+        2 => content_breaks(s, k) | rule12(s, listed, CONTENTS, k),
+        3 => object_breaks(s, named, tops, complements, k),
+        4 => rule6(s, PACKS, k) | rule10(s, PACKS, k),
+        5 => rule5(s, TRACKS, k),
+        7 => rule11(s, named, spanned, VALUE_SETS, k),
+        _ => false,
+    }
+}
+
+// How many records of a section are tested: the entries of section 6 are, with the lists that have them.
+fn record_count(s: &[u8], section: u8) -> u16
+    ensures { λ r. ⌜ r ≡ recordCount (sheetOf (now (s .entry))) section ⌝ }
+{
+    if section == REFERENCES {
+        0
+    } else {
+        count(s, section)
+    }
+}
+
+// Whether no record of a section breaks one.
+fn section_passes(
+    s: &[u8],
+    named: &[u16],
+    spanned: &[u16],
+    listed: &[u16],
+    tops: &[u16],
+    complements: &[u16],
+    section: u8,
+) -> bool
+    ensures { λ r. ⌜ (r ≡ true → RecordsTabled (sheetOf (now (s .entry))) (now (named .entry)) (now (spanned .entry)) (now (listed .entry)) (now (tops .entry)) (now (complements .entry)) → sectionBroken (sheetOf (now (s .entry))) section ≡ false) ⌝ }
+{
+    let n = record_count(s, section);
+    let mut k: u16 = 0;
+    while k < n {
+        if record_breaks(s, named, spanned, listed, tops, complements, section, k) {
+            return false;
+        }
+        k += 1;
+    }
+    true
+}
+
+// Whether no record of any section breaks one.
+pub fn records_pass(
+    s: &[u8],
+    named: &[u16],
+    spanned: &[u16],
+    listed: &[u16],
+    tops: &[u16],
+    complements: &[u16],
+) -> bool
+    ensures { λ r. ⌜ (r ≡ true → RecordsTabled (sheetOf (now (s .entry))) (now (named .entry)) (now (spanned .entry)) (now (listed .entry)) (now (tops .entry)) (now (complements .entry)) → any (sectionBroken (sheetOf (now (s .entry)))) 8 ≡ false) ⌝ }
+{
+    let mut section: u8 = 0;
+    while section < 8 {
+        if !section_passes(s, named, spanned, listed, tops, complements, section) {
+            return false;
+        }
+        section += 1;
+    }
+    true
+}

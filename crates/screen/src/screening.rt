@@ -1,0 +1,206 @@
+// The screening: a sheet that passes it is accepted. One that doesn't may be accepted too.
+use crate::records::header_breaks;
+use crate::records::records_pass;
+use grouping::programmes::programmes_pass;
+use rules::totals::rule23;
+use rules::totals::rule24;
+use sheet::fields::CHILD_LIST;
+use sheet::fields::COMPLEMENT_LIST;
+use sheet::fields::CONTENT_LABELS;
+use sheet::fields::CONTENT_LIST;
+use sheet::fields::CONTENTS;
+use sheet::fields::OBJECTS;
+use sheet::fields::PROGRAMME_LABELS;
+use sheet::fields::PROGRAMMES;
+use sheet::fields::SET_LIST;
+use sheet::fields::SET_SPAN;
+use sheet::fields::TRACK_LIST;
+use sheet::layout::count;
+use sheet::layout::level;
+use sheet::layout::number;
+use tables::Naming;
+use tables::marks::count_namings;
+use tables::marks::first_namers;
+ghost use Prim.Native.Nat.{_≤_};
+ghost use lib.ListN.{length};
+ghost use mathlib.Core.Bool.{false, true};
+ghost use mathlib.Core.Path.{_≡_};
+ghost use Rattle.profile.specs.Verdict.{verdict};
+ghost use Rattle.profile.specs.Rules.{rule23, rule24};
+ghost use Rattle.profile.specs.declared.Verdict.the-variants.{Accepted};
+ghost use Rattle.screen.specs.Screened.{Noughts};
+ghost use Rattle.sheet.specs.Words.{sheetOf};
+ghost use Rattle.tables.specs.Marks.{Standing};
+ghost use Rattle.tables.specs.Right.{Complemented, Named, Tops};
+
+// How many entries the lists and the span of a record have.
+fn entries(s: &[u8], section: u8, k: u16) -> u32
+    ensures { λ r. ⌜ r ≤ 262140 ⌝ }
+{
+    match section {
+        1 => number(s, PROGRAMMES, k, CONTENT_LIST) as u32
+            + number(s, PROGRAMMES, k, SET_LIST) as u32
+            + number(s, PROGRAMMES, k, PROGRAMME_LABELS) as u32,
+        2 => number(s, CONTENTS, k, CONTENT_LABELS) as u32,
+        _ => number(s, OBJECTS, k, TRACK_LIST) as u32
+            + number(s, OBJECTS, k, CHILD_LIST) as u32
+            + number(s, OBJECTS, k, COMPLEMENT_LIST) as u32
+            + number(s, OBJECTS, k, SET_SPAN) as u32,
+    }
+}
+
+// The lists of a section that have more entries together are left to the search: where many records share long lists, walking them
+// takes too long.
+const MOST_ENTRIES: u32 = 131070;
+
+// Whether a section's lists have few entries together. Nothing rests on this but time.
+fn few_entries(s: &[u8], section: u8) -> bool {
+    let n = count(s, section);
+    let mut left = MOST_ENTRIES;
+    let mut k: u16 = 0;
+    while k < n {
+        let e = entries(s, section, k);
+        if left < e {
+            return false;
+        }
+        left -= e;
+        k += 1;
+    }
+    true
+}
+
+// Whether the whole sheet may break rule 23 or 24, which level 0 can't.
+fn totals_break(s: &[u8], tops: &[u16], complements: &[u16]) -> bool
+    ensures { λ r. ⌜ (r ≡ false → Tops (sheetOf (now (s .entry))) (now (tops .entry)) → Complemented (sheetOf (now (s .entry))) (now (complements .entry)) → (rule23 (sheetOf (now (s .entry))) 0 0 ≡ false) × (rule24 (sheetOf (now (s .entry))) 0 0 ≡ false)) ⌝ }
+{
+    if level(s) == 0 {
+        return false;
+    }
+    rule23(s, tops, complements, 0, 0) | rule24(s, tops, complements, 0, 0)
+}
+
+// Counts how often contents and child lists name each object, in a table of noughts.
+fn count_names(s: &[u8], named: &mut [u16])
+    ensures { λ r. ⌜ (length (now (named .exit)) ≡ length (now (named .entry))) × (Standing (λ x. 0) (now (named .entry)) → Named (sheetOf (now (s .entry))) (now (named .exit))) ⌝ }
+{
+    count_namings(s, Naming::ContentObjects, named);
+    count_namings(s, Naming::Children, named);
+}
+
+// With tables of noughts for what names each object and content, for the sets' objects and the complements' leaders. Those of the first
+// rules serve the programmes as well, once the records are tested.
+fn screened(
+    s: &[u8],
+    named: &mut [u16],
+    spanned: &mut [u16],
+    listed: &mut [u16],
+    tops: &mut [u16],
+    complements: &mut [u16],
+    owners: &mut [u16],
+    leaders: &mut [u16],
+) -> bool
+    ensures { λ r. ⌜ (r ≡ true → Noughts (now (named .entry)) (now (spanned .entry)) (now (listed .entry)) (now (tops .entry)) (now (complements .entry)) (now (owners .entry)) (now (leaders .entry)) → verdict (sheetOf (now (s .entry))) ≡ Accepted) ⌝ }
+{
+    if header_breaks(s) {
+        return false;
+    }
+    if !(few_entries(s, PROGRAMMES) & few_entries(s, CONTENTS) & few_entries(s, OBJECTS)) {
+        return false;
+    }
+    count_names(s, named);
+    count_namings(s, Naming::SetSpans, spanned);
+    count_namings(s, Naming::ContentLists, listed);
+    count_namings(s, Naming::ContentObjects, tops);
+    count_namings(s, Naming::Complements, complements);
+    if !records_pass(s, named, spanned, listed, tops, complements) {
+        return false;
+    }
+    if totals_break(s, tops, complements) {
+        return false;
+    }
+    first_namers(s, Naming::SetSpans, owners);
+    first_namers(s, Naming::Complements, leaders);
+    programmes_pass(s, owners, leaders, named, tops, complements, listed)
+}
+
+// A sheet under 1,024 bytes has at most 30 objects, 99 contents and 70 value sets.
+fn small_passes(s: &[u8]) -> bool
+    ensures { λ r. ⌜ (r ≡ true → verdict (sheetOf (now (s .entry))) ≡ Accepted) ⌝ }
+{
+    let mut named: [u16; 32] = [0; 32];
+    let mut spanned: [u16; 72] = [0; 72];
+    let mut listed: [u16; 104] = [0; 104];
+    let mut tops: [u16; 32] = [0; 32];
+    let mut complements: [u16; 32] = [0; 32];
+    let mut owners: [u16; 72] = [0; 72];
+    let mut leaders: [u16; 32] = [0; 32];
+    screened(
+        s,
+        &mut named,
+        &mut spanned,
+        &mut listed,
+        &mut tops,
+        &mut complements,
+        &mut owners,
+        &mut leaders,
+    )
+}
+
+// One under 16,384 bytes has at most 511 objects, 1,635 contents and 1,168 value sets.
+fn middling_passes(s: &[u8]) -> bool
+    ensures { λ r. ⌜ (r ≡ true → verdict (sheetOf (now (s .entry))) ≡ Accepted) ⌝ }
+{
+    let mut named: [u16; 512] = [0; 512];
+    let mut spanned: [u16; 1168] = [0; 1168];
+    let mut listed: [u16; 1640] = [0; 1640];
+    let mut tops: [u16; 512] = [0; 512];
+    let mut complements: [u16; 512] = [0; 512];
+    let mut owners: [u16; 1168] = [0; 1168];
+    let mut leaders: [u16; 512] = [0; 512];
+    screened(
+        s,
+        &mut named,
+        &mut spanned,
+        &mut listed,
+        &mut tops,
+        &mut complements,
+        &mut owners,
+        &mut leaders,
+    )
+}
+
+// No sheet has more than 2,046 objects, 6,550 contents or 4,678 value sets.
+fn large_passes(s: &[u8]) -> bool
+    ensures { λ r. ⌜ (r ≡ true → verdict (sheetOf (now (s .entry))) ≡ Accepted) ⌝ }
+{
+    let mut named: [u16; 2048] = [0; 2048];
+    let mut spanned: [u16; 4680] = [0; 4680];
+    let mut listed: [u16; 6552] = [0; 6552];
+    let mut tops: [u16; 2048] = [0; 2048];
+    let mut complements: [u16; 2048] = [0; 2048];
+    let mut owners: [u16; 4680] = [0; 4680];
+    let mut leaders: [u16; 2048] = [0; 2048];
+    screened(
+        s,
+        &mut named,
+        &mut spanned,
+        &mut listed,
+        &mut tops,
+        &mut complements,
+        &mut owners,
+        &mut leaders,
+    )
+}
+
+// Whether the sheet can be seen to be accepted.
+pub fn passes(s: &[u8]) -> bool
+    ensures { λ r. ⌜ (r ≡ true → verdict (sheetOf (now (s .entry))) ≡ Accepted) ⌝ }
+{
+    if s.len() < 1024 {
+        return small_passes(s);
+    }
+    if s.len() < 16384 {
+        return middling_passes(s);
+    }
+    large_passes(s)
+}

@@ -1,0 +1,84 @@
+// Programmes and contents: the rules that need no table.
+use crate::lists::any_lacking;
+use crate::lists::any_no_language;
+use crate::lists::any_twice;
+use crate::lists::beyond;
+use profile::limits::LABELS_LIMIT;
+use profile::limits::PROGRAMME_CONTENTS_LIMIT;
+use profile::limits::PROGRAMME_SETS_LIMIT;
+use profile::limits::exceeds;
+use sheet::fields::CONTENTS;
+use sheet::fields::OBJECTS;
+use sheet::fields::PROGRAMMES;
+use sheet::fields::REFERENCES;
+use sheet::fields::VALUE_SETS;
+use sheet::layout::count;
+use sheet::layout::offset;
+use sheet::layout::start;
+use sheet::words::word;
+use values::language::language;
+use values::language::loudness;
+ghost use mathlib.Core.Bool.{false};
+ghost use mathlib.Core.Path.{_≡_};
+ghost use Rattle.screen.specs.Screened.{contentBroken, programmeBroken, programmeListsBroken, speechBroken};
+ghost use Rattle.sheet.specs.Words.{sheetOf};
+
+// A list of so many labels is compared by pairs; a longer one is left to the search.
+const LONGEST: u16 = 48;
+
+// The language, the labels and the loudness of a programme or content.
+fn speech_breaks(s: &[u8], lang: u16, first: u16, n: u16, loud: u16) -> bool
+    ensures { λ r. ⌜ r ≡ speechBroken (sheetOf (now (s .entry))) lang first n loud ⌝ }
+{
+    let base = offset(s, REFERENCES);
+    beyond(count(s, REFERENCES), first, n)
+        | (!language(lang) | any_no_language(s, base, first, n) | !loudness(loud))
+        | exceeds(s, LABELS_LIMIT, n as u64)
+        | any_twice(s, base, first, n)
+}
+
+// Whether a content may break one of rules 4, 5, 6, 8 and 9.
+pub fn content_breaks(s: &[u8], k: u16) -> bool
+    ensures { λ r. ⌜ (r ≡ false → contentBroken (sheetOf (now (s .entry))) k ≡ false) ⌝ }
+{
+    let at = start(s, CONTENTS, k as u32);
+    let n = word(s, at + 3);
+    if LONGEST < n {
+        return true;
+    }
+    speech_breaks(s, word(s, at), word(s, at + 2), n, word(s, at + 4))
+        | (count(s, OBJECTS) <= word(s, at + 1))
+}
+
+// The content list and the set list of a programme.
+fn programme_lists_break(s: &[u8], first: u16, n: u16, from: u16, sets: u16) -> bool
+    ensures { λ r. ⌜ r ≡ programmeListsBroken (sheetOf (now (s .entry))) first n from sets ⌝ }
+{
+    let base = offset(s, REFERENCES);
+    let many = count(s, REFERENCES);
+    beyond(many, first, n)
+        | beyond(many, from, sets)
+        | ((n < 1) | exceeds(s, PROGRAMME_CONTENTS_LIMIT, n as u64))
+        | exceeds(s, PROGRAMME_SETS_LIMIT, sets as u64)
+        | any_lacking(s, base, first, n, count(s, CONTENTS))
+        | any_lacking(s, base, from, sets, count(s, VALUE_SETS))
+}
+
+// Whether a programme may break one of rules 4, 5, 6, 8 and 9.
+pub fn programme_breaks(s: &[u8], k: u16) -> bool
+    ensures { λ r. ⌜ (r ≡ false → programmeBroken (sheetOf (now (s .entry))) k ≡ false) ⌝ }
+{
+    let at = start(s, PROGRAMMES, k as u32);
+    let n = word(s, at + 6);
+    if LONGEST < n {
+        return true;
+    }
+    speech_breaks(s, word(s, at), word(s, at + 5), n, word(s, at + 7))
+        | programme_lists_break(
+            s,
+            word(s, at + 1),
+            word(s, at + 2),
+            word(s, at + 3),
+            word(s, at + 4),
+        )
+}
