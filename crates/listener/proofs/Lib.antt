@@ -1,6 +1,7 @@
 mod ListedLaws
 mod AndLaws
 mod FillLaws
+mod StepLaws
 pub mod StartLaws
 pub mod SoundLaws
 pub mod RunLaws

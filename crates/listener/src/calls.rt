@@ -14,17 +14,21 @@ use crate::sounding::offset_fits;
 use crate::sounding::sound;
 use checker::search::check;
 use profile::Verdict;
-use relations::groups::leader_of;
 use relations::programmes::includes;
 use sheet::fields::PROGRAMMES;
 use sheet::layout::count;
 use sheet::layout::level;
+use tables::Naming;
+use tables::marks::first_namers;
+use tables::reads::leader_by;
 use values::Gain;
 use values::Sort;
 ghost use mathlib.Core.Path.{_≡_};
-ghost use Rattle.listener.specs.Calls.{behind, chosenObject, chosenProgramme, gainSet, groupAnswer, moved, movedSetting, numberAnswer, offsetSet, opened, opens, rangeAnswer, replyBy, withGain, withOffset, withSetting};
+ghost use Rattle.listener.specs.Calls.{behind, chosenObject, chosenProgramme, gainSet, groupAnswer, moved, numberAnswer, offsetSet, opened, opens, rangeAnswer, replyBy, withGain, withOffset, withSetting};
 ghost use Rattle.listener.specs.State.{restingState};
+ghost use Rattle.listener.specs.Steps.{movedFrom};
 ghost use Rattle.sheet.specs.Words.{sheetOf};
+ghost use Rattle.tables.specs.Right.{Leaders};
 
 // Whether the sheet is accepted and not of level 0.
 pub fn opens(s: &[u8]) -> bool
@@ -142,11 +146,10 @@ fn range_answer(s: &[u8], p: u16, o: u16, sort: Sort, fits: bool) -> Answer
 }
 
 // "Choosing an object makes it active and the rest of its group inactive."
-fn moved_setting(s: &[u8], state: State, o: u16, q: u16) -> Setting
-    ensures { λ r. ⌜ r ≡ movedSetting (sheetOf (now (s .entry))) state o q ⌝ }
+fn moved_setting(s: &[u8], leaders: &[u16], o: u16, q: u16, x: Setting) -> Setting
+    ensures { λ r. ⌜ (Leaders (sheetOf (now (s .entry))) (now (leaders .entry)) → r ≡ movedFrom (sheetOf (now (s .entry))) o q x) ⌝ }
 {
-    let x = setting(state, q);
-    if leader_of(s, q) == leader_of(s, o) {
+    if leader_by(s, leaders, q) == leader_by(s, leaders, o) {
         let gain = x.gain;
         Setting {
             active: q == o,
@@ -158,20 +161,29 @@ fn moved_setting(s: &[u8], state: State, o: u16, q: u16) -> Setting
     }
 }
 
-fn moved(s: &[u8], state: State, o: u16) -> State
-    ensures { λ r. ⌜ r ≡ moved (sheetOf (now (s .entry))) state o ⌝ }
+fn moved_by(s: &[u8], state: State, leaders: &[u16], o: u16) -> State
+    ensures { λ r. ⌜ (Leaders (sheetOf (now (s .entry))) (now (leaders .entry)) → r ≡ moved (sheetOf (now (s .entry))) state o) ⌝ }
 {
-    let x = resting();
-    let mut objects = [x; 84];
+    let rest = resting();
+    let mut objects = [rest; 84];
     let mut q: usize = 0;
     while q < 84 {
-        objects[q] = moved_setting(s, state, o, q as u16);
+        let x = state.objects[q];
+        objects[q] = moved_setting(s, leaders, o, q as u16, x);
         q += 1;
     }
     State {
         programme: state.programme,
         objects,
     }
+}
+
+fn moved(s: &[u8], state: State, o: u16) -> State
+    ensures { λ r. ⌜ r ≡ moved (sheetOf (now (s .entry))) state o ⌝ }
+{
+    let mut leaders: [u16; 84] = [0; 84];
+    first_namers(s, Naming::Complements, &mut leaders);
+    moved_by(s, state, &leaders, o)
 }
 
 // The state with another setting for an object.
