@@ -25,10 +25,12 @@ use values::Gain;
 use values::Sort;
 ghost use mathlib.Core.Path.{_≡_};
 ghost use Rattle.listener.specs.Calls.{behind, chosenObject, chosenProgramme, gainSet, groupAnswer, moved, numberAnswer, offsetSet, opened, opens, rangeAnswer, replyBy, withGain, withOffset, withSetting};
+ghost use Rattle.listener.specs.Sound.{gainFits, offsetFits};
 ghost use Rattle.listener.specs.State.{restingState};
 ghost use Rattle.listener.specs.Steps.{movedFrom};
 ghost use Rattle.sheet.specs.Words.{sheetOf};
 ghost use Rattle.tables.specs.Right.{Leaders};
+ghost use Rattle.values.specs.declared.Sort.the-variants.{Gains, Offsets};
 
 // Whether the sheet is accepted and not of level 0.
 pub fn opens(s: &[u8]) -> bool
@@ -145,6 +147,42 @@ fn range_answer(s: &[u8], p: u16, o: u16, sort: Sort, fits: bool) -> Answer
     }
 }
 
+// An object choice: 28 and 29 are asked only behind 25 and 26.
+fn object_answer(s: &[u8], state: State, o: u16) -> Answer
+    ensures { λ r. ⌜ r ≡ behind (sheetOf (now (s .entry))) state (groupAnswer (sheetOf (now (s .entry))) (state .programme) o) ⌝ }
+{
+    let p = state.programme;
+    let first = behind(s, state, Answer::Done);
+    match first {
+        Answer::Done => group_answer(s, p, o),
+        Answer::Refused(refusal) => Answer::Refused(refusal),
+    }
+}
+
+// A gain call: 28, 30 and 31 are asked only behind 25 and 26.
+fn gain_answer(s: &[u8], state: State, o: u16, gain: Gain) -> Answer
+    ensures { λ r. ⌜ r ≡ behind (sheetOf (now (s .entry))) state (rangeAnswer (sheetOf (now (s .entry))) (state .programme) o Gains (gainFits (sheetOf (now (s .entry))) (state .programme) o gain)) ⌝ }
+{
+    let p = state.programme;
+    let first = behind(s, state, Answer::Done);
+    match first {
+        Answer::Done => range_answer(s, p, o, Sort::Gains, gain_fits(s, p, o, gain)),
+        Answer::Refused(refusal) => Answer::Refused(refusal),
+    }
+}
+
+// An offset call: the same.
+fn offset_answer(s: &[u8], state: State, o: u16, offset: i16) -> Answer
+    ensures { λ r. ⌜ r ≡ behind (sheetOf (now (s .entry))) state (rangeAnswer (sheetOf (now (s .entry))) (state .programme) o Offsets (offsetFits (sheetOf (now (s .entry))) (state .programme) o offset)) ⌝ }
+{
+    let p = state.programme;
+    let first = behind(s, state, Answer::Done);
+    match first {
+        Answer::Done => range_answer(s, p, o, Sort::Offsets, offset_fits(s, p, o, offset)),
+        Answer::Refused(refusal) => Answer::Refused(refusal),
+    }
+}
+
 // "Choosing an object makes it active and the rest of its group inactive."
 fn moved_setting(s: &[u8], leaders: &[u16], o: u16, q: u16, x: Setting) -> Setting
     ensures { λ r. ⌜ (Leaders (sheetOf (now (s .entry))) (now (leaders .entry)) → r ≡ movedFrom (sheetOf (now (s .entry))) o q x) ⌝ }
@@ -237,33 +275,42 @@ impl State {
         ensures { λ r. ⌜ r ≡ chosenProgramme (sheetOf (now (s .entry))) self p ⌝ }
     {
         let answer = behind(s, self, number_answer(s, p));
-        reply_by(answer, self, started(s, p))
+        match answer {
+            Answer::Done => Reply {
+                answer: Answer::Done,
+                state: started(s, p),
+            },
+            Answer::Refused(refusal) => reply_by(Answer::Refused(refusal), self, self),
+        }
     }
 
     // Makes an object the active one of its group.
     pub fn choose_object(self, s: &[u8], o: u16) -> Reply
         ensures { λ r. ⌜ r ≡ chosenObject (sheetOf (now (s .entry))) self o ⌝ }
     {
-        let p = self.programme;
-        let answer = behind(s, self, group_answer(s, p, o));
-        reply_by(answer, self, moved(s, self, o))
+        let answer = object_answer(s, self, o);
+        match answer {
+            Answer::Done => Reply {
+                answer: Answer::Done,
+                state: moved(s, self, o),
+            },
+            Answer::Refused(refusal) => reply_by(Answer::Refused(refusal), self, self),
+        }
     }
 
     // Stores a gain in an object, active or not.
     pub fn set_gain(self, s: &[u8], o: u16, gain: Gain) -> Reply
         ensures { λ r. ⌜ r ≡ gainSet (sheetOf (now (s .entry))) self o gain ⌝ }
     {
-        let p = self.programme;
-        let rest = range_answer(s, p, o, Sort::Gains, gain_fits(s, p, o, gain));
-        reply_by(behind(s, self, rest), self, with_gain(self, o, gain))
+        let answer = gain_answer(s, self, o, gain);
+        reply_by(answer, self, with_gain(self, o, gain))
     }
 
     // Stores an offset in an object, active or not.
     pub fn set_offset(self, s: &[u8], o: u16, offset: i16) -> Reply
         ensures { λ r. ⌜ r ≡ offsetSet (sheetOf (now (s .entry))) self o offset ⌝ }
     {
-        let p = self.programme;
-        let rest = range_answer(s, p, o, Sort::Offsets, offset_fits(s, p, o, offset));
-        reply_by(behind(s, self, rest), self, with_offset(self, o, offset))
+        let answer = offset_answer(s, self, o, offset);
+        reply_by(answer, self, with_offset(self, o, offset))
     }
 }
