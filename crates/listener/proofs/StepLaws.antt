@@ -79,6 +79,10 @@ pub element-setting : (st : State) (o : ℕ) → o < stateObjects → getD (st .
 unfolding setting
 element-setting st o l = rw (lt-ltb o stateObjects l) refl
 
+pub element-active : (st : State) (o : ℕ) → o < stateObjects → getD (st .objects) o blank .active ≡ active st o
+unfolding active
+element-active st o l = ap (λ (x : Setting). x .active) (element-setting st o l)
+
 module _ (s : Sheet) (st : State) where
   abbrev activeFlags : List ℕ
   activeFlags = tabulate (λ o. cond (active st o) 1 0) stateObjects
