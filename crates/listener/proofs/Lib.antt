@@ -1,6 +1,8 @@
 mod ListedLaws
 mod AndLaws
 mod FillLaws
+mod StepLaws
+mod BehindLaws
 pub mod StartLaws
 pub mod SoundLaws
 pub mod RunLaws

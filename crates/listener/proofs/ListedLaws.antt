@@ -17,12 +17,12 @@ use Rattle.listener.specs.declared.State.{State}
 use Rattle.listener.specs.declared.Answer.{Answer}
 use Rattle.listener.specs.declared.Answer.the-variants.{Done, Refused}
 use Rattle.listener.specs.declared.Refusal.{Refusal}
-use Rattle.listener.specs.declared.Refusal.the-variants.{NotAccepted, Unsound, TooFewWords}
+use Rattle.listener.specs.declared.Refusal.the-variants.{TooFewWords}
 use Rattle.listener.specs.State.{stateObjects, active}
-use Rattle.listener.specs.Sound.{sound}
-use Rattle.listener.specs.Calls.{opens, answerBy, notOpen, notSound, behind}
+use Rattle.listener.specs.Calls.{answerBy, notOpen, notSound, behind}
 use Rattle.listener.specs.Listing.{Entry, ownEntries, objectEntries, entries, listedTracks, tooFewWords, listingAnswer, listedBy, listed, bufferedBy, buffered}
 use Rattle.listener.specs.Written.{ownTracks, childTracks, objectTracks, tracksWhen, stateTracks, objectNumber, numberWhen, stateNumber}
+use Rattle.listener.proofs.BehindLaws.{behind-done, behind-refused}
 
 abbrev track : Entry → ℕ
 track e = e .track
@@ -86,34 +86,35 @@ entries-number s st = sym (length-map (entries s st) track) ∙ ap length (liste
 
 -- the answer in the steps of the code
 module _ (s : Sheet) (st : State) (words : ℕ) where
-  few-words : ltb words (length (entries s st)) ≡ true → listingAnswer s st words ≡ behind s st (Refused TooFewWords)
+  listing-steps : listingAnswer s st words ≡ behind s st (cond (ltb words (length (entries s st))) (Refused TooFewWords) Done)
   unfolding listingAnswer answerBy notOpen notSound tooFewWords behind
-  few-words e = rw e
+  listing-steps = refl
 
   enough-words : ltb words (length (entries s st)) ≡ false → listingAnswer s st words ≡ behind s st Done
   unfolding listingAnswer answerBy notOpen notSound tooFewWords behind
   enough-words e = rw e
 
--- what is refused by 25, 26 or another number stays refused
-refused-still : (s : Sheet) (st : State) (r : Refusal) (P : Answer → Type 0) → ((q : Refusal) → P (Refused q)) → P (behind s st (Refused r))
-unfolding behind
-refused-still s st r P h =
-    (elim (opens s) as (λ b. opens s ≡ b → P (behind s st (Refused r))) [
-      | true ↦ λ e. (elim (sound s st) as (λ b. sound s st ≡ b → P (behind s st (Refused r))) [
-        | true ↦ λ f. rw (e, f) (h r)
-        | false ↦ λ f. rw (e, f) (h Unsound)
-      ]) refl
-      | false ↦ λ e. rw e (h NotAccepted)
-    ]) refl
+-- a refused listing
+refused-listed : (s : Sheet) (st : State) (buffer : List ℕ) (r : Refusal) → listingAnswer s st (length buffer) ≡ Refused r
+    → (listedBy 0 (Refused r) ≡ listed s st (length buffer)) × (buffer ≡ buffered s st buffer)
+unfolding listed buffered listedBy bufferedBy
+refused-listed s st buffer r e = (rw e, rw e)
+
+-- by 25 or 26
+pub stop-listed : (s : Sheet) (st : State) (buffer : List ℕ) (r : Refusal) → behind s st Done ≡ Refused r
+    → (listedBy 0 (Refused r) ≡ listed s st (length buffer)) × (buffer ≡ buffered s st buffer)
+stop-listed s st buffer r e =
+    refused-listed s st buffer r
+    (listing-steps s st (length buffer) ∙ behind-refused s st (cond (ltb (length buffer) (length (entries s st))) (Refused TooFewWords) Done) r e)
 
 -- too few words
-pub few-listed : (s : Sheet) (st : State) (buffer : List ℕ) → ltb (length buffer) (length (entries s st)) ≡ true
-    → (_≡_ (record { answer = behind s st (Refused TooFewWords); entries = 0 }) (listed s st (length buffer))) × (buffer ≡ buffered s st buffer)
-unfolding listed buffered listedBy bufferedBy
-few-listed s st buffer e = (
-  rw (few-words s st (length buffer) e) (refused-still s st TooFewWords (λ x. record { answer = x; entries = 0 } ≡ listedBy (length (entries s st)) x) (λ q. refl)),
-  rw (few-words s st (length buffer) e) (refused-still s st TooFewWords (λ x. buffer ≡ bufferedBy buffer (listedTracks s st) x) (λ q. refl)),
-)
+pub few-listed : (s : Sheet) (st : State) (buffer : List ℕ) → behind s st Done ≡ Done → ltb (length buffer) (length (entries s st)) ≡ true
+    → (listedBy 0 (Refused TooFewWords) ≡ listed s st (length buffer)) × (buffer ≡ buffered s st buffer)
+few-listed s st buffer e f =
+    refused-listed s st buffer TooFewWords
+    (listing-steps s st (length buffer)
+    ∙ behind-done s st (cond (ltb (length buffer) (length (entries s st))) (Refused TooFewWords) Done) e
+    ∙ ap (λ (b : Bool). cond b (Refused TooFewWords) Done) f)
 
 -- enough words, and the answer
 pub answer-listed : (s : Sheet) (st : State) (buffer : List ℕ) (x : Answer) → ltb (length buffer) (length (entries s st)) ≡ false → behind s st Done ≡ x

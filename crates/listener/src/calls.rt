@@ -14,17 +14,23 @@ use crate::sounding::offset_fits;
 use crate::sounding::sound;
 use checker::search::check;
 use profile::Verdict;
-use relations::groups::leader_of;
 use relations::programmes::includes;
 use sheet::fields::PROGRAMMES;
 use sheet::layout::count;
 use sheet::layout::level;
+use tables::Naming;
+use tables::marks::first_namers;
+use tables::reads::leader_by;
 use values::Gain;
 use values::Sort;
 ghost use mathlib.Core.Path.{_≡_};
-ghost use Rattle.listener.specs.Calls.{behind, chosenObject, chosenProgramme, gainSet, groupAnswer, moved, movedSetting, numberAnswer, offsetSet, opened, opens, rangeAnswer, replyBy, withGain, withOffset, withSetting};
+ghost use Rattle.listener.specs.Calls.{behind, chosenObject, chosenProgramme, gainSet, groupAnswer, moved, numberAnswer, offsetSet, opened, opens, rangeAnswer, replyBy, withGain, withOffset, withSetting};
+ghost use Rattle.listener.specs.Sound.{gainFits, offsetFits};
 ghost use Rattle.listener.specs.State.{restingState};
+ghost use Rattle.listener.specs.Steps.{movedFrom};
 ghost use Rattle.sheet.specs.Words.{sheetOf};
+ghost use Rattle.tables.specs.Right.{Leaders};
+ghost use Rattle.values.specs.declared.Sort.the-variants.{Gains, Offsets};
 
 // Whether the sheet is accepted and not of level 0.
 pub fn opens(s: &[u8]) -> bool
@@ -141,12 +147,47 @@ fn range_answer(s: &[u8], p: u16, o: u16, sort: Sort, fits: bool) -> Answer
     }
 }
 
-// "Choosing an object makes it active and the rest of its group inactive."
-fn moved_setting(s: &[u8], state: State, o: u16, q: u16) -> Setting
-    ensures { λ r. ⌜ r ≡ movedSetting (sheetOf (now (s .entry))) state o q ⌝ }
+// An object choice: 28 and 29 are asked only behind 25 and 26.
+fn object_answer(s: &[u8], state: State, o: u16) -> Answer
+    ensures { λ r. ⌜ r ≡ behind (sheetOf (now (s .entry))) state (groupAnswer (sheetOf (now (s .entry))) (state .programme) o) ⌝ }
 {
-    let x = setting(state, q);
-    if leader_of(s, q) == leader_of(s, o) {
+    let p = state.programme;
+    let first = behind(s, state, Answer::Done);
+    match first {
+        Answer::Done => group_answer(s, p, o),
+        Answer::Refused(refusal) => Answer::Refused(refusal),
+    }
+}
+
+// A gain call: 28, 30 and 31 are asked only behind 25 and 26.
+fn gain_answer(s: &[u8], state: State, o: u16, gain: Gain) -> Answer
+    ensures { λ r. ⌜ r ≡ behind (sheetOf (now (s .entry))) state (rangeAnswer (sheetOf (now (s .entry))) (state .programme) o Gains (gainFits (sheetOf (now (s .entry))) (state .programme) o gain)) ⌝ }
+{
+    let p = state.programme;
+    let first = behind(s, state, Answer::Done);
+    match first {
+        Answer::Done => range_answer(s, p, o, Sort::Gains, gain_fits(s, p, o, gain)),
+        Answer::Refused(refusal) => Answer::Refused(refusal),
+    }
+}
+
+// An offset call: the same.
+fn offset_answer(s: &[u8], state: State, o: u16, offset: i16) -> Answer
+    ensures { λ r. ⌜ r ≡ behind (sheetOf (now (s .entry))) state (rangeAnswer (sheetOf (now (s .entry))) (state .programme) o Offsets (offsetFits (sheetOf (now (s .entry))) (state .programme) o offset)) ⌝ }
+{
+    let p = state.programme;
+    let first = behind(s, state, Answer::Done);
+    match first {
+        Answer::Done => range_answer(s, p, o, Sort::Offsets, offset_fits(s, p, o, offset)),
+        Answer::Refused(refusal) => Answer::Refused(refusal),
+    }
+}
+
+// "Choosing an object makes it active and the rest of its group inactive."
+fn moved_setting(s: &[u8], leaders: &[u16], o: u16, q: u16, x: Setting) -> Setting
+    ensures { λ r. ⌜ (Leaders (sheetOf (now (s .entry))) (now (leaders .entry)) → r ≡ movedFrom (sheetOf (now (s .entry))) o q x) ⌝ }
+{
+    if leader_by(s, leaders, q) == leader_by(s, leaders, o) {
         let gain = x.gain;
         Setting {
             active: q == o,
@@ -158,20 +199,29 @@ fn moved_setting(s: &[u8], state: State, o: u16, q: u16) -> Setting
     }
 }
 
-fn moved(s: &[u8], state: State, o: u16) -> State
-    ensures { λ r. ⌜ r ≡ moved (sheetOf (now (s .entry))) state o ⌝ }
+fn moved_by(s: &[u8], state: State, leaders: &[u16], o: u16) -> State
+    ensures { λ r. ⌜ (Leaders (sheetOf (now (s .entry))) (now (leaders .entry)) → r ≡ moved (sheetOf (now (s .entry))) state o) ⌝ }
 {
-    let x = resting();
-    let mut objects = [x; 84];
+    let rest = resting();
+    let mut objects = [rest; 84];
     let mut q: usize = 0;
     while q < 84 {
-        objects[q] = moved_setting(s, state, o, q as u16);
+        let x = state.objects[q];
+        objects[q] = moved_setting(s, leaders, o, q as u16, x);
         q += 1;
     }
     State {
         programme: state.programme,
         objects,
     }
+}
+
+fn moved(s: &[u8], state: State, o: u16) -> State
+    ensures { λ r. ⌜ r ≡ moved (sheetOf (now (s .entry))) state o ⌝ }
+{
+    let mut leaders: [u16; 84] = [0; 84];
+    first_namers(s, Naming::Complements, &mut leaders);
+    moved_by(s, state, &leaders, o)
 }
 
 // The state with another setting for an object.
@@ -225,33 +275,42 @@ impl State {
         ensures { λ r. ⌜ r ≡ chosenProgramme (sheetOf (now (s .entry))) self p ⌝ }
     {
         let answer = behind(s, self, number_answer(s, p));
-        reply_by(answer, self, started(s, p))
+        match answer {
+            Answer::Done => Reply {
+                answer: Answer::Done,
+                state: started(s, p),
+            },
+            Answer::Refused(refusal) => reply_by(Answer::Refused(refusal), self, self),
+        }
     }
 
     // Makes an object the active one of its group.
     pub fn choose_object(self, s: &[u8], o: u16) -> Reply
         ensures { λ r. ⌜ r ≡ chosenObject (sheetOf (now (s .entry))) self o ⌝ }
     {
-        let p = self.programme;
-        let answer = behind(s, self, group_answer(s, p, o));
-        reply_by(answer, self, moved(s, self, o))
+        let answer = object_answer(s, self, o);
+        match answer {
+            Answer::Done => Reply {
+                answer: Answer::Done,
+                state: moved(s, self, o),
+            },
+            Answer::Refused(refusal) => reply_by(Answer::Refused(refusal), self, self),
+        }
     }
 
     // Stores a gain in an object, active or not.
     pub fn set_gain(self, s: &[u8], o: u16, gain: Gain) -> Reply
         ensures { λ r. ⌜ r ≡ gainSet (sheetOf (now (s .entry))) self o gain ⌝ }
     {
-        let p = self.programme;
-        let rest = range_answer(s, p, o, Sort::Gains, gain_fits(s, p, o, gain));
-        reply_by(behind(s, self, rest), self, with_gain(self, o, gain))
+        let answer = gain_answer(s, self, o, gain);
+        reply_by(answer, self, with_gain(self, o, gain))
     }
 
     // Stores an offset in an object, active or not.
     pub fn set_offset(self, s: &[u8], o: u16, offset: i16) -> Reply
         ensures { λ r. ⌜ r ≡ offsetSet (sheetOf (now (s .entry))) self o offset ⌝ }
     {
-        let p = self.programme;
-        let rest = range_answer(s, p, o, Sort::Offsets, offset_fits(s, p, o, offset));
-        reply_by(behind(s, self, rest), self, with_offset(self, o, offset))
+        let answer = offset_answer(s, self, o, offset);
+        reply_by(answer, self, with_offset(self, o, offset))
     }
 }

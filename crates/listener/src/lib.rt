@@ -3,6 +3,7 @@
 use values::Gain;
 
 pub mod calls;
+pub mod included;
 pub mod programme;
 pub mod settings;
 pub mod sounding;

@@ -1,13 +1,12 @@
 // What a programme gives its objects.
 use crate::Setting;
 use crate::State;
+use crate::included::in_whole_group_by;
 use crate::settings::resting;
 use relations::groups::leader_of;
 use relations::groups::wholly_included;
 use relations::objects::leader;
-use relations::programmes::includes;
-use relations::programmes::names_set;
-use relations::programmes::set_for;
+use relations::programmes::named_set;
 use relations::sets::effective_maximum;
 use relations::sets::effective_minimum;
 use relations::sets::effective_value;
@@ -15,21 +14,53 @@ use relations::sets::object_maximum;
 use relations::sets::object_minimum;
 use relations::sets::own_value;
 use sheet::fields::OBJECTS;
+use sheet::fields::PROGRAMMES;
+use sheet::fields::SET_LIST;
+use sheet::fields::SET_SPAN;
 use sheet::layout::field;
+use sheet::layout::number;
+use sheet::layout::reference;
+use tables::Naming;
+use tables::marks::first_namers;
+use tables::marks::mark_included;
+use tables::reads::included_by;
 use values::Sort;
 use values::gains::gain_of;
 use values::signed::signed;
 use values::values::is_absent;
 ghost use mathlib.Core.Path.{_≡_};
 ghost use Rattle.listener.specs.Programme.{grantedMaximum, grantedMinimum, grants, inWholeGroup, startSetting, startValue, started, startsActive};
+ghost use Rattle.listener.specs.Steps.{setPlace};
 ghost use Rattle.sheet.specs.Words.{sheetOf};
+ghost use Rattle.tables.specs.Right.{Included, Leaders};
+
+// Where the programme's set list has the first set of the object, the list's length where it has none.
+fn set_place(s: &[u8], p: u16, o: u16) -> u16
+    ensures { λ r. ⌜ r ≡ setPlace (sheetOf (now (s .entry))) p o ⌝ }
+{
+    let from = field(s, OBJECTS, o, SET_SPAN);
+    let many = number(s, OBJECTS, o, SET_SPAN);
+    let to = from as u32 + many as u32;
+    let list = field(s, PROGRAMMES, p, SET_LIST);
+    let n = number(s, PROGRAMMES, p, SET_LIST);
+    let mut i: u16 = 0;
+    while i < n {
+        let v = reference(s, list as u32 + i as u32);
+        if (from <= v) & ((v as u32) < to) {
+            return i;
+        }
+        i += 1;
+    }
+    n
+}
 
 // "included objects take the effective gain and offset of the set that the programme names, or their own, or 0"
 pub fn start_value(s: &[u8], p: u16, o: u16, sort: Sort) -> u16
     ensures { λ r. ⌜ r ≡ startValue (sheetOf (now (s .entry))) p o sort ⌝ }
 {
-    if names_set(s, p, o) {
-        effective_value(s, o, set_for(s, p, o), sort)
+    let i = set_place(s, p, o);
+    if i < number(s, PROGRAMMES, p, SET_LIST) {
+        effective_value(s, o, named_set(s, p, i), sort)
     } else {
         own_value(s, o, sort)
     }
@@ -39,8 +70,9 @@ pub fn start_value(s: &[u8], p: u16, o: u16, sort: Sort) -> u16
 pub fn granted_minimum(s: &[u8], p: u16, o: u16, sort: Sort) -> u16
     ensures { λ r. ⌜ r ≡ grantedMinimum (sheetOf (now (s .entry))) p o sort ⌝ }
 {
-    if names_set(s, p, o) {
-        effective_minimum(s, o, set_for(s, p, o), sort)
+    let i = set_place(s, p, o);
+    if i < number(s, PROGRAMMES, p, SET_LIST) {
+        effective_minimum(s, o, named_set(s, p, i), sort)
     } else {
         field(s, OBJECTS, o, object_minimum(sort))
     }
@@ -49,8 +81,9 @@ pub fn granted_minimum(s: &[u8], p: u16, o: u16, sort: Sort) -> u16
 pub fn granted_maximum(s: &[u8], p: u16, o: u16, sort: Sort) -> u16
     ensures { λ r. ⌜ r ≡ grantedMaximum (sheetOf (now (s .entry))) p o sort ⌝ }
 {
-    if names_set(s, p, o) {
-        effective_maximum(s, o, set_for(s, p, o), sort)
+    let i = set_place(s, p, o);
+    if i < number(s, PROGRAMMES, p, SET_LIST) {
+        effective_maximum(s, o, named_set(s, p, i), sort)
     } else {
         field(s, OBJECTS, o, object_maximum(sort))
     }
@@ -72,19 +105,19 @@ pub fn in_whole_group(s: &[u8], p: u16, o: u16) -> bool
 }
 
 // "Active are included objects, but of a wholly included group the leader only."
-fn starts_active(s: &[u8], p: u16, o: u16) -> bool
-    ensures { λ r. ⌜ r ≡ startsActive (sheetOf (now (s .entry))) p o ⌝ }
+fn starts_active(s: &[u8], p: u16, leaders: &[u16], marks: &[u16], o: u16) -> bool
+    ensures { λ r. ⌜ (Leaders (sheetOf (now (s .entry))) (now (leaders .entry)) → Included (sheetOf (now (s .entry))) p (now (marks .entry)) → r ≡ startsActive (sheetOf (now (s .entry))) p o) ⌝ }
 {
-    !in_whole_group(s, p, o) | leader(s, o)
+    !in_whole_group_by(s, p, leaders, marks, o) | leader(s, o)
 }
 
 // What choosing a programme gives an object.
-fn start_setting(s: &[u8], p: u16, o: u16) -> Setting
-    ensures { λ r. ⌜ r ≡ startSetting (sheetOf (now (s .entry))) p o ⌝ }
+fn start_setting(s: &[u8], p: u16, leaders: &[u16], marks: &[u16], o: u16) -> Setting
+    ensures { λ r. ⌜ (Leaders (sheetOf (now (s .entry))) (now (leaders .entry)) → Included (sheetOf (now (s .entry))) p (now (marks .entry)) → r ≡ startSetting (sheetOf (now (s .entry))) p o) ⌝ }
 {
-    if includes(s, p, o) {
+    if included_by(s, p, marks, o) {
         Setting {
-            active: starts_active(s, p, o),
+            active: starts_active(s, p, leaders, marks, o),
             gain: gain_of(start_value(s, p, o, Sort::Gains)),
             offset: signed(start_value(s, p, o, Sort::Offsets)),
         }
@@ -93,19 +126,30 @@ fn start_setting(s: &[u8], p: u16, o: u16) -> Setting
     }
 }
 
-// A programme as it starts.
-pub fn started(s: &[u8], p: u16) -> State
-    ensures { λ r. ⌜ r ≡ started (sheetOf (now (s .entry))) p ⌝ }
+// The settings of a programme as it starts.
+fn start_settings(s: &[u8], p: u16, leaders: &[u16], marks: &[u16]) -> State
+    ensures { λ r. ⌜ (Leaders (sheetOf (now (s .entry))) (now (leaders .entry)) → Included (sheetOf (now (s .entry))) p (now (marks .entry)) → r ≡ started (sheetOf (now (s .entry))) p) ⌝ }
 {
     let x = resting();
     let mut objects = [x; 84];
     let mut o: usize = 0;
     while o < 84 {
-        objects[o] = start_setting(s, p, o as u16);
+        objects[o] = start_setting(s, p, leaders, marks, o as u16);
         o += 1;
     }
     State {
         programme: p,
         objects,
     }
+}
+
+// A programme as it starts.
+pub fn started(s: &[u8], p: u16) -> State
+    ensures { λ r. ⌜ r ≡ started (sheetOf (now (s .entry))) p ⌝ }
+{
+    let mut leaders: [u16; 84] = [0; 84];
+    first_namers(s, Naming::Complements, &mut leaders);
+    let mut marks: [u16; 84] = [0; 84];
+    mark_included(s, p, &mut marks);
+    start_settings(s, p, &leaders, &marks)
 }

@@ -6,7 +6,6 @@ use crate::State;
 use crate::calls::behind;
 use crate::calls::opens;
 use crate::programme::started;
-use crate::settings::active;
 use relations::sizes::children_tracks;
 use sheet::fields::CHILD_LIST;
 use sheet::fields::OBJECTS;
@@ -18,11 +17,13 @@ use sheet::layout::number;
 ghost use Prim.Native.Nat.{_+_, _≤_};
 ghost use lib.ListN.{length};
 ghost use lib.Seq.{sets};
+ghost use mathlib.Core.Bool.{cond};
+ghost use mathlib.Core.List.{[]};
 ghost use mathlib.Core.Path.{_≡_};
 ghost use Rattle.listener.specs.Listing.{buffered, listed, listedBy};
 ghost use Rattle.listener.specs.StartListing.{startBuffered, startListed};
 ghost use Rattle.listener.specs.declared.Answer.the-variants.{Refused};
-ghost use Rattle.listener.specs.Written.{childTracks, numberWhen, objectNumber, objectTracks, ownTracks, stateNumber, stateTracks, tracksWhen};
+ghost use Rattle.listener.specs.Written.{childTracks, objectNumber, objectTracks, ownTracks, stateNumber, stateTracks};
 ghost use Rattle.sheet.specs.Words.{sheetOf};
 
 // How many entries an object gives.
@@ -33,14 +34,10 @@ fn object_number(s: &[u8], o: u16) -> u64
 }
 
 // How many it gives if it is active.
-fn number_when(s: &[u8], state: State, o: u16) -> u64
-    ensures { λ r. ⌜ (r ≡ numberWhen (sheetOf (now (s .entry))) state o) × (r ≤ 4295032830) ⌝ }
+fn number_when(s: &[u8], active: bool, o: u16) -> u64
+    ensures { λ r. ⌜ (r ≡ cond active (objectNumber (sheetOf (now (s .entry))) o) 0) × (r ≤ 4295032830) ⌝ }
 {
-    if active(state, o) {
-        object_number(s, o)
-    } else {
-        0
-    }
+    if active { object_number(s, o) } else { 0 }
 }
 
 // How many entries the listing has.
@@ -50,7 +47,8 @@ fn state_number(s: &[u8], state: State) -> u64
     let mut total: u64 = 0;
     let mut o: u16 = 0;
     while o < 84 {
-        total += number_when(s, state, o);
+        let x = state.objects[o as usize];
+        total += number_when(s, x.active, o);
         o += 1;
     }
     total
@@ -97,11 +95,11 @@ fn write_object(s: &[u8], o: u16, buffer: &mut [u16], at: usize) -> usize
 }
 
 // Writes them if the object is active.
-fn write_when(s: &[u8], state: State, o: u16, buffer: &mut [u16], at: usize) -> usize
-    requires { ⌜ at + length (tracksWhen (sheetOf (now s)) state o) ≤ length (now buffer) ⌝ }
-    ensures { λ r. ⌜ (r ≡ at + length (tracksWhen (sheetOf (now (s .entry))) state o)) × (now (buffer .exit) ≡ sets (now (buffer .entry)) at (tracksWhen (sheetOf (now (s .entry))) state o)) ⌝ }
+fn write_when(s: &[u8], active: bool, o: u16, buffer: &mut [u16], at: usize) -> usize
+    requires { ⌜ at + length (cond active (objectTracks (sheetOf (now s)) o) []) ≤ length (now buffer) ⌝ }
+    ensures { λ r. ⌜ (r ≡ at + length (cond active (objectTracks (sheetOf (now (s .entry))) o) [])) × (now (buffer .exit) ≡ sets (now (buffer .entry)) at (cond active (objectTracks (sheetOf (now (s .entry))) o) [])) ⌝ }
 {
-    if active(state, o) {
+    if active {
         write_object(s, o, buffer, at)
     } else {
         at
@@ -116,7 +114,8 @@ fn write_state(s: &[u8], state: State, buffer: &mut [u16]) -> usize
     let mut pos: usize = 0;
     let mut o: u16 = 0;
     while o < 84 {
-        pos = write_when(s, state, o, buffer, pos);
+        let x = state.objects[o as usize];
+        pos = write_when(s, x.active, o, buffer, pos);
         o += 1;
     }
     pos
@@ -127,28 +126,21 @@ impl State {
     pub fn list(self, s: &[u8], buffer: &mut [u16]) -> Listing
         ensures { λ r. ⌜ (r ≡ listed (sheetOf (now (s .entry))) self (length (now (buffer .entry)))) × (now (buffer .exit) ≡ buffered (sheetOf (now (s .entry))) self (now (buffer .entry))) ⌝ }
     {
-        let n = state_number(s, self);
-        let words = buffer.len() as u64;
-        if words < n {
-            let refused = behind(s, self, Answer::Refused(Refusal::TooFewWords));
-            return Listing {
-                answer: refused,
-                entries: 0,
-            };
-        }
-        let answer = behind(s, self, Answer::Done);
-        match answer {
+        let first = behind(s, self, Answer::Done);
+        match first {
             Answer::Done => {
+                let n = state_number(s, self);
+                let words = buffer.len() as u64;
+                if words < n {
+                    return refused(Refusal::TooFewWords);
+                }
                 write_state(s, self, buffer);
                 Listing {
                     answer: Answer::Done,
                     entries: n,
                 }
             }
-            Answer::Refused(refusal) => Listing {
-                answer: Answer::Refused(refusal),
-                entries: 0,
-            },
+            Answer::Refused(refusal) => refused(refusal),
         }
     }
 }

@@ -1,26 +1,45 @@
 -- The machine's reply, with its refusals up to 29. Assumes nothing.
-use Rattle.listener.specs.Calls.{chosenObject, objectAnswer, notInGroup, groupAnswer, answerBy, notOpen, notSound, notIncluded, behind}
+use mathlib.Core.Path.{_≡_, refl, sym, ap, _∙_}
+use Rattle.sheet.specs.Words.{sheetOf}
+use Rattle.listener.specs.declared.Refusal.{Refusal}
+use Rattle.listener.specs.declared.Answer.the-variants.{Done, Refused}
+use Rattle.listener.specs.Calls.{replyBy, behind}
+use Rattle.listener.proofs.BehindLaws.{object-reply}
 use borrow.Author.Needs.{needs}
 use Rattle.listener.proofs.State.choose_object.Statement.{statement}
 use Rattle.listener.proofs.State.choose_object.Tie as tie
 
-group-answer-requires : tie.Need-group-answer-requires
-group-answer-requires c κs = search needs
+object-answer-requires : tie.Need-object-answer-requires
+object-answer-requires c κs = search needs
 
-behind-requires : tie.Need-behind-requires
-behind-requires c κs = search needs
+enum-told : tie.Need-enum-told
+enum-told c = search needs
 
 moved-requires : tie.Need-moved-requires
 moved-requires c κs = search needs
+
+enum-known-answer : tie.Need-enum-known-answer
+enum-known-answer c = search needs
 
 reply-by-requires : tie.Need-reply-by-requires
 reply-by-requires c κs = search needs
 
 returns : tie.Need-returns
-unfolding chosenObject objectAnswer notInGroup groupAnswer answerBy notOpen notSound notIncluded behind
-returns c = simp (c .reply-by .ensures, c .before .moved .ensures, c .before .before .behind .ensures, c .before .before .before .group-answer .ensures)
+unfolding replyBy
+returns c = rw (c .moved .ensures) (sym (object-reply (sheetOf (c .before .before .before .before .before .args .s .now)) (c .before .before .before .before .before .args .self) (c .before .before .before .before .before .args .o) Done (sym (c .before .before .before .object-answer .ensures) ∙ c .before .enum-told .given .1)))
+
+returns-2 : tie.Need-returns-2
+unfolding replyBy
+returns-2 c = let r : Refusal = c .before .before .answer .given .0 .0 in c .reply-by .ensures ∙ sym (object-reply (sheetOf (c .before .before .before .before .before .before .args .s .now)) (c .before .before .before .before .before .before .args .self) (c .before .before .before .before .before .before .args .o) (Refused r) (sym (c .before .before .before .before .object-answer .ensures) ∙ c .before .before .answer .given .1))
 
 pub choose-object-spec : {M : Type 1} → statement M
 choose-object-spec =
     tie.close
-    (tie.spec group-answer-requires behind-requires moved-requires reply-by-requires returns)
+    (tie.spec
+    object-answer-requires
+    enum-told
+    moved-requires
+    enum-known-answer
+    reply-by-requires
+    returns
+    returns-2)

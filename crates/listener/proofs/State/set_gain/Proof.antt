@@ -4,14 +4,8 @@ use borrow.Author.Needs.{needs}
 use Rattle.listener.proofs.State.set_gain.Statement.{statement}
 use Rattle.listener.proofs.State.set_gain.Tie as tie
 
-gain-fits-requires : tie.Need-gain-fits-requires
-gain-fits-requires c κs = search needs
-
-range-answer-requires : tie.Need-range-answer-requires
-range-answer-requires c κs = search needs
-
-behind-requires : tie.Need-behind-requires
-behind-requires c κs = search needs
+gain-answer-requires : tie.Need-gain-answer-requires
+gain-answer-requires c κs = search needs
 
 with-gain-requires : tie.Need-with-gain-requires
 with-gain-requires c κs = search needs
@@ -21,15 +15,8 @@ reply-by-requires c κs = search needs
 
 returns : tie.Need-returns
 unfolding gainSet valueAnswer noRange outsideRange rangeAnswer answerBy notOpen notSound notIncluded behind
-returns c = simp (c .reply-by .ensures, c .before .with-gain .ensures, c .before .before .behind .ensures, c .before .before .before .range-answer .ensures, c .before .before .before .before .gain-fits .ensures)
+returns c = simp (c .reply-by .ensures, c .before .with-gain .ensures, c .before .before .gain-answer .ensures)
 
 pub set-gain-spec : {M : Type 1} → statement M
 set-gain-spec =
-    tie.close
-    (tie.spec
-    gain-fits-requires
-    range-answer-requires
-    behind-requires
-    with-gain-requires
-    reply-by-requires
-    returns)
+    tie.close (tie.spec gain-answer-requires with-gain-requires reply-by-requires returns)

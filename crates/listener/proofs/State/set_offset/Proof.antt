@@ -7,14 +7,8 @@ use borrow.Author.Needs.{needs}
 use Rattle.listener.proofs.State.set_offset.Statement.{statement}
 use Rattle.listener.proofs.State.set_offset.Tie as tie
 
-offset-fits-requires : tie.Need-offset-fits-requires
-offset-fits-requires c κs = search needs
-
-range-answer-requires : tie.Need-range-answer-requires
-range-answer-requires c κs = search needs
-
-behind-requires : tie.Need-behind-requires
-behind-requires c κs = search needs
+offset-answer-requires : tie.Need-offset-answer-requires
+offset-answer-requires c κs = search needs
 
 with-offset-requires : tie.Need-with-offset-requires
 with-offset-requires c κs = search needs
@@ -24,17 +18,8 @@ reply-by-requires c κs = search needs
 
 returns : tie.Need-returns
 unfolding offsetSet valueAnswer noRange outsideRange rangeAnswer answerBy notOpen notSound notIncluded behind
-returns c =
-    let p : toZ w16 (ofZ w16 (c .before .before .before .before .before .before .args .offset)) ≡ c .before .before .before .before .before .before .args .offset = search needs in
-    simp (p, c .reply-by .ensures, c .before .with-offset .ensures, c .before .before .behind .ensures, c .before .before .before .range-answer .ensures, c .before .before .before .before .offset-fits .ensures)
+returns c = let p : toZ w16 (ofZ w16 (c .before .before .before .before .args .offset)) ≡ c .before .before .before .before .args .offset = search needs in simp (p, c .reply-by .ensures, c .before .with-offset .ensures, c .before .before .offset-answer .ensures)
 
 pub set-offset-spec : {M : Type 1} → statement M
 set-offset-spec =
-    tie.close
-    (tie.spec
-    offset-fits-requires
-    range-answer-requires
-    behind-requires
-    with-offset-requires
-    reply-by-requires
-    returns)
+    tie.close (tie.spec offset-answer-requires with-offset-requires reply-by-requires returns)

@@ -1,65 +1,32 @@
--- The settings so far are those of the objects passed. Assumes nothing.
-use Prim.Native.Nat.{_-_}
-use mathlib.Core.Path.{refl}
-use borrow.Author.Count.{below-none}
+-- By the table, as by search. Assumes nothing.
+use mathlib.Core.Path.{_≡_, refl, sym, ap, _∙_}
 use Rattle.sheet.specs.Words.{sheetOf}
-use Rattle.listener.specs.State.{blank}
-use Rattle.listener.specs.Calls.{movedSetting, moved}
-use Rattle.listener.proofs.FillLaws.{Filled, filled-more, filled-all}
+use Rattle.listener.proofs.StepLaws.{leaders-made}
+use borrow.Author.Needs.{needs}
 use Rattle.listener.proofs.calls.moved.Statement.{statement}
 use Rattle.listener.proofs.calls.moved.Tie as tie
-use borrow.Author.Needs.{needs}
 
-abbrev Inv-loop : tie.InvT-loop
-Inv-loop s state o objects₀ q₀ objects q = Filled 84 (movedSetting (sheetOf s) state o) blank objects q
+slice-aggregate-first-namers : tie.Need-slice-aggregate-first-namers
+slice-aggregate-first-namers c = search needs
 
-abbrev μ-loop : tie.MeasureT-loop
-μ-loop s state o objects₀ q₀ objects q = 84 - q
+first-namers-requires : tie.Need-first-namers-requires
+first-namers-requires c κs = search needs
 
-resting-requires : tie.Need-resting-requires Inv-loop μ-loop
-resting-requires c κs = search needs
+slice-aggregate-moved-by : tie.Need-slice-aggregate-moved-by
+slice-aggregate-moved-by c = search needs
 
-loop-holds : tie.Need-loop-holds Inv-loop μ-loop
-loop-holds c = record { long = refl; inside = search needs; right = below-none _ }
+moved-by-requires : tie.Need-moved-by-requires
+moved-by-requires c κs = search needs
 
-cast-moved-setting : tie.Need-cast-moved-setting Inv-loop μ-loop
-cast-moved-setting c = search needs
-
-moved-setting-requires : tie.Need-moved-setting-requires Inv-loop μ-loop
-moved-setting-requires c κs = search needs
-
-mul-objects : tie.Need-mul-objects Inv-loop μ-loop
-mul-objects c = search needs
-
-array-set-from-objects : tie.Need-array-set-from-objects Inv-loop μ-loop
-array-set-from-objects c = search needs
-
-add-q : tie.Need-add-q Inv-loop μ-loop
-add-q c = search needs
-
-loop-less : tie.Need-loop-less Inv-loop μ-loop
-loop-less c = search needs
-
-loop-again : tie.Need-loop-again Inv-loop μ-loop
-loop-again c = filled-more _ _ _ _ _ _ (c .before .before .loop .inv) (c .before .loop-test .taken) (c .moved-setting .ensures)
-
-returns : tie.Need-returns Inv-loop μ-loop
-unfolding moved
-returns c = rw (filled-all _ _ _ _ _ (c .before .loop .inv) (c .loop-test .left))
+returns : tie.Need-returns
+returns c = c .moved-by .ensures (leaders-made (sheetOf (c .before .before .before .before .before .before .args .s .now)) 84 (c .before .before .before .first-namers .last .1 .1 .0) (c .before .before .before .first-namers .ensures .1))
 
 pub moved-spec : {M : Type 1} → statement M
 moved-spec =
     tie.close
     (tie.spec
-    Inv-loop
-    μ-loop
-    resting-requires
-    loop-holds
-    cast-moved-setting
-    moved-setting-requires
-    mul-objects
-    array-set-from-objects
-    add-q
-    loop-less
-    loop-again
+    slice-aggregate-first-namers
+    first-namers-requires
+    slice-aggregate-moved-by
+    moved-by-requires
     returns)

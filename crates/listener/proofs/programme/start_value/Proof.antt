@@ -1,15 +1,20 @@
--- From the programme's set, else the object. Assumes nothing.
-use mathlib.Core.Path.{sym, _∙_}
+-- From the set at the place, else the object. Assumes nothing.
+use mathlib.Core.Path.{_≡_, refl, sym, ap, _∙_}
+use Rattle.sheet.specs.Words.{sheetOf}
 use Rattle.listener.specs.Programme.{startValue}
+use Rattle.listener.proofs.StepLaws.{place-inside, place-outside, place-set}
 use borrow.Author.Needs.{needs}
 use Rattle.listener.proofs.programme.start_value.Statement.{statement}
 use Rattle.listener.proofs.programme.start_value.Tie as tie
 
-names-set-requires : tie.Need-names-set-requires
-names-set-requires c κs = search needs
+set-place-requires : tie.Need-set-place-requires
+set-place-requires c κs = search needs
 
-set-for-requires : tie.Need-set-for-requires
-set-for-requires c κs = search needs
+number-requires : tie.Need-number-requires
+number-requires c κs = search needs
+
+named-set-requires : tie.Need-named-set-requires
+named-set-requires c κs = search needs
 
 effective-value-requires : tie.Need-effective-value-requires
 effective-value-requires c κs = search needs
@@ -19,18 +24,19 @@ own-value-requires c κs = search needs
 
 returns : tie.Need-returns
 unfolding startValue
-returns c = simp (sym (c .before .before .before .names-set .ensures) ∙ c .before .before .if1 .taken, c .effective-value .ensures, c .before .set-for .ensures)
+returns c = let t = place-inside (sheetOf (c .before .before .before .before .before .before .args .s .now)) (c .before .before .before .before .before .before .args .p) (c .before .before .before .before .before .before .args .o) _ _ (c .before .before .before .before .set-place .ensures) (c .before .before .before .number .ensures) (c .before .before .if1 .taken) in simp (t, c .effective-value .ensures, c .before .named-set .ensures, c .before .before .before .before .set-place .ensures, place-set (sheetOf (c .before .before .before .before .before .before .args .s .now)) (c .before .before .before .before .before .before .args .p) (c .before .before .before .before .before .before .args .o))
 
 returns-2 : tie.Need-returns-2
 unfolding startValue
-returns-2 c = simp (sym (c .before .before .names-set .ensures) ∙ c .before .if1 .left, c .own-value .ensures)
+returns-2 c = let t = place-outside (sheetOf (c .before .before .before .before .before .args .s .now)) (c .before .before .before .before .before .args .p) (c .before .before .before .before .before .args .o) _ _ (c .before .before .before .set-place .ensures) (c .before .before .number .ensures) (c .before .if1 .left) in simp (t, c .own-value .ensures)
 
 pub start-value-spec : {M : Type 1} → statement M
 start-value-spec =
     tie.close
     (tie.spec
-    names-set-requires
-    set-for-requires
+    set-place-requires
+    number-requires
+    named-set-requires
     effective-value-requires
     own-value-requires
     returns

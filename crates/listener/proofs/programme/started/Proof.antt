@@ -1,65 +1,44 @@
--- The settings so far are those of the objects passed. Assumes nothing.
-use Prim.Native.Nat.{_-_}
-use mathlib.Core.Path.{refl}
-use borrow.Author.Count.{below-none}
+-- By the tables, as by search. Assumes nothing.
+use mathlib.Core.Path.{_≡_, refl, sym, ap, _∙_}
 use Rattle.sheet.specs.Words.{sheetOf}
-use Rattle.listener.specs.State.{blank}
-use Rattle.listener.specs.Programme.{startSetting, started}
-use Rattle.listener.proofs.FillLaws.{Filled, filled-more, filled-all}
+use Rattle.listener.proofs.StepLaws.{leaders-made}
+use borrow.Author.Needs.{needs}
 use Rattle.listener.proofs.programme.started.Statement.{statement}
 use Rattle.listener.proofs.programme.started.Tie as tie
-use borrow.Author.Needs.{needs}
 
-abbrev Inv-loop : tie.InvT-loop
-Inv-loop s p objects₀ o₀ objects o = Filled 84 (startSetting (sheetOf s) p) blank objects o
+slice-aggregate-first-namers : tie.Need-slice-aggregate-first-namers
+slice-aggregate-first-namers c = search needs
 
-abbrev μ-loop : tie.MeasureT-loop
-μ-loop s p objects₀ o₀ objects o = 84 - o
+first-namers-requires : tie.Need-first-namers-requires
+first-namers-requires c κs = search needs
 
-resting-requires : tie.Need-resting-requires Inv-loop μ-loop
-resting-requires c κs = search needs
+slice-aggregate-mark-included : tie.Need-slice-aggregate-mark-included
+slice-aggregate-mark-included c = search needs
 
-loop-holds : tie.Need-loop-holds Inv-loop μ-loop
-loop-holds c = record { long = refl; inside = search needs; right = below-none _ }
+mark-included-requires : tie.Need-mark-included-requires
+mark-included-requires c κs = search needs
 
-cast-start-setting : tie.Need-cast-start-setting Inv-loop μ-loop
-cast-start-setting c = search needs
+slice-aggregate-start-settings : tie.Need-slice-aggregate-start-settings
+slice-aggregate-start-settings c = search needs
 
-start-setting-requires : tie.Need-start-setting-requires Inv-loop μ-loop
-start-setting-requires c κs = search needs
+slice-aggregate-start-settings-2 : tie.Need-slice-aggregate-start-settings-2
+slice-aggregate-start-settings-2 c = search needs
 
-mul-objects : tie.Need-mul-objects Inv-loop μ-loop
-mul-objects c = search needs
+start-settings-requires : tie.Need-start-settings-requires
+start-settings-requires c κs = search needs
 
-array-set-from-objects : tie.Need-array-set-from-objects Inv-loop μ-loop
-array-set-from-objects c = search needs
-
-add-o : tie.Need-add-o Inv-loop μ-loop
-add-o c = search needs
-
-loop-less : tie.Need-loop-less Inv-loop μ-loop
-loop-less c = search needs
-
-loop-again : tie.Need-loop-again Inv-loop μ-loop
-loop-again c = filled-more _ _ _ _ _ _ (c .before .before .loop .inv) (c .before .loop-test .taken) (c .start-setting .ensures)
-
-returns : tie.Need-returns Inv-loop μ-loop
-unfolding started
-returns c = rw (filled-all _ _ _ _ _ (c .before .loop .inv) (c .loop-test .left))
+returns : tie.Need-returns
+returns c = c .start-settings .ensures (leaders-made (sheetOf (c .before .before .before .before .before .before .before .before .before .before .args .s .now)) 84 (c .before .before .before .before .before .before .before .first-namers .last .1 .1 .0) (c .before .before .before .before .before .before .before .first-namers .ensures .1)) (c .before .before .before .before .mark-included .ensures .1)
 
 pub started-spec : {M : Type 1} → statement M
 started-spec =
     tie.close
     (tie.spec
-    Inv-loop
-    μ-loop
-    resting-requires
-    loop-holds
-    cast-start-setting
-    start-setting-requires
-    mul-objects
-    array-set-from-objects
-    add-o
-    loop-less
-    loop-again
+    slice-aggregate-first-namers
+    first-namers-requires
+    slice-aggregate-mark-included
+    mark-included-requires
+    slice-aggregate-start-settings
+    slice-aggregate-start-settings-2
+    start-settings-requires
     returns)

@@ -1,63 +1,58 @@
--- Good so far is what the objects passed are. Assumes nothing.
-use Prim.Native.Nat.{ℕ, _-_, _≤_}
-use mathlib.Core.Path.{_≡_, ap, _∙_}
-use native.Mathlib.Omega.{arith}
-use native.Mathlib.Numerals.{add-one}
-use mathlib.Core.Path.{sym}
-use mathlib.Core.Bool.{_&&_}
-use lib.Dec.{ltb}
-use Rattle.listener.proofs.AndLaws.{and-assoc, and-true}
-use Rattle.profile.specs.Counting.{every}
-use Rattle.sheet.specs.Layout.{count}
-use Rattle.sheet.specs.Fields.{programmes}
+-- By the tables, as by search. Assumes nothing.
+use mathlib.Core.Path.{_≡_, refl, sym, ap, _∙_}
 use Rattle.sheet.specs.Words.{sheetOf}
-use Rattle.listener.specs.Sound.{soundAt, sound}
+use Rattle.listener.specs.Sound.{sound}
+use Rattle.listener.proofs.StepLaws.{leaders-made, all-flags}
+use borrow.Author.Needs.{needs}
 use Rattle.listener.proofs.sounding.sound.Statement.{statement}
 use Rattle.listener.proofs.sounding.sound.Tie as tie
-use borrow.Author.Needs.{needs}
 
-abbrev Inv-loop : tie.InvT-loop
-Inv-loop s state p good₀ o₀ good o = (o ≤ 84) × (good ≡ (ltb (state .programme) (count (sheetOf s) programmes) && every (soundAt (sheetOf s) state) o))
+slice-aggregate-first-namers : tie.Need-slice-aggregate-first-namers
+slice-aggregate-first-namers c = search needs
 
-abbrev μ-loop : tie.MeasureT-loop
-μ-loop s state p good₀ o₀ good o = 84 - o
+first-namers-requires : tie.Need-first-namers-requires
+first-namers-requires c κs = search needs
 
-count-requires : tie.Need-count-requires Inv-loop μ-loop
+slice-aggregate-mark-included : tie.Need-slice-aggregate-mark-included
+slice-aggregate-mark-included c = search needs
+
+mark-included-requires : tie.Need-mark-included-requires
+mark-included-requires c κs = search needs
+
+flags-requires : tie.Need-flags-requires
+flags-requires c κs = search needs
+
+count-requires : tie.Need-count-requires
 count-requires c κs = search needs
 
-loop-holds : tie.Need-loop-holds Inv-loop μ-loop
-unfolding every
-loop-holds c = (search needs, rw (c .count .ensures) (sym (and-true (ltb (c .before .before .args .state .programme) (count (sheetOf (c .before .before .args .s .now)) programmes)))))
+slice-aggregate-sound-by : tie.Need-slice-aggregate-sound-by
+slice-aggregate-sound-by c = search needs
 
-sound-at-requires : tie.Need-sound-at-requires Inv-loop μ-loop
-sound-at-requires c κs = search needs
+slice-aggregate-sound-by-2 : tie.Need-slice-aggregate-sound-by-2
+slice-aggregate-sound-by-2 c = search needs
 
-add-o : tie.Need-add-o Inv-loop μ-loop
-add-o c = search needs
+slice-aggregate-sound-by-3 : tie.Need-slice-aggregate-sound-by-3
+slice-aggregate-sound-by-3 c = search needs
 
-loop-less : tie.Need-loop-less Inv-loop μ-loop
-loop-less c = search needs
+sound-by-requires : tie.Need-sound-by-requires
+sound-by-requires c κs = search needs
 
-loop-again : tie.Need-loop-again Inv-loop μ-loop
-unfolding every
-loop-again c = (search needs, rw (add-one, c .sound-at .ensures, c .before .before .loop .inv .1) (and-assoc (ltb (c .before .before .before .before .before .args .state .programme) (count (sheetOf (c .before .before .before .before .before .args .s .now)) programmes)) (every (soundAt (sheetOf (c .before .before .before .before .before .args .s .now)) (c .before .before .before .before .before .args .state)) (c .before .before .loop .o)) (soundAt (sheetOf (c .before .before .before .before .before .args .s .now)) (c .before .before .before .before .before .args .state) (c .before .before .loop .o))))
-
-returns : tie.Need-returns Inv-loop μ-loop
+returns : tie.Need-returns
 unfolding sound
-returns c =
-    let e : c .before .loop .o ≡ 84 = omega arith in
-    c .before .loop .inv .1 ∙ ap (λ (n : ℕ). ltb (c .before .before .before .before .args .state .programme) (count (sheetOf (c .before .before .before .before .args .s .now)) programmes) && every (soundAt (sheetOf (c .before .before .before .before .args .s .now)) (c .before .before .before .before .args .state)) n) e
+returns c = rw (c .before .before .before .before .count .ensures, c .sound-by .ensures (leaders-made (sheetOf (c .before .before .before .before .before .before .before .before .before .before .before .before .before .args .s .now)) 84 (c .before .before .before .before .before .before .before .before .before .before .first-namers .last .1 .1 .0) (c .before .before .before .before .before .before .before .before .before .before .first-namers .ensures .1)) (c .before .before .before .before .before .before .before .mark-included .ensures .1), c .before .before .before .before .before .flags .ensures, all-flags (sheetOf (c .before .before .before .before .before .before .before .before .before .before .before .before .before .args .s .now)) (c .before .before .before .before .before .before .before .before .before .before .before .before .before .args .state))
 
 pub sound-spec : {M : Type 1} → statement M
 sound-spec =
     tie.close
     (tie.spec
-    Inv-loop
-    μ-loop
+    slice-aggregate-first-namers
+    first-namers-requires
+    slice-aggregate-mark-included
+    mark-included-requires
+    flags-requires
     count-requires
-    loop-holds
-    sound-at-requires
-    add-o
-    loop-less
-    loop-again
+    slice-aggregate-sound-by
+    slice-aggregate-sound-by-2
+    slice-aggregate-sound-by-3
+    sound-by-requires
     returns)

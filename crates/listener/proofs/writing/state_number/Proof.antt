@@ -1,14 +1,15 @@
 -- The sum so far is that of the objects passed. Assumes nothing.
 use Prim.Native.Nat.{_*_, _-_, _≤_}
-use mathlib.Core.Path.{_≡_, refl, ap, _∙_}
+use mathlib.Core.Path.{_≡_, refl, sym, ap, _∙_}
 use native.Mathlib.Omega.{arith}
 use native.Mathlib.Numerals.{add-one}
 use Rattle.profile.specs.Counting.{sum}
 use Rattle.sheet.specs.Words.{sheetOf}
 use Rattle.listener.specs.Written.{numberWhen, stateNumber}
+use Rattle.listener.proofs.StepLaws.{element-active}
+use borrow.Author.Needs.{needs}
 use Rattle.listener.proofs.writing.state_number.Statement.{statement}
 use Rattle.listener.proofs.writing.state_number.Tie as tie
-use borrow.Author.Needs.{needs}
 
 abbrev Inv-loop : tie.InvT-loop
 Inv-loop s state total₀ o₀ total o = (o ≤ 84) × (total ≤ 4295032830 * o) × (total ≡ sum (numberWhen (sheetOf s) state) o)
@@ -19,6 +20,15 @@ abbrev μ-loop : tie.MeasureT-loop
 loop-holds : tie.Need-loop-holds Inv-loop μ-loop
 unfolding sum
 loop-holds c = (search needs, search needs, refl)
+
+cast-x : tie.Need-cast-x Inv-loop μ-loop
+cast-x c = search needs
+
+mul-x : tie.Need-mul-x Inv-loop μ-loop
+mul-x c = search needs
+
+element-copy-out-x : tie.Need-element-copy-out-x Inv-loop μ-loop
+element-copy-out-x c = search needs
 
 number-when-requires : tie.Need-number-when-requires Inv-loop μ-loop
 number-when-requires c κs = search needs
@@ -33,14 +43,12 @@ loop-less : tie.Need-loop-less Inv-loop μ-loop
 loop-less c = search needs
 
 loop-again : tie.Need-loop-again Inv-loop μ-loop
-unfolding sum
-loop-again c = (search needs, omega (arith, c .number-when .ensures .1), rw (add-one, c .number-when .ensures .0, c .before .before .loop .inv .2))
+unfolding sum numberWhen
+loop-again c = (search needs, omega (arith, c .number-when .ensures .1), rw (add-one, c .number-when .ensures .0, element-active (c .before .before .before .before .before .args .t2) (c .before .before .before .loop .o) (c .before .before .loop-test .taken), c .before .before .before .loop .inv .2))
 
 returns : tie.Need-returns Inv-loop μ-loop
 unfolding stateNumber
-returns c =
-    let e : c .before .loop .o ≡ 84 = omega arith in
-    c .before .loop .inv .2 ∙ ap (sum _) e
+returns c = let e : c .before .loop .o ≡ 84 = omega arith in c .before .loop .inv .2 ∙ ap (sum _) e
 
 pub state-number-spec : {M : Type 1} → statement M
 state-number-spec =
@@ -49,6 +57,9 @@ state-number-spec =
     Inv-loop
     μ-loop
     loop-holds
+    cast-x
+    mul-x
+    element-copy-out-x
     number-when-requires
     add-total
     add-o

@@ -1,27 +1,41 @@
 -- The objects passed are written, one behind the other. Assumes nothing.
-use Prim.Native.Nat.{_-_}
-use mathlib.Core.Path.{_∙_}
+use Prim.Native.Nat.{ℕ, _-_, _+_}
+use mathlib.Core.Path.{_≡_, refl, sym, ap, _∙_}
+use mathlib.Core.Bool.{Bool, cond}
+use mathlib.Core.List.{List, []}
+use lib.ListN.{length}
+use lib.Seq.{sets}
 use native.Mathlib.Nat.{zero-add}
 use native.Mathlib.Omega.{arith}
 use Rattle.sheet.specs.Words.{sheetOf}
-use Rattle.listener.specs.Written.{tracksWhen, stateTracks}
+use Rattle.listener.specs.Written.{objectTracks, tracksWhen, stateTracks}
 use Rattle.listener.proofs.WrittenLaws.{Written, written-none, written-more, room, same-long, written-all}
+use Rattle.listener.proofs.StepLaws.{element-active}
+use borrow.Author.Needs.{needs}
 use Rattle.listener.proofs.writing.write_state.Statement.{statement}
 use Rattle.listener.proofs.writing.write_state.Tie as tie
-use borrow.Author.Needs.{needs}
 
 abbrev Inv-loop : tie.InvT-loop
-Inv-loop s state buffer₀ pos₀ o₀ buffer pos o = Written (tracksWhen (sheetOf s) state) 84 0 buffer₀ buffer pos o
+Inv-loop s buffer₀ state pos₀ o₀ buffer pos o = Written (tracksWhen (sheetOf s) state) 84 0 buffer₀ buffer pos o
 
 abbrev μ-loop : tie.MeasureT-loop
-μ-loop s state buffer₀ pos₀ o₀ buffer pos o = 84 - o
+μ-loop s buffer₀ state pos₀ o₀ buffer pos o = 84 - o
 
 loop-holds : tie.Need-loop-holds Inv-loop μ-loop
 loop-holds c = written-none _ _ _ _
 
+cast-x : tie.Need-cast-x Inv-loop μ-loop
+cast-x c = search needs
+
+mul-x : tie.Need-mul-x Inv-loop μ-loop
+mul-x c = search needs
+
+element-copy-out-x : tie.Need-element-copy-out-x Inv-loop μ-loop
+element-copy-out-x c = search needs
+
 write-when-requires : tie.Need-write-when-requires Inv-loop μ-loop
-unfolding stateTracks
-write-when-requires c κs = room (tracksWhen (sheetOf (c .before .before .before .before .before .args .s .now)) (c .before .before .before .before .before .args .state)) 84 0 (c .before .before .before .before .before .args .buffer .now) (c .before .before .loop .buffer) (c .before .before .loop .pos) (c .before .before .loop .o) (c .before .before .loop .inv) (c .before .loop-test .taken) (omega (arith, c .before .before .before .before .before .pre))
+unfolding stateTracks tracksWhen
+write-when-requires c κs = rw (element-active (c .before .before .before .before .before .before .args .t2) (c .before .before .before .loop .o) (c .before .before .loop-test .taken)) (room (tracksWhen (sheetOf (c .before .before .before .before .before .before .args .s .now)) (c .before .before .before .before .before .before .args .t2)) 84 0 (c .before .before .before .before .before .before .args .buffer .now) (c .before .before .before .loop .buffer) (c .before .before .before .loop .pos) (c .before .before .before .loop .o) (c .before .before .before .loop .inv) (c .before .before .loop-test .taken) (omega (arith, c .before .before .before .before .before .before .pre)))
 
 add-o : tie.Need-add-o Inv-loop μ-loop
 add-o c = search needs
@@ -30,7 +44,8 @@ loop-less : tie.Need-loop-less Inv-loop μ-loop
 loop-less c = search needs
 
 loop-again : tie.Need-loop-again Inv-loop μ-loop
-loop-again c = written-more _ _ _ _ _ _ _ (c .before .before .before .before .before .loop .inv) _ _ (c .before .before .before .before .loop-test .taken) (c .before .before .write-when .ensures .0) (c .before .before .write-when .ensures .1)
+unfolding tracksWhen
+loop-again c = written-more (tracksWhen (sheetOf (c .before .before .before .before .before .before .before .before .before .args .s .now)) (c .before .before .before .before .before .before .before .before .before .args .t2)) _ _ _ _ _ _ (c .before .before .before .before .before .before .loop .inv) _ _ (c .before .before .before .before .before .loop-test .taken) (c .before .before .write-when .ensures .0 ∙ ap (λ (b : Bool). c .before .before .before .before .before .before .loop .pos + length (cond b (objectTracks (sheetOf (c .before .before .before .before .before .before .before .before .before .args .s .now)) (c .before .before .before .before .before .before .loop .o)) [])) (element-active (c .before .before .before .before .before .before .before .before .before .args .t2) (c .before .before .before .before .before .before .loop .o) (c .before .before .before .before .before .loop-test .taken))) (c .before .before .write-when .ensures .1 ∙ ap (λ (b : Bool). sets (c .before .before .before .before .before .before .loop .buffer) (c .before .before .before .before .before .before .loop .pos) (cond b (objectTracks (sheetOf (c .before .before .before .before .before .before .before .before .before .args .s .now)) (c .before .before .before .before .before .before .loop .o)) [])) (element-active (c .before .before .before .before .before .before .before .before .before .args .t2) (c .before .before .before .before .before .before .loop .o) (c .before .before .before .before .before .loop-test .taken)))
 
 same-length : tie.Need-same-length Inv-loop μ-loop
 same-length c = same-long _ _ _ _ _ _ _ (c .before .loop .inv)
@@ -46,6 +61,9 @@ write-state-spec =
     Inv-loop
     μ-loop
     loop-holds
+    cast-x
+    mul-x
+    element-copy-out-x
     write-when-requires
     add-o
     loop-less

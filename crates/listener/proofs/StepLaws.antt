@@ -1,0 +1,116 @@
+-- The steps of the code come to the machine's definitions. Assumes nothing.
+use Prim.Native.Nat.{ℕ, zero, suc, _+_, _<_, _≤_}
+use mathlib.Core.Path.{_≡_, refl, sym, ap, ap₂, _∙_}
+use mathlib.Core.Bool.{Bool, true, false, cond, not, _&&_}
+use mathlib.Core.List.{List}
+use native.Mathlib.Omega.{arith}
+use borrow.Author.Tests.{lt-ltb, le-ltb, ltb-true, ltb-false}
+use lib.Dec.{eqb, leb, ltb}
+use lib.ListN.{length, getD, replicate, List·getD-eq-default}
+use Rattle.sheet.specs.Words.{Sheet}
+use Rattle.sheet.specs.Layout.{field, number, reference, entry}
+use Rattle.sheet.specs.Fields.{programmes, objects, setList, setSpan}
+use Rattle.profile.specs.Counting.{any, howMany, lowest, every, tabulate}
+use Rattle.profile.specs.Relations.{member, members, leaderOf, includes, hasSet, namedSet, namesSet, setFor}
+use Rattle.profile.proofs.CountingLaws.{any-none, found, nothing}
+use Rattle.profile.proofs.SumLaws.{howMany-eq, any-nowhere}
+use Rattle.profile.proofs.ListLaws.{length-tabulate, getD-tabulate}
+use Rattle.tables.specs.declared.Naming.the-variants.{Complements}
+use Rattle.tables.specs.Marks.{Standing, firstBy}
+use Rattle.tables.specs.Right.{Leaders}
+use Rattle.tables.proofs.MarkLaws.{nought}
+use Rattle.tables.proofs.TableLaws.{flag}
+use Rattle.listener.specs.declared.Setting.{Setting}
+use Rattle.listener.specs.declared.State.{State}
+use Rattle.listener.specs.State.{stateObjects, blank, setting, active, isResting}
+use Rattle.listener.specs.Programme.{inWholeGroup}
+use Rattle.listener.specs.Sound.{soundGain, soundOffset, activeMembers, soundActivity, soundAt}
+use Rattle.listener.specs.Steps.{setPlace, flagged, flaggedMembers, flaggedActivity, flaggedSound}
+
+-- the lowest is one of n exactly where there is any
+lowest-any : (p : ℕ → Bool) (n : ℕ) → ltb (lowest p n) n ≡ any p n
+lowest-any p n =
+    (elim (ltb (lowest p n) n) as (λ b. ltb (lowest p n) n ≡ b → b ≡ any p n) [
+      | true ↦ λ e. (elim (any p n) as (λ b. any p n ≡ b → true ≡ b) [
+        | true ↦ λ f. refl
+        | false ↦ λ f. sym (found p n e) ∙ any-none p n f (lowest p n) (ltb-true (lowest p n) n e)
+      ]) refl
+      | false ↦ λ e. sym (any-nowhere p n (nothing p n e))
+    ]) refl
+
+module _ (s : Sheet) (p o : ℕ) where
+  place-names : ltb (setPlace s p o) (number s programmes p setList) ≡ namesSet s p o
+  unfolding setPlace namesSet
+  place-names = lowest-any (λ i. hasSet s o (namedSet s p i)) (number s programmes p setList)
+
+  -- the programme names a set for the object where there is such a place
+  pub place-inside : (i n : ℕ) → i ≡ setPlace s p o → n ≡ number s programmes p setList → i < n → namesSet s p o ≡ true
+  place-inside i n e f l = sym place-names ∙ lt-ltb (setPlace s p o) (number s programmes p setList) (rw (← e, ← f) l)
+
+  pub place-outside : (i n : ℕ) → i ≡ setPlace s p o → n ≡ number s programmes p setList → n ≤ i → namesSet s p o ≡ false
+  place-outside i n e f l = sym place-names ∙ le-ltb (setPlace s p o) (number s programmes p setList) (rw (← e, ← f) l)
+
+  -- and it is the one there
+  pub place-set : namedSet s p (setPlace s p o) ≡ setFor s p o
+  unfolding setPlace setFor
+  place-set = refl
+
+  -- a set of the list is the object's
+  pub place-has : (i from many list v : ℕ) → from ≡ field s objects o setSpan → many ≡ number s objects o setSpan → list ≡ field s programmes p setList
+      → v ≡ reference s (list + i) → (leb from v && ltb v (from + many)) ≡ hasSet s o (namedSet s p i)
+  unfolding hasSet namedSet entry
+  place-has i from many list v a b c d = rw (d, a, b, c) refl
+
+-- a pass over a table of noughts
+pub leaders-made : (s : Sheet) (n : ℕ) (t : List ℕ) → Standing (λ x. firstBy s Complements x (getD (replicate n 0) x 0)) t → Leaders s t
+leaders-made s n t h x l = h x l ∙ ap (firstBy s Complements x) (nought n x)
+
+every-eq : (p q : ℕ → Bool) (n : ℕ) → ((k : ℕ) → k < n → p k ≡ q k) → every p n ≡ every q n
+unfolding every
+every-eq p q zero h = refl
+every-eq p q (suc n) h = ap₂ (λ (a b : Bool). a && b) (every-eq p q n (λ k l. h k (omega arith))) (h n (omega arith))
+
+past-active : (st : State) (o : ℕ) → ltb o stateObjects ≡ false → active st o ≡ false
+unfolding active setting
+past-active st o e = ap (λ (b : Bool). cond b (getD (st .objects) o blank) blank .active) e
+
+-- a state's element is its setting
+pub element-setting : (st : State) (o : ℕ) → o < stateObjects → getD (st .objects) o blank ≡ setting st o
+unfolding setting
+element-setting st o l = rw (lt-ltb o stateObjects l) refl
+
+pub element-active : (st : State) (o : ℕ) → o < stateObjects → getD (st .objects) o blank .active ≡ active st o
+unfolding active
+element-active st o l = ap (λ (x : Setting). x .active) (element-setting st o l)
+
+module _ (s : Sheet) (st : State) where
+  abbrev activeFlags : List ℕ
+  activeFlags = tabulate (λ o. cond (active st o) 1 0) stateObjects
+
+  -- the flags of the active objects
+  flags-active : (o : ℕ) → flagged activeFlags o ≡ active st o
+  unfolding flagged
+  flags-active o =
+      (elim (ltb o stateObjects) as (λ b. ltb o stateObjects ≡ b → not (eqb (getD activeFlags o 0) 0) ≡ active st o) [
+        | true ↦ λ e. ap (λ (n : ℕ). not (eqb n 0)) (getD-tabulate {X = ℕ} (λ q. cond (active st q) 1 0) stateObjects o 0 (ltb-true o stateObjects e)) ∙ flag (active st o)
+        | false ↦ λ e. ap (λ (n : ℕ). not (eqb n 0)) (List·getD-eq-default activeFlags 0 (past (ltb-false o stateObjects e))) ∙ sym (past-active st o e)
+      ]) refl
+    where
+      past : stateObjects ≤ o → length activeFlags ≤ o
+      past l = rw (length-tabulate {X = ℕ} (λ q. cond (active st q) 1 0) stateObjects) l
+
+  flags-members : (l : ℕ) → flaggedMembers s activeFlags l ≡ activeMembers s st l
+  unfolding flaggedMembers activeMembers
+  flags-members l = howMany-eq (λ i. flagged activeFlags (member s l i)) (λ i. active st (member s l i)) (members s l) (λ i m. flags-active (member s l i))
+
+  flags-activity : (o : ℕ) → flaggedActivity s (st .programme) activeFlags o ≡ soundActivity s st o
+  unfolding flaggedActivity soundActivity
+  flags-activity o = rw (flags-members (leaderOf s o), flags-active o) refl
+
+  flags-sound : (o : ℕ) → flaggedSound s (st .programme) activeFlags o (setting st o) ≡ soundAt s st o
+  unfolding flaggedSound soundAt
+  flags-sound o = rw (flags-activity o) refl
+
+  -- objects are sound by the flags where they are by the state
+  pub all-flags : every (λ o. flaggedSound s (st .programme) activeFlags o (setting st o)) stateObjects ≡ every (soundAt s st) stateObjects
+  all-flags = every-eq (λ o. flaggedSound s (st .programme) activeFlags o (setting st o)) (soundAt s st) stateObjects (λ o l. flags-sound o)

@@ -1,0 +1,78 @@
+-- The settings so far are those of the objects passed. Assumes nothing.
+use Prim.Native.Nat.{_-_, _≤_}
+use mathlib.Core.Path.{_≡_, refl, sym, ap, _∙_}
+use native.Mathlib.Omega.{arith}
+use borrow.Author.Count.{below-none}
+use Rattle.sheet.specs.Words.{sheetOf}
+use Rattle.tables.specs.Right.{Leaders}
+use Rattle.listener.specs.State.{blank}
+use Rattle.listener.specs.Calls.{movedSetting, moved}
+use Rattle.listener.specs.Steps.{movedFrom}
+use Rattle.listener.proofs.FillLaws.{Filled, filled-more, filled-all}
+use Rattle.listener.proofs.StepLaws.{element-setting}
+use borrow.Author.Needs.{needs}
+use Rattle.listener.proofs.calls.moved_by.Statement.{statement}
+use Rattle.listener.proofs.calls.moved_by.Tie as tie
+
+abbrev Inv-loop : tie.InvT-loop
+Inv-loop s leaders o state objects₀ q₀ objects q = (q ≤ 84) × (Leaders (sheetOf s) leaders → Filled 84 (movedSetting (sheetOf s) state o) blank objects q)
+
+abbrev μ-loop : tie.MeasureT-loop
+μ-loop s leaders o state objects₀ q₀ objects q = 84 - q
+
+resting-requires : tie.Need-resting-requires Inv-loop μ-loop
+resting-requires c κs = search needs
+
+loop-holds : tie.Need-loop-holds Inv-loop μ-loop
+loop-holds c = (search needs, λ led. record { long = refl; inside = search needs; right = below-none _ })
+
+mul-x : tie.Need-mul-x Inv-loop μ-loop
+mul-x c = search needs
+
+element-copy-out-x : tie.Need-element-copy-out-x Inv-loop μ-loop
+element-copy-out-x c = search needs
+
+cast-moved-setting : tie.Need-cast-moved-setting Inv-loop μ-loop
+cast-moved-setting c = search needs
+
+moved-setting-requires : tie.Need-moved-setting-requires Inv-loop μ-loop
+moved-setting-requires c κs = search needs
+
+mul-objects : tie.Need-mul-objects Inv-loop μ-loop
+mul-objects c = search needs
+
+array-set-from-objects : tie.Need-array-set-from-objects Inv-loop μ-loop
+array-set-from-objects c = search needs
+
+add-q : tie.Need-add-q Inv-loop μ-loop
+add-q c = search needs
+
+loop-less : tie.Need-loop-less Inv-loop μ-loop
+loop-less c = search needs
+
+loop-again : tie.Need-loop-again Inv-loop μ-loop
+unfolding movedSetting movedFrom
+loop-again c = (search needs, λ led. filled-more _ _ _ _ _ _ (c .before .before .before .loop .inv .1 led) (c .before .before .loop-test .taken) (c .moved-setting .ensures led ∙ ap (movedFrom (sheetOf (c .before .before .before .before .before .before .before .args .s .now)) (c .before .before .before .before .before .before .before .args .o) (c .before .before .before .loop .q)) (element-setting (c .before .before .before .before .before .before .before .args .t2) (c .before .before .before .loop .q) (c .before .before .loop-test .taken))))
+
+returns : tie.Need-returns Inv-loop μ-loop
+unfolding moved
+returns c = λ led. rw (filled-all _ _ _ _ _ (c .before .loop .inv .1 led) (c .loop-test .left))
+
+pub moved-by-spec : {M : Type 1} → statement M
+moved-by-spec =
+    tie.close
+    (tie.spec
+    Inv-loop
+    μ-loop
+    resting-requires
+    loop-holds
+    mul-x
+    element-copy-out-x
+    cast-moved-setting
+    moved-setting-requires
+    mul-objects
+    array-set-from-objects
+    add-q
+    loop-less
+    loop-again
+    returns)
