@@ -68,7 +68,11 @@ fn list_lacks(s: &[u8], next: &[u16], target: u8, section: u8, k: u16, at: u8) -
 pub fn first_target(section: u8) -> u8
     ensures { λ r. ⌜ r ≡ firstTarget section ⌝ }
 {
-    if section == PROGRAMMES { CONTENTS } else { TRACKS }
+    if section == PROGRAMMES {
+        CONTENTS
+    } else {
+        TRACKS
+    }
 }
 
 // The section that value sets, or objects, are listed for.

@@ -44,15 +44,7 @@ fn bad_label(s: &[u8], next: &[u16], section: u8, k: u16, at: u8) -> bool
 }
 
 // Language, labels and loudness of a programme or content.
-fn bad_speech(
-    s: &[u8],
-    next: &[u16],
-    section: u8,
-    k: u16,
-    lang: u8,
-    labels: u8,
-    loud: u8,
-) -> bool
+fn bad_speech(s: &[u8], next: &[u16], section: u8, k: u16, lang: u8, labels: u8, loud: u8) -> bool
     ensures { λ r. ⌜ (NextRight (sheetOf (now (s .entry))) NoLanguage (now (next .entry)) → r ≡ badSpeech (sheetOf (now (s .entry))) section k lang labels loud) ⌝ }
 {
     !language(field(s, section, k, lang))
