@@ -1,4 +1,4 @@
--- The search in two parts, and the tables it is lent. Assumes nothing.
+-- What one rule finds, what the search over the rules finds, and the tables that are lent. Assumes nothing.
 use Prim.Native.Nat.{ℕ, zero, suc, _+_, _<_, _≤_}
 use mathlib.Core.Path.{_≡_, refl, sym, ap, _∙_}
 use mathlib.Core.Bool.{Bool, true, false, cond}
@@ -12,92 +12,113 @@ use Rattle.sheet.specs.Words.{Sheet}
 use Rattle.profile.specs.declared.Place.{Place}
 use Rattle.profile.specs.declared.Verdict.{Verdict}
 use Rattle.profile.specs.declared.Verdict.the-variants.{Accepted, Broken}
-use Rattle.profile.specs.Counting.{lowest, lowestFrom}
-use Rattle.profile.specs.Verdict.{ruleBroken, brokenRule, brokenAt, verdict}
-use Rattle.profile.proofs.CountingLaws.{lowest-le, lowest-holds, lowest-before, lowest-at}
-use Rattle.tables.specs.declared.Naming.the-variants.{ContentObjects, Children, Complements, ContentLists, SetSpans}
+use Rattle.profile.specs.Counting.{lowest}
+use Rattle.profile.specs.Verdict.{breaks, subjects, placeAt, brokenRecord, sectionBroken, brokenSection, ruleBroken, brokenRule, brokenAt, verdict}
+use Rattle.profile.proofs.CountingLaws.{lowest-at, lowest-none}
+use Rattle.tables.specs.declared.Naming.the-variants.{ContentObjects, Children, SetSpans}
 use Rattle.tables.specs.declared.Mark.the-variants.{Count}
 use Rattle.tables.specs.declared.Naming.{Naming}
 use Rattle.tables.specs.Marks.{Standing, marked, repeat, namedBy, firstBy}
-use Rattle.tables.specs.Right.{counted, Named, Spanned}
-use Rattle.tables.proofs.MarkLaws.{nought}
+use Rattle.tables.specs.Right as tables
+use Rattle.tables.specs.Right.{counted}
 use Rattle.tables.proofs.TableLaws.{namings-added, span-namings}
-use Rattle.checker.specs.Checked.{judged}
-use Rattle.checker.specs.Tables.{TablesRight}
-
--- the rules in checking order
-abbrev broken : Sheet → ℕ → Bool
-broken s i = ruleBroken s (suc i)
-
--- what one search finds, a longer one finds
-lowest-prefix : (p : ℕ → Bool) (m n : ℕ) → m ≤ n → lowest p m < m → lowest p n ≡ lowest p m
-lowest-prefix p m n l h = lowest-at p n (lowest p m) (omega arith) (λ k j. lowest-before p m k j) (lowest-holds p m h)
+use Rattle.checker.specs.declared.Table.{Table}
+use Rattle.checker.specs.declared.Table.the-variants.{Nothing, Named, Spanned, Listed, Tops, Complements, Owners, Leaders, Lacking, Languages, Repeats}
+use Rattle.checker.specs.Checked.{ruleVerdict}
+use Rattle.checker.specs.Tables.{Right}
 
 module _ (s : Sheet) where
-  pub judged-broken : (to i : ℕ) → i ≡ lowest (broken s) to → i < to → brokenAt s (i + 1) ≡ judged s to
-  unfolding judged
-  judged-broken to i e l = rw (add-one i, ← e, lt-ltb i to l) refl
+  module _ (rule section n k : ℕ) (all : n ≡ subjects s rule section) (low : k ≡ lowest (breaks s rule section) n) where
+    found-record : k ≡ brokenRecord s rule section
+    unfolding brokenRecord
+    found-record = low ∙ ap (lowest (breaks s rule section)) all
 
-  pub judged-accepted : (to i : ℕ) → i ≡ lowest (broken s) to → to ≤ i → Accepted ≡ judged s to
-  unfolding judged
-  judged-accepted to i e l = rw (← e, le-ltb i to l) refl
+    section-by : sectionBroken s rule section ≡ ltb k n
+    unfolding sectionBroken
+    section-by = rw (← found-record, ← all) refl
 
-  pub early-broken : (rule : ℕ) (place : Place) → Broken rule place ≡ judged s 10 → Broken rule place ≡ verdict s
-  unfolding judged verdict brokenRule
-  early-broken rule place e =
-      (elim (ltb (lowest (broken s) 10) 10) as (λ b. ltb (lowest (broken s) 10) 10 ≡ b → Broken rule place ≡ verdict s) [
-        | true ↦ λ f.
-            let l : lowest (broken s) 10 < 10 = ltb-true (lowest (broken s) 10) 10 f in
-            let g : lowest (broken s) 24 ≡ lowest (broken s) 10 = lowest-prefix (broken s) 10 24 (omega arith) l in
-            e ∙ rw (g, f, lt-ltb (lowest (broken s) 10) 24 (omega arith)) refl
-        | false ↦ λ f. let z : _≡_ {A = Verdict} (Broken rule place) Accepted = rw f at e in let y : _≡_ {A = ℕ} 0 1 = cc in absurd (omega arith)
+    pub section-found : k < n → sectionBroken s rule section ≡ true
+    section-found l = section-by ∙ lt-ltb k n l
+
+    pub section-none : n ≤ k → sectionBroken s rule section ≡ false
+    section-none l = section-by ∙ le-ltb k n l
+
+    -- a record that breaks the rule, in the first section with one
+    pub rule-found : section < 8 → ((j : ℕ) → j < section → sectionBroken s rule j ≡ false) → k < n → Broken rule (placeAt section k) ≡ ruleVerdict s rule
+    unfolding ruleVerdict ruleBroken brokenAt brokenSection
+    rule-found inside before l =
+        let e : lowest (sectionBroken s rule) 8 ≡ section = lowest-at (sectionBroken s rule) 8 section inside before (section-found l) in
+        rw (e, lt-ltb section 8 inside, ← found-record) refl
+
+  pub rule-none : (rule : ℕ) → ((j : ℕ) → j < 8 → sectionBroken s rule j ≡ false) → Accepted ≡ ruleVerdict s rule
+  unfolding ruleVerdict ruleBroken brokenSection
+  rule-none rule none =
+      let e : lowest (sectionBroken s rule) 8 ≡ 8 = lowest-none (sectionBroken s rule) 8 none in
+      rw e refl
+
+  -- a rule that gives no acceptance is broken, and one that does is not
+  pub broken-one : (rule : ℕ) (r : ℕ) (p : Place) → Broken r p ≡ ruleVerdict s rule → ruleBroken s rule ≡ true
+  unfolding ruleVerdict
+  broken-one rule r p e =
+      (elim (ruleBroken s rule) as (λ b. ruleBroken s rule ≡ b → b ≡ true) [
+        | true ↦ λ f. refl
+        | false ↦ λ f. let z : _≡_ {A = Verdict} (Broken r p) Accepted = rw f at e in let y : _≡_ {A = ℕ} 0 1 = cc in absurd (omega arith)
       ]) refl
 
-  pub early-none : Accepted ≡ judged s 10 → lowest (broken s) 10 ≡ 10
-  unfolding judged brokenAt
-  early-none e =
-      (elim (ltb (lowest (broken s) 10) 10) as (λ b. ltb (lowest (broken s) 10) 10 ≡ b → lowest (broken s) 10 ≡ 10) [
+  pub broken-none : (rule : ℕ) → Accepted ≡ ruleVerdict s rule → ruleBroken s rule ≡ false
+  unfolding ruleVerdict brokenAt
+  broken-none rule e =
+      (elim (ruleBroken s rule) as (λ b. ruleBroken s rule ≡ b → b ≡ false) [
         | true ↦ λ f. let z = rw f at e in let y : _≡_ {A = ℕ} 0 1 = cc in absurd (omega arith)
-        | false ↦ λ f. omega (arith, lowest-le (broken s) 10, ltb-false (lowest (broken s) 10) 10 f)
+        | false ↦ λ f. refl
       ]) refl
 
-  pub judged-all : judged s 24 ≡ verdict s
-  unfolding judged verdict brokenRule
-  judged-all = refl
+  pub verdict-broken : (i : ℕ) (r : ℕ) (p : Place) → i < 24 → ((j : ℕ) → j < i → ruleBroken s (suc j) ≡ false) → Broken r p ≡ ruleVerdict s (i + 1) → Broken r p ≡ verdict s
+  unfolding verdict brokenRule ruleVerdict
+  verdict-broken i r p inside before e =
+      let f : Broken r p ≡ ruleVerdict s (suc i) = e ∙ ap (ruleVerdict s) (add-one i) in
+      let b : ruleBroken s (suc i) ≡ true = broken-one (suc i) r p f in
+      let l : lowest (λ j. ruleBroken s (suc j)) 24 ≡ i = lowest-at (λ j. ruleBroken s (suc j)) 24 i inside before b in
+      f ∙ rw (l, lt-ltb i 24 inside, b) refl
 
-  pub none-before : lowest (broken s) 0 ≡ 0
-  unfolding lowest lowestFrom
-  none-before = refl
+  pub verdict-none : ((j : ℕ) → j < 24 → ruleBroken s (suc j) ≡ false) → Accepted ≡ verdict s
+  unfolding verdict brokenRule
+  verdict-none none =
+      let l : lowest (λ j. ruleBroken s (suc j)) 24 ≡ 24 = lowest-none (λ j. ruleBroken s (suc j)) 24 none in
+      rw l refl
 
-  pub empty-right : TablesRight s [] [] [] [] [] [] []
-  empty-right =
-      record {
-        named-right = λ x l. absurd (omega arith);
-        spanned-right = λ x l. absurd (omega arith);
-        listed-right = λ x l. absurd (omega arith);
-        tops-right = λ x l. absurd (omega arith);
-        complements-right = λ x l. absurd (omega arith);
-        owners-right = λ x l. absurd (omega arith);
-        leaders-right = λ x l. absurd (omega arith);
-      }
+  -- an empty table is right
+  pub empty-right : (which : Table) → Right s which []
+  empty-right Nothing = tt
+  empty-right Named = λ x l. absurd (omega arith)
+  empty-right Spanned = λ x l. absurd (omega arith)
+  empty-right Listed = λ x l. absurd (omega arith)
+  empty-right Tops = λ x l. absurd (omega arith)
+  empty-right Complements = λ x l. absurd (omega arith)
+  empty-right Owners = λ x l. absurd (omega arith)
+  empty-right Leaders = λ x l. absurd (omega arith)
+  empty-right (Lacking target) = λ x l. absurd (omega arith)
+  empty-right Languages = λ x l. absurd (omega arith)
+  empty-right Repeats = λ x l. absurd (omega arith)
 
-module _ (s : Sheet) (n : ℕ) where
-  pub counts-made : (kind : Naming) (t : List ℕ) → Standing (λ x. repeat (marked Count) (namedBy s kind x) (getD (replicate n 0) x 0)) t
-      → Standing (λ x. counted (namedBy s kind x)) t
-  unfolding counted
-  counts-made kind t h x l = h x l ∙ ap (repeat (marked Count) (namedBy s kind x)) (nought n x)
+  module _ (t₀ : List ℕ) (noughts : Standing (λ x. 0) t₀) where
+    pub counts-made : (kind : Naming) (t : List ℕ) → length t ≡ length t₀ → Standing (λ x. repeat (marked Count) (namedBy s kind x) (getD t₀ x 0)) t
+        → Standing (λ x. counted (namedBy s kind x)) t
+    unfolding counted
+    counts-made kind t e h x l = h x l ∙ ap (repeat (marked Count) (namedBy s kind x)) (noughts x (rw e at l))
 
-  pub spans-made : (t : List ℕ) → Standing (λ x. repeat (marked Count) (namedBy s SetSpans x) (getD (replicate n 0) x 0)) t → Spanned s t
-  spans-made t h x l = counts-made SetSpans t h x l ∙ ap counted (span-namings s x)
+    pub spans-made : (t : List ℕ) → length t ≡ length t₀ → Standing (λ x. repeat (marked Count) (namedBy s SetSpans x) (getD t₀ x 0)) t → tables.Spanned s t
+    spans-made t e h x l = counts-made SetSpans t e h x l ∙ ap counted (span-namings s x)
 
-  pub named-made : (t u : List ℕ) → length u ≡ length t
-      → Standing (λ x. repeat (marked Count) (namedBy s ContentObjects x) (getD (replicate n 0) x 0)) t
-      → Standing (λ x. repeat (marked Count) (namedBy s Children x) (getD t x 0)) u → Named s u
-  named-made t u e h k x l =
-      k x l
-      ∙ ap (repeat (marked Count) (namedBy s Children x)) (h x (rw e at l) ∙ ap (repeat (marked Count) (namedBy s ContentObjects x)) (nought n x))
-      ∙ namings-added s x
+    pub named-made : (t u : List ℕ) → length t ≡ length t₀ → length u ≡ length t
+        → Standing (λ x. repeat (marked Count) (namedBy s ContentObjects x) (getD t₀ x 0)) t
+        → Standing (λ x. repeat (marked Count) (namedBy s Children x) (getD t x 0)) u → tables.Named s u
+    named-made t u d e h k x l =
+        let m : x < length t = rw e at l in
+        k x l
+        ∙ ap (repeat (marked Count) (namedBy s Children x)) (h x m ∙ ap (repeat (marked Count) (namedBy s ContentObjects x)) (noughts x (rw d at m)))
+        ∙ namings-added s x
 
-  pub firsts-made : (kind : Naming) (t : List ℕ) → Standing (λ x. firstBy s kind x (getD (replicate n 0) x 0)) t
-      → Standing (λ x. firstBy s kind x 0) t
-  firsts-made kind t h x l = h x l ∙ ap (firstBy s kind x) (nought n x)
+    pub firsts-made : (kind : Naming) (t : List ℕ) → length t ≡ length t₀ → Standing (λ x. firstBy s kind x (getD t₀ x 0)) t
+        → Standing (λ x. firstBy s kind x 0) t
+    firsts-made kind t e h x l = h x l ∙ ap (firstBy s kind x) (noughts x (rw e at l))

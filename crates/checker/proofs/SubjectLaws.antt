@@ -24,18 +24,6 @@ past-rows rule section h = ap (λ (row : List ℕ). getD row section 0) (rows ru
     rows : (rule : ℕ) → 25 ≤ rule → getD subjectTable rule [] ≡ []
     rows rule h = List·getD-eq-default subjectTable [] {n = rule} (unfold subjectTable in h)
 
--- each row has 8 entries: one test over the whole table
-row-lengths : any (λ rule. not (leb (length (getD subjectTable rule [])) 8)) 25 ≡ false
-unfolding any subjectTable
-row-lengths = refl
-
--- no section has a number past 7
-past-columns : (rule section : ℕ) → rule < 25 → 8 ≤ section → subjectKind rule section ≡ 0
-unfolding subjectKind
-past-columns rule section l h =
-    List·getD-eq-default (getD subjectTable rule []) 0 {n = section}
-    (le-trans (leb-true _ _ (not-false _ (any-none (λ r. not (leb (length (getD subjectTable r [])) 8)) 25 row-lengths rule l))) h)
-
 -- a number that is no rule's is broken nowhere
 pub no-rule : (s : Sheet) (rule section k : ℕ) → (1 ≤ rule → 25 ≤ rule) → false ≡ breaks s rule section k
 unfolding breaks rules
@@ -91,14 +79,6 @@ row-digits rule i l =
       | false ↦ λ e. ap (λ (n : ℕ). digit n i) (no-row rule (ltb-false rule 25 e)) ∙ no-digit i ∙ sym (past-rows rule i (ltb-false rule 25 e))
     ]) refl
 
--- no section has a number past 7
-pub past-kinds : (rule section : ℕ) → 8 ≤ section → subjectKind rule section ≡ 0
-past-kinds rule section h =
-    (elim (ltb rule 25) as (λ t. ltb rule 25 ≡ t → subjectKind rule section ≡ 0) [
-      | true ↦ λ e. past-columns rule section (ltb-true rule 25 e) h
-      | false ↦ λ e. past-rows rule section (ltb-false rule 25 e)
-    ]) refl
-
 -- what is left of a rule's row has the digits from a section on
 abbrev pub Rest : ℕ → ℕ → ℕ → Type 0
 Rest rule section row = (i : ℕ) → section + i < 8 → digit row i ≡ subjectKind rule (section + i)
@@ -117,9 +97,7 @@ module _ (rule section row : ℕ) (rest : Rest rule section row) where
   unfolding digit
   rest-next i l = let z : section + suc i ≡ section + 1 + i = omega arith in rest (suc i) (omega arith) ∙ ap (λ (n : ℕ). subjectKind rule n) z
 
--- a section without subjects is not broken
-pub no-subject : (s : Sheet) (rule section kind n : ℕ) → kind ≡ subjectKind rule section → n ≡ subjectsOf s section kind → n ≡ 0 → false ≡ sectionBroken s rule section
-unfolding sectionBroken subjects subjectsOf
-no-subject s rule section kind n e f z =
-    let g : subjects s rule section ≡ 0 = ap (subjectsOf s section) (sym e) ∙ sym f ∙ z in
-    sym (ap (ltb (brokenRecord s rule section)) g ∙ le-ltb (brokenRecord s rule section) 0 zero-le)
+-- how many subjects a section has, by its digit
+pub all-subjects : (s : Sheet) (rule section kind n : ℕ) → kind ≡ subjectKind rule section → n ≡ subjectsOf s section kind → n ≡ subjects s rule section
+unfolding subjects subjectsOf
+all-subjects s rule section kind n e f = f ∙ ap (subjectsOf s section) e

@@ -1,14 +1,52 @@
--- The tables that the checker lends the rules are right. Empty ones are. Assumes nothing.
+-- The tables that the checker lends the rules, and that they are right. Empty ones are. Assumes nothing.
 use Prim.Native.Nat.{ℕ}
+use mathlib.Core.Bool.{cond}
 use mathlib.Core.List.{List}
+use lib.Dec.{eqb}
 use Rattle.sheet.specs.Words.{Sheet}
-use Rattle.tables.specs.Right.{Named, Spanned, Listed, Tops, Complemented, Owners, Leaders}
+use Rattle.sheet.specs.Fields.{programmes, objects}
+use Rattle.relations.specs.declared.EntryTest.the-variants.{Lacks, NoLanguage}
+use Rattle.tables.specs.Right as tables
+use Rattle.runs.specs.Runs.{NextRight, RepeatRight}
+use Rattle.rules.specs.Loops.{firstTarget, secondTarget}
+use Rattle.checker.specs.declared.Table.{Table}
+use Rattle.checker.specs.declared.Table.the-variants.{Nothing, Named, Spanned, Listed, Tops, Complements, Owners, Leaders, Lacking, Languages, Repeats}
 
-pub record TablesRight (s : Sheet) (named spanned listed tops complements owners leaders : List ℕ) : Type 0 where
-  pub named-right : Named s named
-  pub spanned-right : Spanned s spanned
-  pub listed-right : Listed s listed
-  pub tops-right : Tops s tops
-  pub complements-right : Complemented s complements
-  pub owners-right : Owners s owners
-  pub leaders-right : Leaders s leaders
+-- the table is what it is to be
+abbrev pub Right : Sheet → Table → List ℕ → Type 0
+Right s Nothing t = Unit {0}
+Right s Named t = tables.Named s t
+Right s Spanned t = tables.Spanned s t
+Right s Listed t = tables.Listed s t
+Right s Tops t = tables.Tops s t
+Right s Complements t = tables.Complemented s t
+Right s Owners t = tables.Owners s t
+Right s Leaders t = tables.Leaders s t
+Right s (Lacking target) t = NextRight s (Lacks target) t
+Right s Languages t = NextRight s NoLanguage t
+Right s Repeats t = RepeatRight s t
+
+-- the first table that a rule is lent for the records of a section
+unfoldable pub firstTable : ℕ → ℕ → Table
+firstTable rule section =
+    cond (eqb rule 5) (Lacking (firstTarget section))
+    (cond (eqb rule 6) Languages
+    (cond (eqb rule 9) Repeats
+    (cond (eqb rule 11) (cond (eqb section objects) Named Spanned)
+    (cond (eqb rule 12) (cond (eqb section programmes) Repeats Listed)
+    (cond (eqb rule 15) Tops
+    (cond (eqb rule 17) Owners
+    (cond (eqb rule 18) Owners
+    (cond (eqb rule 19) Tops
+    (cond (eqb rule 22) Owners
+    (cond (eqb rule 23) Tops
+    (cond (eqb rule 24) Tops Nothing)))))))))))
+
+-- the second one
+unfoldable pub secondTable : ℕ → ℕ → Table
+secondTable rule section =
+    cond (eqb rule 5) (Lacking (secondTarget section))
+    (cond (eqb rule 19) Complements
+    (cond (eqb rule 22) Leaders
+    (cond (eqb rule 23) Complements
+    (cond (eqb rule 24) Complements Nothing))))

@@ -1,3 +1,30 @@
 // The checker: the first broken rule with its place, or acceptance. It is one search over rules, sections and records.
+pub mod lent;
 pub mod search;
 pub mod subjects;
+
+// A table that a rule is lent, to find by one look what it would search for.
+pub enum Table {
+    // none
+    Nothing,
+    // how often contents and child lists name an object
+    Named,
+    // in how many spans a value set is
+    Spanned,
+    // how often content lists name a content
+    Listed,
+    // how often contents name an object
+    Tops,
+    // how often complement lists name it
+    Complements,
+    // whose a value set is
+    Owners,
+    // whose complement an object is
+    Leaders,
+    // the next reference that this section has no record for
+    Lacking(u8),
+    // the next reference that is no language
+    Languages,
+    // the next reference that repeats one before it
+    Repeats,
+}

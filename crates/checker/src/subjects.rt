@@ -27,7 +27,7 @@ use sheet::layout::count;
 use tables::marks::mark_included;
 ghost use lib.ListN.{length};
 ghost use mathlib.Core.Path.{_≡_};
-ghost use Rattle.checker.specs.Tables.{TablesRight};
+ghost use Rattle.checker.specs.Tables.{Right, firstTable, secondTable};
 ghost use Rattle.checker.specs.Rows.{subjectRow, subjectsOf};
 ghost use Rattle.profile.specs.Verdict.{breaks};
 ghost use Rattle.sheet.specs.Words.{sheetOf};
@@ -80,40 +80,35 @@ pub fn subjects(s: &[u8], section: u8, kind: u16) -> u16
 // Whether a record of a section breaks a rule. `marks` is written for the rules about a programme.
 pub fn breaks(
     s: &[u8],
-    named: &[u16],
-    spanned: &[u16],
-    listed: &[u16],
-    tops: &[u16],
-    complements: &[u16],
-    owners: &[u16],
-    leaders: &[u16],
+    first: &[u16],
+    second: &[u16],
     marks: &mut [u16],
     rule: u8,
     section: u8,
     k: u16,
 ) -> bool
-    ensures { λ r. ⌜ (length (now (marks .exit)) ≡ length (now (marks .entry))) × (TablesRight (sheetOf (now (s .entry))) (now (named .entry)) (now (spanned .entry)) (now (listed .entry)) (now (tops .entry)) (now (complements .entry)) (now (owners .entry)) (now (leaders .entry)) → r ≡ breaks (sheetOf (now (s .entry))) rule section k) ⌝ }
+    ensures { λ r. ⌜ (length (now (marks .exit)) ≡ length (now (marks .entry))) × (Right (sheetOf (now (s .entry))) (firstTable rule section) (now (first .entry)) → Right (sheetOf (now (s .entry))) (secondTable rule section) (now (second .entry)) → r ≡ breaks (sheetOf (now (s .entry))) rule section k) ⌝ }
 {
     match rule {
         1 => rule1(s, section, k),
         2 => rule2(s, section, k),
         3 => rule3(s, section, k),
         4 => rule4(s, section, k),
-        5 => rule5(s, section, k),
-        6 => rule6(s, section, k),
+        5 => rule5(s, first, second, section, k),
+        6 => rule6(s, first, section, k),
         7 => rule7(s, section, k),
         8 => rule8(s, section, k),
-        9 => rule9(s, section, k),
+        9 => rule9(s, first, section, k),
         10 => rule10(s, section, k),
-        11 => rule11(s, named, spanned, section, k),
-        12 => rule12(s, listed, section, k),
+        11 => rule11(s, first, section, k),
+        12 => rule12(s, first, section, k),
         13 => rule13(s, section, k),
         14 => rule14(s, section, k),
-        15 => rule15(s, tops, section, k),
+        15 => rule15(s, first, section, k),
         16 => rule16(s, section, k),
-        17 => rule17(s, owners, section, k),
-        18 => rule18(s, owners, section, k),
-        19 => rule19(s, tops, complements, section, k),
+        17 => rule17(s, first, section, k),
+        18 => rule18(s, first, section, k),
+        19 => rule19(s, first, second, section, k),
         20 => rule20(s, section, k),
         21 => {
             mark_included(s, k, marks);
@@ -121,10 +116,10 @@ pub fn breaks(
         },
         22 => {
             mark_included(s, k, marks);
-            rule22(s, owners, leaders, marks, section, k)
+            rule22(s, first, second, marks, section, k)
         },
-        23 => rule23(s, tops, complements, section, k),
-        24 => rule24(s, tops, complements, section, k),
+        23 => rule23(s, first, second, section, k),
+        24 => rule24(s, first, second, section, k),
         _ => false,
     }
 }

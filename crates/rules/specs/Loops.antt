@@ -1,11 +1,11 @@
 -- What each loop of the rules computes, over any of its tests. Assumes nothing.
 use Prim.Native.Nat.{ℕ, _+_}
-use mathlib.Core.Bool.{Bool, not, _&&_}
+use mathlib.Core.Bool.{Bool, not, cond, _&&_}
 use mathlib.Core.List.{List}
 use lib.Dec.{eqb}
 use Rattle.sheet.specs.Words.{Sheet}
 use Rattle.sheet.specs.Layout.{count, field, first, number, entry}
-use Rattle.sheet.specs.Fields.{objects, tracks, valueSets, trackList, setSpan, trackOrdinal, setOwn}
+use Rattle.sheet.specs.Fields.{programmes, contents, objects, tracks, valueSets, trackList, setSpan, trackOrdinal, setOwn}
 use Rattle.profile.specs.Counting.{any, howMany, sum, twoOf}
 use Rattle.profile.specs.Relations.{times, leader, leaderOf, members, includes, included, whollyIncluded, owner, channels, trackAt}
 use Rattle.profile.specs.Rules.{badComplement, differs, setsNamed, setsDiffer}
@@ -20,6 +20,13 @@ use Rattle.rules.specs.declared.ListedTest.{ListedTest}
 use Rattle.rules.specs.declared.ListedTest.the-variants.{BadComplement, DiffersFrom, NotIncluded}
 use Rattle.rules.specs.declared.GroupTest.{GroupTest}
 use Rattle.rules.specs.declared.GroupTest.the-variants.{Split, PartlySet}
+
+-- the two sections that lists of programmes, and lists of objects, name records of
+unfoldable pub firstTarget : ℕ → ℕ
+firstTarget section = cond (eqb section programmes) contents tracks
+
+unfoldable pub secondTarget : ℕ → ℕ
+secondTarget section = cond (eqb section programmes) valueSets objects
 
 -- two entries pass the test
 abbrev pub pairTest : Sheet → PairTest → ℕ → ℕ → Bool

@@ -1,10 +1,10 @@
 // Rules 4, 5 and 9: lists and the indices and labels in them.
-use crate::repeats::repeats;
+use crate::repeats::repeats_by;
 use relations::EntryTest;
-use relations::entries::any_entry;
 use relations::objects::has_pack;
 use relations::objects::lacks;
 use relations::objects::pack_of;
+use runs::reads::any_entry_by;
 use sheet::fields::CHILD_LIST;
 use sheet::fields::COMPLEMENT_LIST;
 use sheet::fields::CONTENT_LABELS;
@@ -27,6 +27,9 @@ use sheet::layout::field;
 use sheet::layout::number;
 ghost use mathlib.Core.Path.{_≡_};
 ghost use Rattle.profile.specs.Rules.{beyond, listLacks, rule4, rule5, rule9};
+ghost use Rattle.relations.specs.declared.EntryTest.the-variants.{Lacks};
+ghost use Rattle.rules.specs.Loops.{firstTarget, secondTarget};
+ghost use Rattle.runs.specs.Runs.{NextRight, RepeatRight};
 ghost use Rattle.sheet.specs.Words.{sheetOf};
 
 // The list or span at a position of a record ends beyond the target section.
@@ -55,36 +58,59 @@ pub fn rule4(s: &[u8], section: u8, k: u16) -> bool
 }
 
 // An entry of the list at a position of a record names an index that the target section lacks.
-fn list_lacks(s: &[u8], target: u8, section: u8, k: u16, at: u8) -> bool
-    ensures { λ r. ⌜ r ≡ listLacks (sheetOf (now (s .entry))) target section k at ⌝ }
+fn list_lacks(s: &[u8], next: &[u16], target: u8, section: u8, k: u16, at: u8) -> bool
+    ensures { λ r. ⌜ (NextRight (sheetOf (now (s .entry))) (Lacks target) (now (next .entry)) → r ≡ listLacks (sheetOf (now (s .entry))) target section k at) ⌝ }
 {
-    any_entry(s, section, k, at, EntryTest::Lacks(target))
+    any_entry_by(s, next, section, k, at, EntryTest::Lacks(target))
 }
 
-pub fn rule5(s: &[u8], section: u8, k: u16) -> bool
-    ensures { λ r. ⌜ r ≡ rule5 (sheetOf (now (s .entry))) section k ⌝ }
+// The section that contents, or tracks, are listed for.
+pub fn first_target(section: u8) -> u8
+    ensures { λ r. ⌜ r ≡ firstTarget section ⌝ }
+{
+    if section == PROGRAMMES {
+        CONTENTS
+    } else {
+        TRACKS
+    }
+}
+
+// The section that value sets, or objects, are listed for.
+pub fn second_target(section: u8) -> u8
+    ensures { λ r. ⌜ r ≡ secondTarget section ⌝ }
+{
+    if section == PROGRAMMES {
+        VALUE_SETS
+    } else {
+        OBJECTS
+    }
+}
+
+// It is lent a table for each of the two sections that the lists name records of.
+pub fn rule5(s: &[u8], first: &[u16], second: &[u16], section: u8, k: u16) -> bool
+    ensures { λ r. ⌜ (NextRight (sheetOf (now (s .entry))) (Lacks (firstTarget section)) (now (first .entry)) → NextRight (sheetOf (now (s .entry))) (Lacks (secondTarget section)) (now (second .entry)) → r ≡ rule5 (sheetOf (now (s .entry))) section k) ⌝ }
 {
     match section {
-        1 => list_lacks(s, CONTENTS, PROGRAMMES, k, CONTENT_LIST)
-            | list_lacks(s, VALUE_SETS, PROGRAMMES, k, SET_LIST),
+        1 => list_lacks(s, first, CONTENTS, PROGRAMMES, k, CONTENT_LIST)
+            | list_lacks(s, second, VALUE_SETS, PROGRAMMES, k, SET_LIST),
         2 => lacks(s, OBJECTS, field(s, CONTENTS, k, CONTENT_OBJECT)),
         3 => {
             has_pack(s, k) & lacks(s, PACKS, pack_of(s, k))
-                | list_lacks(s, TRACKS, OBJECTS, k, TRACK_LIST)
-                | list_lacks(s, OBJECTS, OBJECTS, k, CHILD_LIST)
-                | list_lacks(s, OBJECTS, OBJECTS, k, COMPLEMENT_LIST)
+                | list_lacks(s, first, TRACKS, OBJECTS, k, TRACK_LIST)
+                | list_lacks(s, second, OBJECTS, OBJECTS, k, CHILD_LIST)
+                | list_lacks(s, second, OBJECTS, OBJECTS, k, COMPLEMENT_LIST)
         }
         5 => lacks(s, PACKS, field(s, TRACKS, k, TRACK_PACK)),
         _ => false,
     }
 }
 
-pub fn rule9(s: &[u8], section: u8, k: u16) -> bool
-    ensures { λ r. ⌜ r ≡ rule9 (sheetOf (now (s .entry))) section k ⌝ }
+pub fn rule9(s: &[u8], next: &[u16], section: u8, k: u16) -> bool
+    ensures { λ r. ⌜ (RepeatRight (sheetOf (now (s .entry))) (now (next .entry)) → r ≡ rule9 (sheetOf (now (s .entry))) section k) ⌝ }
 {
     match section {
-        1 => repeats(s, PROGRAMMES, k, PROGRAMME_LABELS),
-        2 => repeats(s, CONTENTS, k, CONTENT_LABELS),
+        1 => repeats_by(s, next, PROGRAMMES, k, PROGRAMME_LABELS),
+        2 => repeats_by(s, next, CONTENTS, k, CONTENT_LABELS),
         _ => false,
     }
 }

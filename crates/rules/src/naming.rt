@@ -1,6 +1,6 @@
 // Rules 11 and 12: what names what, and how often.
 use crate::loops::total_times;
-use crate::repeats::repeats;
+use crate::repeats::repeats_by;
 use relations::RecordTest;
 use relations::records::any_record;
 use relations::records::how_many_records;
@@ -14,7 +14,8 @@ ghost use mathlib.Core.Path.{_≡_};
 ghost use Rattle.profile.specs.Counting.{any, howMany};
 ghost use Rattle.profile.specs.Relations.{hasSet, lists, namings};
 ghost use Rattle.profile.specs.Rules.{rule11, rule12};
-ghost use Rattle.sheet.specs.Fields.{contentList, objects, programmes};
+ghost use Rattle.runs.specs.Runs.{RepeatRight};
+ghost use Rattle.sheet.specs.Fields.{contentList, contents, objects, programmes, valueSets};
 ghost use Rattle.sheet.specs.Layout.{count};
 ghost use Rattle.sheet.specs.Words.{sheetOf};
 ghost use Rattle.tables.specs.Right.{Listed, Named, Spanned};
@@ -63,22 +64,24 @@ fn is_listed(s: &[u8], listed: &[u16], c: u16) -> bool
     }
 }
 
-pub fn rule11(s: &[u8], named: &[u16], spanned: &[u16], section: u8, k: u16) -> bool
-    ensures { λ r. ⌜ (Named (sheetOf (now (s .entry))) (now (named .entry)) → Spanned (sheetOf (now (s .entry))) (now (spanned .entry)) → r ≡ rule11 (sheetOf (now (s .entry))) section k) ⌝ }
+// It is lent the table of namings for an object, and that of spans for a value set.
+pub fn rule11(s: &[u8], table: &[u16], section: u8, k: u16) -> bool
+    ensures { λ r. ⌜ ((section ≡ objects → Named (sheetOf (now (s .entry))) (now (table .entry))) → (section ≡ valueSets → Spanned (sheetOf (now (s .entry))) (now (table .entry))) → r ≡ rule11 (sheetOf (now (s .entry))) section k) ⌝ }
 {
     match section {
-        3 => !named_once(s, named, k),
-        7 => !spanned_once(s, spanned, k),
+        3 => !named_once(s, table, k),
+        7 => !spanned_once(s, table, k),
         _ => false,
     }
 }
 
-pub fn rule12(s: &[u8], listed: &[u16], section: u8, k: u16) -> bool
-    ensures { λ r. ⌜ (Listed (sheetOf (now (s .entry))) (now (listed .entry)) → r ≡ rule12 (sheetOf (now (s .entry))) section k) ⌝ }
+// It is lent the table of repeats for a programme, and that of content lists for a content.
+pub fn rule12(s: &[u8], table: &[u16], section: u8, k: u16) -> bool
+    ensures { λ r. ⌜ ((section ≡ programmes → RepeatRight (sheetOf (now (s .entry))) (now (table .entry))) → (section ≡ contents → Listed (sheetOf (now (s .entry))) (now (table .entry))) → r ≡ rule12 (sheetOf (now (s .entry))) section k) ⌝ }
 {
     match section {
-        1 => repeats(s, PROGRAMMES, k, CONTENT_LIST),
-        2 => !is_listed(s, listed, k),
+        1 => repeats_by(s, table, PROGRAMMES, k, CONTENT_LIST),
+        2 => !is_listed(s, table, k),
         _ => false,
     }
 }

@@ -7,6 +7,8 @@ use crate::loops::two_entries;
 use relations::EntryTest;
 use relations::entries::any_entry;
 use relations::programmes::named_set;
+use runs::reads::among;
+use runs::reads::inside;
 use sheet::fields::OBJECTS;
 use sheet::fields::PROGRAMMES;
 use sheet::fields::SET_LIST;
@@ -25,6 +27,7 @@ ghost use mathlib.Core.Bool.{cond, not};
 ghost use mathlib.Core.Path.{_≡_};
 ghost use Rattle.profile.specs.Relations.{channels};
 ghost use Rattle.profile.specs.Rules.{repeats};
+ghost use Rattle.runs.specs.Runs.{RepeatRight};
 ghost use Rattle.rules.specs.Loops.{badChannel, keyOf, keyRight, keysAlike, twoEntries};
 ghost use Rattle.sheet.specs.Words.{sheetOf};
 ghost use Rattle.sheet.specs.Fields.{objects, programmes, setList, trackList};
@@ -85,6 +88,19 @@ pub fn repeats(s: &[u8], section: u8, k: u16, at: u8) -> bool
         two_entries(s, &none, &none, section, k, at, PairTest::Same)
     } else {
         keys_alike(s, &none, section, k, at, Key::Entry)
+    }
+}
+
+// The same by one look at a table, where it has the list.
+pub fn repeats_by(s: &[u8], next: &[u16], section: u8, k: u16, at: u8) -> bool
+    ensures { λ r. ⌜ (RepeatRight (sheetOf (now (s .entry))) (now (next .entry)) → r ≡ repeats (sheetOf (now (s .entry))) section k at) ⌝ }
+{
+    let first = field(s, section, k, at);
+    let n = number(s, section, k, at);
+    if inside(s, next, first, n) {
+        among(next, first, n)
+    } else {
+        repeats(s, section, k, at)
     }
 }
 

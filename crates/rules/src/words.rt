@@ -1,12 +1,12 @@
 // Rule 6: words and labels outside their values.
 use relations::EntryTest;
-use relations::entries::any_entry;
 use relations::sets::object_maximum;
 use relations::sets::object_minimum;
 use relations::sets::object_value;
 use relations::sets::set_maximum;
 use relations::sets::set_minimum;
 use relations::sets::set_value;
+use runs::reads::any_entry_by;
 use sheet::fields::CONTENT_LABELS;
 use sheet::fields::CONTENT_LANGUAGE;
 use sheet::fields::CONTENT_LOUDNESS;
@@ -32,21 +32,23 @@ use values::values::is_minimum;
 use values::values::is_value;
 ghost use mathlib.Core.Path.{_≡_};
 ghost use Rattle.profile.specs.Rules.{badLabel, badObject, badObjectWords, badPack, badSet, badSetWords, badSpeech, badWords, objectRange, rule6, setRange};
+ghost use Rattle.relations.specs.declared.EntryTest.the-variants.{NoLanguage};
+ghost use Rattle.runs.specs.Runs.{NextRight};
 ghost use Rattle.sheet.specs.Words.{sheetOf};
 
 // A label outside.
-fn bad_label(s: &[u8], section: u8, k: u16, at: u8) -> bool
-    ensures { λ r. ⌜ r ≡ badLabel (sheetOf (now (s .entry))) section k at ⌝ }
+fn bad_label(s: &[u8], next: &[u16], section: u8, k: u16, at: u8) -> bool
+    ensures { λ r. ⌜ (NextRight (sheetOf (now (s .entry))) NoLanguage (now (next .entry)) → r ≡ badLabel (sheetOf (now (s .entry))) section k at) ⌝ }
 {
-    any_entry(s, section, k, at, EntryTest::NoLanguage)
+    any_entry_by(s, next, section, k, at, EntryTest::NoLanguage)
 }
 
 // Language, labels and loudness of a programme or content.
-fn bad_speech(s: &[u8], section: u8, k: u16, lang: u8, labels: u8, loud: u8) -> bool
-    ensures { λ r. ⌜ r ≡ badSpeech (sheetOf (now (s .entry))) section k lang labels loud ⌝ }
+fn bad_speech(s: &[u8], next: &[u16], section: u8, k: u16, lang: u8, labels: u8, loud: u8) -> bool
+    ensures { λ r. ⌜ (NextRight (sheetOf (now (s .entry))) NoLanguage (now (next .entry)) → r ≡ badSpeech (sheetOf (now (s .entry))) section k lang labels loud) ⌝ }
 {
     !language(field(s, section, k, lang))
-        | bad_label(s, section, k, labels)
+        | bad_label(s, next, section, k, labels)
         | !loudness(field(s, section, k, loud))
 }
 
@@ -108,7 +110,7 @@ fn bad_object(s: &[u8], o: u16) -> bool
         | bad_object_words(s, o, Sort::Offsets)
 }
 
-fn bad_pack(s: &[u8], k: u16) -> bool
+pub fn bad_pack(s: &[u8], k: u16) -> bool
     ensures { λ r. ⌜ r ≡ badPack (sheetOf (now (s .entry))) k ⌝ }
 {
     let kind = field(s, PACKS, k, PACK_KIND);
@@ -125,12 +127,13 @@ fn bad_set(s: &[u8], v: u16) -> bool
         | (own == 0) & (set_range(s, v, Sort::Gains) | set_range(s, v, Sort::Offsets))
 }
 
-pub fn rule6(s: &[u8], section: u8, k: u16) -> bool
-    ensures { λ r. ⌜ r ≡ rule6 (sheetOf (now (s .entry))) section k ⌝ }
+pub fn rule6(s: &[u8], next: &[u16], section: u8, k: u16) -> bool
+    ensures { λ r. ⌜ (NextRight (sheetOf (now (s .entry))) NoLanguage (now (next .entry)) → r ≡ rule6 (sheetOf (now (s .entry))) section k) ⌝ }
 {
     match section {
         1 => bad_speech(
             s,
+            next,
             PROGRAMMES,
             k,
             PROGRAMME_LANGUAGE,
@@ -139,6 +142,7 @@ pub fn rule6(s: &[u8], section: u8, k: u16) -> bool
         ),
         2 => bad_speech(
             s,
+            next,
             CONTENTS,
             k,
             CONTENT_LANGUAGE,

@@ -181,6 +181,6 @@ pub fn object_breaks(s: &[u8], named: &[u16], tops: &[u16], complements: &[u16],
         )
         | source_breaks(s, o)
         | complements_break(s, tops, complements, o)
-        | rule11(s, named, &named[..0], OBJECTS, o)
+        | rule11(s, named, OBJECTS, o)
         | rule15(s, tops, OBJECTS, o)
 }

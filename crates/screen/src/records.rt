@@ -2,21 +2,23 @@
 use crate::objects::object_breaks;
 use crate::speech::content_breaks;
 use crate::speech::programme_breaks;
+use relations::objects::lacks;
 use rules::header::rule1;
 use rules::header::rule2;
 use rules::header::rule3;
 use rules::limits::rule7;
 use rules::limits::rule10;
-use rules::lists::rule5;
 use rules::naming::rule11;
 use rules::naming::rule12;
-use rules::words::rule6;
+use rules::words::bad_pack;
 use sheet::fields::CONTENTS;
 use sheet::fields::PACKS;
 use sheet::fields::REFERENCES;
+use sheet::fields::TRACK_PACK;
 use sheet::fields::TRACKS;
 use sheet::fields::VALUE_SETS;
 use sheet::layout::count;
+use sheet::layout::field;
 ghost use mathlib.Core.Bool.{false, true};
 ghost use mathlib.Core.Path.{_≡_};
 ghost use Rattle.profile.specs.Counting.{any};
@@ -60,9 +62,9 @@ fn record_breaks(
         1 => programme_breaks(s, k),
         2 => content_breaks(s, k) | rule12(s, listed, CONTENTS, k),
         3 => object_breaks(s, named, tops, complements, k),
-        4 => rule6(s, PACKS, k) | rule10(s, PACKS, k),
-        5 => rule5(s, TRACKS, k),
-        7 => rule11(s, named, spanned, VALUE_SETS, k),
+        4 => bad_pack(s, k) | rule10(s, PACKS, k),
+        5 => lacks(s, PACKS, field(s, TRACKS, k, TRACK_PACK)),
+        7 => rule11(s, spanned, VALUE_SETS, k),
         _ => false,
     }
 }

@@ -97,7 +97,7 @@ run-has : (f v n : ℕ) → any (λ i. eqb (f + i) v) n ≡ (leb f v && ltb v (f
 run-has f v n = any-howMany (λ i. eqb (f + i) v) n ∙ ap (λ (c : ℕ). not (eqb c 0)) (run-times f v n) ∙ flag (leb f v && ltb v (f + n))
 
 -- tests that agree
-any-below : (p q : ℕ → Bool) (n : ℕ) → ((i : ℕ) → i < n → p i ≡ q i) → any p n ≡ any q n
+pub any-below : (p q : ℕ → Bool) (n : ℕ) → ((i : ℕ) → i < n → p i ≡ q i) → any p n ≡ any q n
 unfolding any
 any-below p q zero h = refl
 any-below p q (suc n) h = ap₂ (λ (a b : Bool). a || b) (any-below p q n (λ i l. h i (omega arith))) (h n (omega arith))
@@ -131,7 +131,7 @@ turned : (b : Bool) → _≡_ {A = ℕ} (cond b 0 1) (cond (not b) 1 0)
 turned true = refl
 turned false = refl
 
-eqb-turned : (a b : ℕ) → eqb a b ≡ eqb b a
+pub eqb-turned : (a b : ℕ) → eqb a b ≡ eqb b a
 eqb-turned a b =
     (elim (eqb a b) as (λ c. eqb a b ≡ c → c ≡ eqb b a) [
       | true ↦ λ e. sym (eq-eqb b a (sym (eqb-true a b e)))

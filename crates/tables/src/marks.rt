@@ -25,7 +25,7 @@ fn after(mark: Mark, c: u16) -> u16
 }
 
 // Marks one place.
-fn mark_at(table: &mut [u16], x: u32, mark: Mark)
+pub fn mark_at(table: &mut [u16], x: u32, mark: Mark)
     ensures { λ r. ⌜ (length (now (table .exit)) ≡ length (now (table .entry))) × Standing (λ z. cond (eqb x z) (marked mark (getD (now (table .entry)) z 0)) (getD (now (table .entry)) z 0)) (now (table .exit)) ⌝ }
 {
     let i = x as usize;

@@ -1,48 +1,69 @@
--- The first ten rules, then the others. Assumes nothing.
-use mathlib.Core.Path.{_≡_, sym, _∙_}
+-- No rule passed is broken. Assumes nothing.
+use Prim.Native.Nat.{ℕ, suc, _-_, _<_, _≤_}
+use mathlib.Core.Path.{_≡_, sym, ap, _∙_}
+use mathlib.Core.Bool.{false}
+use native.Mathlib.Omega.{arith}
+use native.Mathlib.Numerals.{add-one}
+use borrow.Author.Count.{below-none, below-more}
 use Rattle.sheet.specs.Words.{sheetOf}
-use Rattle.checker.specs.Checked.{checked}
-use Rattle.checker.proofs.SearchLaws.{early-broken, early-none, judged-all, none-before}
+use Rattle.profile.specs.Verdict.{ruleBroken}
+use Rattle.checker.specs.Checked.{checked, ruleVerdict}
+use Rattle.checker.proofs.SearchLaws.{broken-none, verdict-broken, verdict-none}
 use borrow.Author.Needs.{needs}
 use Rattle.checker.proofs.search.first_broken.Statement.{statement}
 use Rattle.checker.proofs.search.first_broken.Tie as tie
 
-judge-plainly-requires : tie.Need-judge-plainly-requires
-judge-plainly-requires c κs = search needs
+abbrev Inv-loop : tie.InvT-loop
+Inv-loop sheet i₀ i = (i ≤ 24) × ((j : ℕ) → j < i → ruleBroken (sheetOf sheet) (suc j) ≡ false)
 
-enum-known-first : tie.Need-enum-known-first
-enum-known-first c = search needs
+abbrev μ-loop : tie.MeasureT-loop
+μ-loop sheet i₀ i = 24 - i
 
-enum-told : tie.Need-enum-told
+loop-holds : tie.Need-loop-holds Inv-loop μ-loop
+loop-holds c = (search needs, below-none _)
+
+add-rule-verdict : tie.Need-add-rule-verdict Inv-loop μ-loop
+add-rule-verdict c = search needs
+
+rule-verdict-requires : tie.Need-rule-verdict-requires Inv-loop μ-loop
+rule-verdict-requires c κs = search needs
+
+enum-known-v : tie.Need-enum-known-v Inv-loop μ-loop
+enum-known-v c = search needs
+
+returns : tie.Need-returns Inv-loop μ-loop
+unfolding checked
+returns c = verdict-broken (sheetOf (c .before .before .before .before .before .before .before .args .sheet .now)) (c .before .before .before .before .before .loop .i) _ _ (c .before .before .before .before .loop-test .taken) (c .before .before .before .before .before .loop .inv .1) (sym (c .before .v .given .1) ∙ c .before .before .before .rule-verdict .ensures)
+
+enum-told : tie.Need-enum-told Inv-loop μ-loop
 enum-told c = search needs
 
-judge-plainly-requires-2 : tie.Need-judge-plainly-requires-2
-judge-plainly-requires-2 c κs = search needs
+add-i : tie.Need-add-i Inv-loop μ-loop
+add-i c = search needs
 
-judge-by-tables-requires : tie.Need-judge-by-tables-requires
-judge-by-tables-requires c κs = search needs
+loop-less : tie.Need-loop-less Inv-loop μ-loop
+loop-less c = search needs
 
-returns : tie.Need-returns
+loop-again : tie.Need-loop-again Inv-loop μ-loop
+loop-again c = (search needs, below-more _ _ (c .before .before .before .before .loop .inv .1) (broken-none (sheetOf (c .before .before .before .before .before .before .args .sheet .now)) (suc (c .before .before .before .before .loop .i)) (sym (c .enum-told .given .1) ∙ c .before .before .rule-verdict .ensures ∙ ap (ruleVerdict (sheetOf (c .before .before .before .before .before .before .args .sheet .now))) (add-one (c .before .before .before .before .loop .i)))))
+
+returns-2 : tie.Need-returns-2 Inv-loop μ-loop
 unfolding checked
-returns c = early-broken (sheetOf (c .before .before .before .before .before .args .sheet .now)) _ _ (sym (c .before .first .given .1) ∙ c .before .before .before .judge-plainly .ensures (none-before (sheetOf (c .before .before .before .before .before .args .sheet .now))))
-
-returns-2 : tie.Need-returns-2
-unfolding checked
-returns-2 c = c .judge-plainly2 .ensures (early-none (sheetOf (c .before .before .before .before .before .before .args .sheet .now)) (sym (c .before .before .enum-told .given .1) ∙ c .before .before .before .before .judge-plainly .ensures (none-before (sheetOf (c .before .before .before .before .before .before .args .sheet .now))))) ∙ judged-all (sheetOf (c .before .before .before .before .before .before .args .sheet .now))
-
-returns-3 : tie.Need-returns-3
-unfolding checked
-returns-3 c = c .judge-by-tables .ensures (early-none (sheetOf (c .before .before .before .before .before .before .args .sheet .now)) (sym (c .before .before .enum-told .given .1) ∙ c .before .before .before .before .judge-plainly .ensures (none-before (sheetOf (c .before .before .before .before .before .before .args .sheet .now))))) ∙ judged-all (sheetOf (c .before .before .before .before .before .before .args .sheet .now))
+returns-2 c = verdict-none (sheetOf (c .before .before .before .args .sheet .now)) (λ j l. c .before .loop .inv .1 j (omega (arith, l, c .loop-test .left)))
 
 pub first-broken-spec : {M : Type 1} → statement M
 first-broken-spec =
     tie.close
     (tie.spec
-    judge-plainly-requires
-    enum-known-first
-    enum-told
-    judge-plainly-requires-2
-    judge-by-tables-requires
+    Inv-loop
+    μ-loop
+    loop-holds
+    add-rule-verdict
+    rule-verdict-requires
+    enum-known-v
     returns
-    returns-2
-    returns-3)
+    enum-told
+    add-i
+    loop-less
+    loop-again
+    returns-2)

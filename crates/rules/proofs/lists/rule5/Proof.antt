@@ -1,5 +1,10 @@
 -- The indices of each section. Assumes nothing.
 use Rattle.profile.specs.Rules.{rule5}
+use Rattle.sheet.specs.Fields.{contents, objects, tracks, valueSets}
+use Rattle.relations.specs.declared.EntryTest.the-variants.{Lacks}
+use Rattle.runs.specs.Runs.{NextRight}
+use Rattle.rules.specs.Loops.{firstTarget, secondTarget}
+use Rattle.sheet.specs.Words.{sheetOf}
 use Rattle.profile.proofs.BoolLaws.{or-false}
 use borrow.Author.Tests.{ne-eqb}
 use borrow.Author.Needs.{needs}
@@ -43,24 +48,24 @@ lacks-requires-3 : tie.Need-lacks-requires-3
 lacks-requires-3 c κs = search needs
 
 returns : tie.Need-returns
-unfolding rule5
-returns c = simp (c .list-lacks2 .ensures, c .before .list-lacks .ensures, c .before .before .match .keys1, or-false)
+unfolding rule5 firstTarget secondTarget
+returns c = λ first second. let f : NextRight (sheetOf (c .before .before .before .before .before .before .args .s .now)) (Lacks contents) (c .before .before .before .before .before .before .args .first .now) = rw (c .before .before .match .keys1) at first in let g : NextRight (sheetOf (c .before .before .before .before .before .before .args .s .now)) (Lacks valueSets) (c .before .before .before .before .before .before .args .second .now) = rw (c .before .before .match .keys1) at second in simp (c .list-lacks2 .ensures g, c .before .list-lacks .ensures f, c .before .before .match .keys1, or-false)
 
 returns-2 : tie.Need-returns-2
 unfolding rule5
-returns-2 c = simp (c .lacks .ensures, c .before .field .ensures, c .before .before .match .keys2, or-false)
+returns-2 c = λ first second. simp (c .lacks .ensures, c .before .field .ensures, c .before .before .match .keys2, or-false)
 
 returns-3 : tie.Need-returns-3
-unfolding rule5
-returns-3 c = simp (c .list-lacks5 .ensures, c .before .list-lacks4 .ensures, c .before .before .list-lacks3 .ensures, c .before .before .before .lacks2 .ensures, c .before .before .before .before .pack-of .ensures, c .before .before .before .before .before .has-pack .ensures, c .before .before .before .before .before .before .match .keys3, or-false)
+unfolding rule5 firstTarget secondTarget
+returns-3 c = λ first second. let f : NextRight (sheetOf (c .before .before .before .before .before .before .before .before .before .before .args .s .now)) (Lacks tracks) (c .before .before .before .before .before .before .before .before .before .before .args .first .now) = rw (c .before .before .before .before .before .before .match .keys3) at first in let g : NextRight (sheetOf (c .before .before .before .before .before .before .before .before .before .before .args .s .now)) (Lacks objects) (c .before .before .before .before .before .before .before .before .before .before .args .second .now) = rw (c .before .before .before .before .before .before .match .keys3) at second in simp (c .list-lacks5 .ensures g, c .before .list-lacks4 .ensures g, c .before .before .list-lacks3 .ensures f, c .before .before .before .lacks2 .ensures, c .before .before .before .before .pack-of .ensures, c .before .before .before .before .before .has-pack .ensures, c .before .before .before .before .before .before .match .keys3, or-false)
 
 returns-4 : tie.Need-returns-4
 unfolding rule5
-returns-4 c = simp (c .lacks3 .ensures, c .before .field2 .ensures, c .before .before .match .keys4)
+returns-4 c = λ first second. simp (c .lacks3 .ensures, c .before .field2 .ensures, c .before .before .match .keys4)
 
 returns-5 : tie.Need-returns-5
 unfolding rule5
-returns-5 c = simp (ne-eqb _ 1 (c .match .rest .0 .0 .0 .1), ne-eqb _ 2 (c .match .rest .0 .0 .1), ne-eqb _ 3 (c .match .rest .0 .1), ne-eqb _ 5 (c .match .rest .1), or-false)
+returns-5 c = λ first second. simp (ne-eqb _ 1 (c .match .rest .0 .0 .0 .1), ne-eqb _ 2 (c .match .rest .0 .0 .1), ne-eqb _ 3 (c .match .rest .0 .1), ne-eqb _ 5 (c .match .rest .1), or-false)
 
 pub rule5-spec : {M : Type 1} → statement M
 rule5-spec =

@@ -14,11 +14,11 @@ spanned-once-requires c κs = search needs
 
 returns : tie.Need-returns
 unfolding rule11
-returns c = λ named spanned. simp (c .named-once .ensures named, c .before .match .keys1, or-false)
+returns c = λ named spanned. simp (c .named-once .ensures (named (c .before .match .keys1)), c .before .match .keys1, or-false)
 
 returns-2 : tie.Need-returns-2
 unfolding rule11
-returns-2 c = λ named spanned. simp (c .spanned-once .ensures spanned, c .before .match .keys2)
+returns-2 c = λ named spanned. simp (c .spanned-once .ensures (spanned (c .before .match .keys2)), c .before .match .keys2)
 
 returns-3 : tie.Need-returns-3
 unfolding rule11

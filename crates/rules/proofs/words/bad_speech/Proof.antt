@@ -21,7 +21,7 @@ loudness-requires c κs = search needs
 
 returns : tie.Need-returns
 unfolding badSpeech
-returns c = simp (c .loudness .ensures, c .before .field2 .ensures, c .before .before .bad-label .ensures, c .before .before .before .language .ensures, c .before .before .before .before .field .ensures)
+returns c = λ right. simp (c .loudness .ensures, c .before .field2 .ensures, c .before .before .bad-label .ensures right, c .before .before .before .language .ensures, c .before .before .before .before .field .ensures)
 
 pub bad-speech-spec : {M : Type 1} → statement M
 bad-speech-spec =

@@ -1,4 +1,5 @@
 -- Each part is its callee's. Assumes nothing.
+use Prim.Native.Nat.{ℕ}
 use mathlib.Core.Path.{_≡_, sym, _∙_}
 use mathlib.Core.Bool.{false, _||_}
 use Rattle.sheet.specs.Words.{sheetOf}
@@ -33,9 +34,6 @@ source-breaks-requires c κs = search needs
 complements-break-requires : tie.Need-complements-break-requires
 complements-break-requires c κs = search needs
 
-slice-aggregate-rule11 : tie.Need-slice-aggregate-rule11
-slice-aggregate-rule11 c = search needs
-
 rule11-requires : tie.Need-rule11-requires
 rule11-requires c κs = search needs
 
@@ -45,14 +43,14 @@ rule15-requires c κs = search needs
 returns : tie.Need-returns
 unfolding setsBroken
 returns c = λ e named tops complements.
-    let p = or-none-7 (c .before .before .before .before .before .before .before .before .before .object-lists-break .result) (c .before .before .before .before .before .before .before .before .values-break .result) (c .before .before .before .before .before .any-set-breaks .result) (c .before .before .before .before .source-breaks .result) (c .before .before .before .complements-break .result) (c .before .rule11 .result) (c .rule15 .result) e in
-    object-kept (sheetOf (c .before .before .before .before .before .before .before .before .before .before .before .before .before .before .before .args .s .now)) (c .before .before .before .before .before .before .before .before .before .before .before .before .before .before .before .args .o)
-    (sym (c .before .before .before .before .before .before .before .before .before .object-lists-break .ensures) ∙ p .0)
-    (rw (c .before .before .before .before .before .before .before .before .before .before .object-values .ensures) at (sym (c .before .before .before .before .before .before .before .before .values-break .ensures) ∙ p .1))
-    (rw (c .before .before .before .before .before .before .before .field .ensures, c .before .before .before .before .before .before .number .ensures, c .before .before .before .before .before .before .before .before .before .before .object-values .ensures) at (sym (c .before .before .before .before .before .any-set-breaks .ensures) ∙ p .2))
-    (c .before .before .before .before .source-breaks .ensures (p .3))
-    (c .before .before .before .complements-break .ensures (p .4) tops complements)
-    (sym (c .before .rule11 .ensures named (λ x l. absurd (omega arith))) ∙ p .5)
+    let p = or-none-7 (c .before .before .before .before .before .before .before .before .object-lists-break .result) (c .before .before .before .before .before .before .before .values-break .result) (c .before .before .before .before .any-set-breaks .result) (c .before .before .before .source-breaks .result) (c .before .before .complements-break .result) (c .before .rule11 .result) (c .rule15 .result) e in
+    object-kept (sheetOf (c .before .before .before .before .before .before .before .before .before .before .before .before .before .before .args .s .now)) (c .before .before .before .before .before .before .before .before .before .before .before .before .before .before .args .o)
+    (sym (c .before .before .before .before .before .before .before .before .object-lists-break .ensures) ∙ p .0)
+    (rw (c .before .before .before .before .before .before .before .before .before .object-values .ensures) at (sym (c .before .before .before .before .before .before .before .values-break .ensures) ∙ p .1))
+    (rw (c .before .before .before .before .before .before .field .ensures, c .before .before .before .before .before .number .ensures, c .before .before .before .before .before .before .before .before .before .object-values .ensures) at (sym (c .before .before .before .before .any-set-breaks .ensures) ∙ p .2))
+    (c .before .before .before .source-breaks .ensures (p .3))
+    (c .before .before .complements-break .ensures (p .4) tops complements)
+    (sym (c .before .rule11 .ensures (λ z. named) (λ z. let y : _≡_ {A = ℕ} 3 7 = z in absurd (omega arith))) ∙ p .5)
     (sym (c .rule15 .ensures tops) ∙ p .6)
 
 pub object-breaks-spec : {M : Type 1} → statement M
@@ -67,7 +65,6 @@ object-breaks-spec =
     any-set-breaks-requires
     source-breaks-requires
     complements-break-requires
-    slice-aggregate-rule11
     rule11-requires
     rule15-requires
     returns)

@@ -5,6 +5,9 @@ use Rattle.sheet.specs.Words.{sheetOf}
 use borrow.Author.Tests.{eq-eqb, ne-eqb, not-true, not-false}
 use Rattle.profile.proofs.BoolLaws.{or-false, or-none}
 use Rattle.screen.specs.Screened.{recordBroken}
+use Rattle.profile.specs.Rules.{rule5, rule6}
+use native.Mathlib.Omega.{arith}
+use Prim.Native.Nat.{ℕ}
 use borrow.Author.Needs.{needs}
 use Rattle.screen.proofs.records.record_breaks.Statement.{statement}
 use Rattle.screen.proofs.records.record_breaks.Tie as tie
@@ -21,14 +24,17 @@ rule12-requires c κs = search needs
 object-breaks-requires : tie.Need-object-breaks-requires
 object-breaks-requires c κs = search needs
 
-rule6-requires : tie.Need-rule6-requires
-rule6-requires c κs = search needs
+bad-pack-requires : tie.Need-bad-pack-requires
+bad-pack-requires c κs = search needs
 
 rule10-requires : tie.Need-rule10-requires
 rule10-requires c κs = search needs
 
-rule5-requires : tie.Need-rule5-requires
-rule5-requires c κs = search needs
+field-requires : tie.Need-field-requires
+field-requires c κs = search needs
+
+lacks-requires : tie.Need-lacks-requires
+lacks-requires c κs = search needs
 
 rule11-requires : tie.Need-rule11-requires
 rule11-requires c κs = search needs
@@ -39,23 +45,23 @@ returns c = λ e t. simp (c .before .match .keys1, c .programme-breaks .ensures 
 
 returns-2 : tie.Need-returns-2
 unfolding recordBroken
-returns-2 c = λ e t. let p = or-none (c .before .content-breaks .result) (c .rule12 .result) e in simp (c .before .before .match .keys2, c .before .content-breaks .ensures (p .0), sym (c .rule12 .ensures (t .listed-right)) ∙ p .1, or-false)
+returns-2 c = λ e t. let p = or-none (c .before .content-breaks .result) (c .rule12 .result) e in simp (c .before .before .match .keys2, c .before .content-breaks .ensures (p .0), sym (c .rule12 .ensures (λ z. let y : _≡_ {A = ℕ} 2 1 = z in absurd (omega arith)) (λ z. t .listed-right)) ∙ p .1, or-false)
 
 returns-3 : tie.Need-returns-3
 unfolding recordBroken
 returns-3 c = λ e t. simp (c .before .match .keys3, c .object-breaks .ensures e (t .named-right) (t .tops-right) (t .complements-right), or-false)
 
 returns-4 : tie.Need-returns-4
-unfolding recordBroken
-returns-4 c = λ e t. let p = or-none (c .before .rule6 .result) (c .rule10 .result) e in simp (c .before .before .match .keys4, sym (c .before .rule6 .ensures) ∙ p .0, sym (c .rule10 .ensures) ∙ p .1, or-false)
+unfolding recordBroken rule6
+returns-4 c = λ e t. let p = or-none (c .before .bad-pack .result) (c .rule10 .result) e in simp (c .before .before .match .keys4, sym (c .before .bad-pack .ensures) ∙ p .0, sym (c .rule10 .ensures) ∙ p .1, or-false)
 
 returns-5 : tie.Need-returns-5
-unfolding recordBroken
-returns-5 c = λ e t. simp (c .before .match .keys5, sym (c .rule5 .ensures) ∙ e, or-false)
+unfolding recordBroken rule5
+returns-5 c = λ e t. simp (c .before .before .match .keys5, rw (c .before .field .ensures) at (sym (c .lacks .ensures) ∙ e), or-false)
 
 returns-6 : tie.Need-returns-6
 unfolding recordBroken
-returns-6 c = λ e t. simp (c .before .match .keys6, sym (c .rule11 .ensures (t .named-right) (t .spanned-right)) ∙ e, or-false)
+returns-6 c = λ e t. simp (c .before .match .keys6, sym (c .rule11 .ensures (λ z. let y : _≡_ {A = ℕ} 7 3 = z in absurd (omega arith)) (λ z. t .spanned-right)) ∙ e, or-false)
 
 returns-7 : tie.Need-returns-7
 unfolding recordBroken
@@ -69,9 +75,10 @@ record-breaks-spec =
     content-breaks-requires
     rule12-requires
     object-breaks-requires
-    rule6-requires
+    bad-pack-requires
     rule10-requires
-    rule5-requires
+    field-requires
+    lacks-requires
     rule11-requires
     returns
     returns-2

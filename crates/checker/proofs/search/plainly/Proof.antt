@@ -1,0 +1,36 @@
+-- Empty tables are right. Assumes nothing.
+use Rattle.sheet.specs.Words.{sheetOf}
+use Rattle.checker.proofs.SearchLaws.{empty-right}
+use Rattle.checker.specs.Tables.{Right, firstTable, secondTable}
+use borrow.Author.Needs.{needs}
+use Rattle.checker.proofs.search.plainly.Statement.{statement}
+use Rattle.checker.proofs.search.plainly.Tie as tie
+
+array-share-prefix-none : tie.Need-array-share-prefix-none
+array-share-prefix-none c = search needs
+
+slice-aggregate-t : tie.Need-slice-aggregate-t
+slice-aggregate-t c = search needs
+
+array-borrow-prefix-marks : tie.Need-array-borrow-prefix-marks
+array-borrow-prefix-marks c = search needs
+
+slice-aggregate-broken-below : tie.Need-slice-aggregate-broken-below
+slice-aggregate-broken-below c = search needs
+
+broken-below-requires : tie.Need-broken-below-requires
+broken-below-requires c κs = search needs
+
+returns : tie.Need-returns
+returns c = c .before .broken-below .ensures .1 (empty-right (sheetOf (c .before .before .before .before .before .args .s .now)) (firstTable (c .before .before .before .before .before .args .rule) (c .before .before .before .before .before .args .section))) (empty-right (sheetOf (c .before .before .before .before .before .args .s .now)) (secondTable (c .before .before .before .before .before .args .rule) (c .before .before .before .before .before .args .section)))
+
+pub plainly-spec : {M : Type 1} → statement M
+plainly-spec =
+    tie.close
+    (tie.spec
+    array-share-prefix-none
+    slice-aggregate-t
+    array-borrow-prefix-marks
+    slice-aggregate-broken-below
+    broken-below-requires
+    returns)

@@ -1,0 +1,15 @@
+-- The lower. Assumes nothing.
+use mathlib.Core.Path.{_≡_, refl, sym, ap, _∙_}
+use borrow.Author.Tests.{lt-ltb, le-ltb, ltb-true, leb-true}
+use borrow.Author.Needs.{needs}
+use Rattle.runs.proofs.fill.lower.Statement.{statement}
+use Rattle.runs.proofs.fill.lower.Tie as tie
+
+returns : tie.Need-returns
+returns c = rw (lt-ltb _ _ (c .if1 .taken)) refl
+
+returns-2 : tie.Need-returns-2
+returns-2 c = rw (le-ltb _ _ (c .if1 .left)) refl
+
+pub lower-spec : {M : Type 1} → statement M
+lower-spec = tie.close (tie.spec returns returns-2)

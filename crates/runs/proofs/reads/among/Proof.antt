@@ -1,0 +1,25 @@
+-- One comparison. Assumes nothing.
+use Prim.Native.Nat.{ℕ, _+_}
+use mathlib.Core.Path.{_≡_, ap}
+use lib.Dec.{ltb}
+use borrow.Author.Needs.{needs}
+use Rattle.runs.proofs.reads.among.Statement.{statement}
+use Rattle.runs.proofs.reads.among.Tie as tie
+
+mul-wide : tie.Need-mul-wide
+mul-wide c = search needs
+
+shared-slice-read-wide : tie.Need-shared-slice-read-wide
+shared-slice-read-wide c = search needs
+
+wide-requires : tie.Need-wide-requires
+wide-requires c κs = search needs
+
+add-result : tie.Need-add-result
+add-result c = search needs
+
+returns : tie.Need-returns
+returns c = ap (λ (v : ℕ). ltb v (c .before .before .before .args .first + c .before .before .before .args .n)) (c .wide .ensures)
+
+pub among-spec : {M : Type 1} → statement M
+among-spec = tie.close (tie.spec mul-wide shared-slice-read-wide wide-requires add-result returns)

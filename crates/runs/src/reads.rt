@@ -1,0 +1,53 @@
+// A list answered by one look at a table, where the table has it and the list is inside section 6.
+use relations::EntryTest;
+use relations::entries::any_entry;
+use sheet::fields::REFERENCES;
+use sheet::layout::count;
+use sheet::layout::field;
+use sheet::layout::number;
+ghost use Prim.Native.Nat.{_+_, _<_};
+ghost use lib.Dec.{leb, ltb};
+ghost use lib.ListN.{getD, length};
+ghost use mathlib.Core.Bool.{_&&_};
+ghost use mathlib.Core.Path.{_≡_};
+ghost use Rattle.relations.specs.Tests.{anyEntry};
+ghost use Rattle.runs.specs.Runs.{NextRight};
+ghost use Rattle.sheet.specs.Fields.{references};
+ghost use Rattle.sheet.specs.Layout.{count};
+ghost use Rattle.sheet.specs.Words.{sheetOf};
+
+// The table has the index, and the n references from it on are there.
+pub fn inside(s: &[u8], table: &[u16], first: u16, n: u16) -> bool
+    ensures { λ r. ⌜ r ≡ (ltb first (length (now (table .entry))) && ltb first (count (sheetOf (now (s .entry))) references) && leb (first + n) (count (sheetOf (now (s .entry))) references)) ⌝ }
+{
+    let m = count(s, REFERENCES);
+    ((first as usize) < table.len()) & (first < m) & (first as u32 + n as u32 <= m as u32)
+}
+
+fn wide(x: u16) -> u32
+    ensures { λ r. ⌜ r ≡ x ⌝ }
+{
+    x as u32
+}
+
+// What stands there is one of the n indices.
+pub fn among(table: &[u16], first: u16, n: u16) -> bool
+    requires { ⌜ first < length (now table) ⌝ }
+    ensures { λ r. ⌜ r ≡ ltb (getD (now (table .entry)) first 0) (first + n) ⌝ }
+{
+    let i = first as usize;
+    wide(table[i]) < first as u32 + n as u32
+}
+
+// Whether some entry of the list at a position of a record passes the test.
+pub fn any_entry_by(s: &[u8], next: &[u16], section: u8, k: u16, at: u8, test: EntryTest) -> bool
+    ensures { λ r. ⌜ (NextRight (sheetOf (now (s .entry))) test (now (next .entry)) → r ≡ anyEntry (sheetOf (now (s .entry))) section k at test) ⌝ }
+{
+    let first = field(s, section, k, at);
+    let n = number(s, section, k, at);
+    if inside(s, next, first, n) {
+        among(next, first, n)
+    } else {
+        any_entry(s, section, k, at, test)
+    }
+}
