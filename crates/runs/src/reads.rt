@@ -43,6 +43,9 @@ pub fn among(table: &[u16], first: u16, n: u16) -> bool
 pub fn any_entry_by(s: &[u8], next: &[u16], section: u8, k: u16, at: u8, test: EntryTest) -> bool
     ensures { λ r. ⌜ (NextRight (sheetOf (now (s .entry))) test (now (next .entry)) → r ≡ anyEntry (sheetOf (now (s .entry))) section k at test) ⌝ }
 {
+    if next.len() == 0 {
+        return any_entry(s, section, k, at, test);
+    }
     let first = field(s, section, k, at);
     let n = number(s, section, k, at);
     if inside(s, next, first, n) {
