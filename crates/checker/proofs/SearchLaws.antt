@@ -26,6 +26,7 @@ use Rattle.checker.specs.declared.Table.{Table}
 use Rattle.checker.specs.declared.Table.the-variants.{Nothing, Named, Spanned, Listed, Tops, Complements, Owners, Leaders, Lacking, Languages, Repeats}
 use Rattle.checker.specs.Checked.{ruleVerdict}
 use Rattle.checker.specs.Tables.{Right}
+use Rattle.checker.proofs.SubjectLaws.{Rest, rest-ended}
 
 module _ (s : Sheet) where
   module _ (rule section n k : ℕ) (all : n ≡ subjects s rule section) (low : k ≡ lowest (breaks s rule section) n) where
@@ -55,6 +56,16 @@ module _ (s : Sheet) where
   rule-none rule none =
       let e : lowest (sectionBroken s rule) 8 ≡ 8 = lowest-none (sectionBroken s rule) 8 none in
       rw e refl
+
+  pub rule-ended : (rule section row : ℕ) → Rest rule section row → row ≡ 0 → ((j : ℕ) → j < section → sectionBroken s rule j ≡ false) → Accepted ≡ ruleVerdict s rule
+  rule-ended rule section row rest z before = rule-none rule each
+    where
+      each : (j : ℕ) → j < 8 → sectionBroken s rule j ≡ false
+      each j h =
+          (elim (ltb j section) as (λ b. ltb j section ≡ b → sectionBroken s rule j ≡ false) [
+            | true ↦ λ e. before j (ltb-true j section e)
+            | false ↦ λ e. rest-ended s rule section row rest z j (ltb-false j section e) h
+          ]) refl
 
   -- a rule that gives no acceptance is broken, and one that does is not
   pub broken-one : (rule : ℕ) (r : ℕ) (p : Place) → Broken r p ≡ ruleVerdict s rule → ruleBroken s rule ≡ true

@@ -1,5 +1,5 @@
 -- The tables of rules and subjects past their ends. Assumes nothing.
-use Prim.Native.Nat.{zero-le, ℕ, zero, suc, _+_, _/_, _%_, _<_, _≤_}
+use Prim.Native.Nat.{zero-le, ℕ, zero, suc, _+_, _-_, _/_, _%_, _<_, _≤_}
 use mathlib.Core.Path.{_≡_, refl, sym, ap, _∙_}
 use mathlib.Core.Bool.{Bool, true, false, not}
 use mathlib.Core.List.{List, [], _∷_}
@@ -101,3 +101,12 @@ module _ (rule section row : ℕ) (rest : Rest rule section row) where
 pub all-subjects : (s : Sheet) (rule section kind n : ℕ) → kind ≡ subjectKind rule section → n ≡ subjectsOf s section kind → n ≡ subjects s rule section
 unfolding subjects subjectsOf
 all-subjects s rule section kind n e f = f ∙ ap (subjectsOf s section) e
+
+-- no section from one on has subjects where nothing is left of the row
+pub rest-ended : (s : Sheet) (rule section row : ℕ) → Rest rule section row → row ≡ 0 → (j : ℕ) → section ≤ j → j < 8 → sectionBroken s rule j ≡ false
+unfolding sectionBroken subjects
+rest-ended s rule section row rest z j l h =
+    let e : section + (j - section) ≡ j = omega arith in
+    let f : subjectKind rule j ≡ 0 = sym (ap (λ (n : ℕ). subjectKind rule n) e) ∙ sym (rest (j - section) (omega arith)) ∙ ap (λ (n : ℕ). digit n (j - section)) z ∙ no-digit (j - section) in
+    let g : subjects s rule j ≡ 0 = rw f refl in
+    ap (ltb (brokenRecord s rule j)) g ∙ le-ltb (brokenRecord s rule j) 0 zero-le

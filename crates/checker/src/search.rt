@@ -7,7 +7,6 @@ use crate::subjects::subject_row;
 use crate::subjects::subjects;
 use profile::Verdict;
 use profile::places::place_at;
-use runs::fill::fill_repeats;
 use screen::screening::passes;
 use sheet::fields::CHILD_LIST;
 use sheet::fields::COMPLEMENT_LIST;
@@ -26,7 +25,6 @@ ghost use lib.ListN.{length};
 ghost use mathlib.Core.Path.{_≡_};
 ghost use Rattle.checker.specs.Checked.{checked, ruleVerdict};
 ghost use Rattle.checker.specs.Tables.{Right, firstTable, secondTable};
-ghost use Rattle.checker.specs.declared.Table.the-variants.{Repeats};
 ghost use Rattle.profile.specs.Counting.{lowest};
 ghost use Rattle.profile.specs.Verdict.{breaks};
 ghost use Rattle.sheet.specs.Words.{sheetOf};
@@ -75,30 +73,6 @@ fn by_tables(s: &[u8], rule: u8, section: u8, n: u16) -> u16
     broken_below(s, &first, &second, &mut marks, rule, section, n)
 }
 
-// With tables over the references. No sheet has more.
-fn by_references(s: &[u8], rule: u8, section: u8, n: u16) -> u16
-    ensures { λ r. ⌜ r ≡ lowest (breaks (sheetOf (now (s .entry))) rule section) n ⌝ }
-{
-    let mut first: [u16; 32768] = [0; 32768];
-    fill_table(s, first_table(rule, section), &mut first);
-    let mut second: [u16; 32768] = [0; 32768];
-    fill_table(s, second_table(rule, section), &mut second);
-    let mut marks: [u16; 1] = [0];
-    broken_below(s, &first, &second, &mut marks[..0], rule, section, n)
-}
-
-// With the table of repeats alone.
-fn by_repeats(s: &[u8], rule: u8, section: u8, n: u16) -> u16
-    requires { ⌜ firstTable rule section ≡ Repeats ⌝ }
-    ensures { λ r. ⌜ r ≡ lowest (breaks (sheetOf (now (s .entry))) rule section) n ⌝ }
-{
-    let mut first: [u16; 32768] = [0; 32768];
-    fill_repeats(s, &mut first);
-    let none: [u16; 1] = [0];
-    let mut marks: [u16; 1] = [0];
-    broken_below(s, &first, &none[..0], &mut marks[..0], rule, section, n)
-}
-
 // How many entries the lists of a record have.
 fn entries(s: &[u8], section: u8, k: u16) -> u32
     ensures { λ r. ⌜ r ≤ 196605 ⌝ }
@@ -133,7 +107,23 @@ fn crowded(s: &[u8], section: u8) -> bool {
     false
 }
 
-// The lowest of n records of a section that breaks a rule, or n. A small sheet is searched without tables.
+// With tables over the references, where the section's lists have many entries. No sheet has more references.
+fn by_lists(s: &[u8], rule: u8, section: u8, n: u16) -> u16
+    ensures { λ r. ⌜ r ≡ lowest (breaks (sheetOf (now (s .entry))) rule section) n ⌝ }
+{
+    if !crowded(s, section) {
+        return plainly(s, rule, section, n);
+    }
+    let mut first: [u16; 32768] = [0; 32768];
+    fill_table(s, first_table(rule, section), &mut first);
+    let mut second: [u16; 32768] = [0; 32768];
+    fill_table(s, second_table(rule, section), &mut second);
+    let mut marks: [u16; 1] = [0];
+    broken_below(s, &first, &second, &mut marks[..0], rule, section, n)
+}
+
+// The lowest of n records of a section that breaks a rule, or n. A small sheet is searched without tables. Rules that go the same
+// way stand in several arms, so that the compiler keeps the functions with large tables apart (docs/SPEED.md).
 fn lowest_broken(s: &[u8], rule: u8, section: u8, n: u16) -> u16
     ensures { λ r. ⌜ r ≡ lowest (breaks (sheetOf (now (s .entry))) rule section) n ⌝ }
 {
@@ -141,42 +131,16 @@ fn lowest_broken(s: &[u8], rule: u8, section: u8, n: u16) -> u16
         return plainly(s, rule, section, n);
     }
     match rule {
-        5 => {
-            if crowded(s, section) {
-                return by_references(s, rule, section, n);
-            }
-            plainly(s, rule, section, n)
-        }
-        6 => {
-            if crowded(s, section) {
-                return by_references(s, rule, section, n);
-            }
-            plainly(s, rule, section, n)
-        }
-        9 => {
-            if crowded(s, section) {
-                return by_repeats(s, 9, section, n);
-            }
-            plainly(s, rule, section, n)
-        }
-        12 => {
-            if section == PROGRAMMES {
-                if crowded(s, section) {
-                    return by_repeats(s, 12, PROGRAMMES, n);
-                }
-                return plainly(s, rule, section, n);
+        5 | 6 | 9 => by_lists(s, rule, section, n),
+        11 | 12 => {
+            if (rule == 12) & (section == PROGRAMMES) {
+                return by_lists(s, rule, section, n);
             }
             by_tables(s, rule, section, n)
         }
-        11 => by_tables(s, rule, section, n),
-        15 => by_tables(s, rule, section, n),
-        17 => by_tables(s, rule, section, n),
-        18 => by_tables(s, rule, section, n),
-        19 => by_tables(s, rule, section, n),
-        21 => by_tables(s, rule, section, n),
-        22 => by_tables(s, rule, section, n),
-        23 => by_tables(s, rule, section, n),
-        24 => by_tables(s, rule, section, n),
+        15 | 17 | 18 | 19 => by_tables(s, rule, section, n),
+        21 | 22 => by_tables(s, rule, section, n),
+        23 | 24 => by_tables(s, rule, section, n),
         _ => plainly(s, rule, section, n),
     }
 }
@@ -188,6 +152,9 @@ fn rule_verdict(s: &[u8], rule: u8) -> Verdict
     let mut row = subject_row(rule);
     let mut section: u8 = 0;
     while section < 8 {
+        if row == 0 {
+            return Verdict::Accepted;
+        }
         let n = subjects(s, section, row % 4);
         let k = lowest_broken(s, rule, section, n);
         if k < n {

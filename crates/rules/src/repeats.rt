@@ -95,6 +95,9 @@ pub fn repeats(s: &[u8], section: u8, k: u16, at: u8) -> bool
 pub fn repeats_by(s: &[u8], next: &[u16], section: u8, k: u16, at: u8) -> bool
     ensures { λ r. ⌜ (RepeatRight (sheetOf (now (s .entry))) (now (next .entry)) → r ≡ repeats (sheetOf (now (s .entry))) section k at) ⌝ }
 {
+    if next.len() == 0 {
+        return repeats(s, section, k, at);
+    }
     let first = field(s, section, k, at);
     let n = number(s, section, k, at);
     if inside(s, next, first, n) {

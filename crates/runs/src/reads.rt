@@ -30,19 +30,25 @@ fn wide(x: u16) -> u32
     x as u32
 }
 
-// What stands there is one of the n indices.
+// What stands there is below the end of the n indices.
 pub fn among(table: &[u16], first: u16, n: u16) -> bool
-    requires { ⌜ first < length (now table) ⌝ }
-    ensures { λ r. ⌜ r ≡ ltb (getD (now (table .entry)) first 0) (first + n) ⌝ }
+    ensures { λ r. ⌜ (first < length (now (table .entry)) → r ≡ ltb (getD (now (table .entry)) first 0) (first + n)) ⌝ }
 {
     let i = first as usize;
-    wide(table[i]) < first as u32 + n as u32
+    if i < table.len() {
+        wide(table[i]) < first as u32 + n as u32
+    } else {
+        false
+    }
 }
 
 // Whether some entry of the list at a position of a record passes the test.
 pub fn any_entry_by(s: &[u8], next: &[u16], section: u8, k: u16, at: u8, test: EntryTest) -> bool
     ensures { λ r. ⌜ (NextRight (sheetOf (now (s .entry))) test (now (next .entry)) → r ≡ anyEntry (sheetOf (now (s .entry))) section k at test) ⌝ }
 {
+    if next.len() == 0 {
+        return any_entry(s, section, k, at, test);
+    }
     let first = field(s, section, k, at);
     let n = number(s, section, k, at);
     if inside(s, next, first, n) {

@@ -12,6 +12,12 @@ use borrow.Author.Needs.{needs}
 use Rattle.rules.proofs.repeats.repeats_by.Statement.{statement}
 use Rattle.rules.proofs.repeats.repeats_by.Tie as tie
 
+repeats-requires : tie.Need-repeats-requires
+repeats-requires c κs = search needs
+
+returns : tie.Need-returns
+returns c = λ right. c .repeats .ensures
+
 field-requires : tie.Need-field-requires
 field-requires c κs = search needs
 
@@ -22,26 +28,28 @@ inside-requires : tie.Need-inside-requires
 inside-requires c κs = search needs
 
 among-requires : tie.Need-among-requires
-among-requires c κs = ltb-true _ _ (all-three _ _ _ (sym (c .before .inside .ensures) ∙ c .if1 .taken) .0)
+among-requires c κs = search needs
 
-repeats-requires : tie.Need-repeats-requires
-repeats-requires c κs = search needs
-
-returns : tie.Need-returns
-unfolding repeats entry
-returns c = λ right. let f = all-three _ _ _ (sym (c .before .before .inside .ensures) ∙ c .before .if1 .taken) in c .among .ensures ∙ right (c .before .before .before .before .field .result) (ltb-true _ _ (f .0)) (ltb-true _ _ (f .1)) (c .before .before .before .number .result) (leb-true _ _ (f .2)) ∙ ap₂ (λ (a n : ℕ). twoOf (λ i j. eqb (reference (sheetOf (c .before .before .before .before .before .before .before .args .s .now)) (a + i)) (reference (sheetOf (c .before .before .before .before .before .before .before .args .s .now)) (a + j))) n) (c .before .before .before .before .field .ensures) (c .before .before .before .number .ensures)
+repeats-requires-2 : tie.Need-repeats-requires-2
+repeats-requires-2 c κs = search needs
 
 returns-2 : tie.Need-returns-2
-returns-2 c = λ right. c .repeats .ensures
+unfolding repeats entry
+returns-2 c = λ right. let f = all-three _ _ _ (sym (c .before .before .inside .ensures) ∙ c .before .if2 .taken) in c .among .ensures (ltb-true _ _ (f .0)) ∙ right (c .before .before .before .before .field .result) (ltb-true _ _ (f .0)) (ltb-true _ _ (f .1)) (c .before .before .before .number .result) (leb-true _ _ (f .2)) ∙ ap₂ (λ (a n : ℕ). twoOf (λ i j. eqb (reference (sheetOf (c .before .before .before .before .before .before .before .before .args .s .now)) (a + i)) (reference (sheetOf (c .before .before .before .before .before .before .before .before .args .s .now)) (a + j))) n) (c .before .before .before .before .field .ensures) (c .before .before .before .number .ensures)
+
+returns-3 : tie.Need-returns-3
+returns-3 c = λ right. c .repeats2 .ensures
 
 pub repeats-by-spec : {M : Type 1} → statement M
 repeats-by-spec =
     tie.close
     (tie.spec
+    repeats-requires
+    returns
     field-requires
     number-requires
     inside-requires
     among-requires
-    repeats-requires
-    returns
-    returns-2)
+    repeats-requires-2
+    returns-2
+    returns-3)

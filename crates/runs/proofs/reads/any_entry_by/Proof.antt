@@ -11,6 +11,12 @@ use borrow.Author.Needs.{needs}
 use Rattle.runs.proofs.reads.any_entry_by.Statement.{statement}
 use Rattle.runs.proofs.reads.any_entry_by.Tie as tie
 
+any-entry-requires : tie.Need-any-entry-requires
+any-entry-requires c κs = search needs
+
+returns : tie.Need-returns
+returns c = λ right. c .any-entry .ensures
+
 field-requires : tie.Need-field-requires
 field-requires c κs = search needs
 
@@ -21,26 +27,28 @@ inside-requires : tie.Need-inside-requires
 inside-requires c κs = search needs
 
 among-requires : tie.Need-among-requires
-among-requires c κs = ltb-true _ _ (all-three _ _ _ (sym (c .before .inside .ensures) ∙ c .if1 .taken) .0)
+among-requires c κs = search needs
 
-any-entry-requires : tie.Need-any-entry-requires
-any-entry-requires c κs = search needs
-
-returns : tie.Need-returns
-unfolding anyEntry entry
-returns c = λ right. let f = all-three _ _ _ (sym (c .before .before .inside .ensures) ∙ c .before .if1 .taken) in c .among .ensures ∙ right (c .before .before .before .before .field .result) (ltb-true _ _ (f .0)) (ltb-true _ _ (f .1)) (c .before .before .before .number .result) (leb-true _ _ (f .2)) ∙ ap₂ (λ (a n : ℕ). any (λ i. entryTest (sheetOf (c .before .before .before .before .before .before .before .args .s .now)) (c .before .before .before .before .before .before .before .args .test) (reference (sheetOf (c .before .before .before .before .before .before .before .args .s .now)) (a + i))) n) (c .before .before .before .before .field .ensures) (c .before .before .before .number .ensures)
+any-entry-requires-2 : tie.Need-any-entry-requires-2
+any-entry-requires-2 c κs = search needs
 
 returns-2 : tie.Need-returns-2
-returns-2 c = λ right. c .any-entry .ensures
+unfolding anyEntry entry
+returns-2 c = λ right. let f = all-three _ _ _ (sym (c .before .before .inside .ensures) ∙ c .before .if2 .taken) in c .among .ensures (ltb-true _ _ (f .0)) ∙ right (c .before .before .before .before .field .result) (ltb-true _ _ (f .0)) (ltb-true _ _ (f .1)) (c .before .before .before .number .result) (leb-true _ _ (f .2)) ∙ ap₂ (λ (a n : ℕ). any (λ i. entryTest (sheetOf (c .before .before .before .before .before .before .before .before .args .s .now)) (c .before .before .before .before .before .before .before .before .args .test) (reference (sheetOf (c .before .before .before .before .before .before .before .before .args .s .now)) (a + i))) n) (c .before .before .before .before .field .ensures) (c .before .before .before .number .ensures)
+
+returns-3 : tie.Need-returns-3
+returns-3 c = λ right. c .any-entry2 .ensures
 
 pub any-entry-by-spec : {M : Type 1} → statement M
 any-entry-by-spec =
     tie.close
     (tie.spec
+    any-entry-requires
+    returns
     field-requires
     number-requires
     inside-requires
     among-requires
-    any-entry-requires
-    returns
-    returns-2)
+    any-entry-requires-2
+    returns-2
+    returns-3)
