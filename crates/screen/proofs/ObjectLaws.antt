@@ -29,6 +29,10 @@ module _ (p q : ℕ → Bool) (n : ℕ) (e : any (λ i. p i || q i) n ≡ false)
   pub any-right : any q n ≡ false
   any-right = any-nowhere q n (λ k l. or-none (p k) (q k) (any-none (λ i. p i || q i) n e k l) .1)
 
+pub and-nothing : (b : Bool) → (b && false) ≡ false
+and-nothing true = refl
+and-nothing false = refl
+
 -- an or of seven that fails
 pub or-none-7 : (a b c d e f g : Bool) → (a || b || c || d || e || f || g) ≡ false → (a ≡ false) × (b ≡ false) × (c ≡ false) × (d ≡ false) × (e ≡ false) × (f ≡ false) × (g ≡ false)
 or-none-7 a b c d e f g h =

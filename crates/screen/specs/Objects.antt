@@ -5,7 +5,7 @@ use mathlib.Core.Path.{_≡_}
 use lib.Dec.{eqb, leb, ltb}
 use Rattle.sheet.specs.Words.{Sheet, word}
 use Rattle.sheet.specs.Layout.{count, offset, start, field, first, number}
-use Rattle.sheet.specs.Fields.{objects, packs, tracks, references, valueSets, trackList, childList, complementList, setSpan, packChannels}
+use Rattle.sheet.specs.Fields.{objects, packs, tracks, references, valueSets, trackList, childList, complementList, setSpan, noPack, packKind, packChannels, packFront}
 use Rattle.values.specs.declared.Sort.the-variants.{Gains, Offsets}
 use Rattle.values.specs.Values.{isAbsent, orElse}
 use Rattle.profile.specs.Counting.{any}
@@ -26,6 +26,10 @@ objectListsBroken s o =
     || exceeds s childrenLimit (number s objects o childList)
     || exceeds s complementsLimit (number s objects o complementList)
     || exceeds s spanLimit (number s objects o setSpan)
+
+-- a pack, where there is one, is of kind 3 with front 1
+unfoldable pub isFront : Sheet → ℕ → Bool
+isFront s pack = not (eqb pack noPack) && eqb (field s packs pack packKind) 3 && eqb (field s packs pack packFront) 1
 
 -- the values of an object
 unfoldable pub objectValues : Sheet → ℕ → ObjectValues

@@ -12,67 +12,86 @@ use profile::limits::CHILDREN_LIMIT;
 use profile::limits::COMPLEMENTS_LIMIT;
 use profile::limits::SPAN_LIMIT;
 use profile::limits::exceeds;
-use relations::objects::has_front_pack;
 use relations::objects::pack_of;
 use rules::groups::rule19;
 use rules::groups::rule20;
 use rules::naming::rule11;
 use rules::objects::rule15;
 use rules::ranges::leaves;
-use sheet::fields::CHILD_LIST;
-use sheet::fields::COMPLEMENT_LIST;
 use sheet::fields::NO_PACK;
 use sheet::fields::OBJECTS;
 use sheet::fields::PACK_CHANNELS;
+use sheet::fields::PACK_FRONT;
+use sheet::fields::PACK_KIND;
 use sheet::fields::PACKS;
 use sheet::fields::REFERENCES;
-use sheet::fields::SET_SPAN;
-use sheet::fields::TRACK_LIST;
 use sheet::fields::VALUE_SETS;
 use sheet::layout::count;
 use sheet::layout::field;
-use sheet::layout::number;
 use sheet::layout::offset;
 use sheet::layout::start;
 use sheet::words::word;
+use tables::reads::top_by;
 use values::Sort;
 use values::values::is_absent;
 use values::values::or_else;
+ghost use Prim.Native.Nat.{_<_};
 ghost use mathlib.Core.Bool.{false};
 ghost use mathlib.Core.Path.{_≡_};
-ghost use Rattle.screen.specs.Objects.{childrenBroken, complementsKept, objectBroken, objectListsBroken, objectValues, sourceKept, tracksBroken, valuesBroken};
+ghost use Rattle.profile.specs.Limits.{exceeds};
+ghost use Rattle.profile.specs.Relations.{packOf};
+ghost use Rattle.profile.specs.Rules.{rule15};
+ghost use Rattle.screen.specs.Objects.{childrenBroken, complementsKept, isFront, objectBroken, objectListsBroken, objectValues, sourceKept, tracksBroken, valuesBroken};
+ghost use Rattle.sheet.specs.Fields.{objects};
+ghost use Rattle.sheet.specs.Layout.{start};
 ghost use Rattle.sheet.specs.Words.{sheetOf};
 ghost use Rattle.tables.specs.Right.{Complemented, Named, Tops};
 
-// The lists and the span of an object: rules 4 and 8.
-fn object_lists_break(s: &[u8], o: u16) -> bool
+// Whether a list or span of so many entries is above a limit.
+fn exceeding(s: &[u8], column: u8, n: u16) -> bool
+    ensures { λ r. ⌜ r ≡ exceeds (sheetOf (now (s .entry))) column n ⌝ }
+{
+    if n == 0 {
+        return false;
+    }
+    exceeds(s, column, n as u64)
+}
+
+// The lists and the span of an object, whose words begin at an index: rules 4 and 8.
+fn object_lists_break(s: &[u8], at: usize, o: u16) -> bool
+    requires { ⌜ (at ≡ start (sheetOf (now s)) objects o) × (at < 2199023255552) ⌝ }
     ensures { λ r. ⌜ r ≡ objectListsBroken (sheetOf (now (s .entry))) o ⌝ }
 {
     let many = count(s, REFERENCES);
-    let children = number(s, OBJECTS, o, CHILD_LIST);
-    let complements = number(s, OBJECTS, o, COMPLEMENT_LIST);
-    let sets = number(s, OBJECTS, o, SET_SPAN);
-    beyond(
-        many,
-        field(s, OBJECTS, o, TRACK_LIST),
-        number(s, OBJECTS, o, TRACK_LIST),
-    )
-        | beyond(many, field(s, OBJECTS, o, CHILD_LIST), children)
-        | beyond(many, field(s, OBJECTS, o, COMPLEMENT_LIST), complements)
-        | beyond(count(s, VALUE_SETS), field(s, OBJECTS, o, SET_SPAN), sets)
-        | exceeds(s, CHILDREN_LIMIT, children as u64)
-        | exceeds(s, COMPLEMENTS_LIMIT, complements as u64)
-        | exceeds(s, SPAN_LIMIT, sets as u64)
+    let children = word(s, at + 4);
+    let complements = word(s, at + 6);
+    let sets = word(s, at + 15);
+    beyond(many, word(s, at + 1), word(s, at + 2))
+        | beyond(many, word(s, at + 3), children)
+        | beyond(many, word(s, at + 5), complements)
+        | beyond(count(s, VALUE_SETS), word(s, at + 14), sets)
+        | exceeding(s, CHILDREN_LIMIT, children)
+        | exceeding(s, COMPLEMENTS_LIMIT, complements)
+        | exceeding(s, SPAN_LIMIT, sets)
 }
 
-// The values of an object.
-fn object_values(s: &[u8], o: u16) -> ObjectValues
+// Whether a pack is one of kind 3 with front 1.
+fn is_front(s: &[u8], pack: u16) -> bool
+    ensures { λ r. ⌜ r ≡ isFront (sheetOf (now (s .entry))) pack ⌝ }
+{
+    (pack != NO_PACK)
+        & (field(s, PACKS, pack, PACK_KIND) == 3)
+        & (field(s, PACKS, pack, PACK_FRONT) == 1)
+}
+
+// The values of an object with a pack.
+fn object_values(s: &[u8], at: usize, o: u16, pack: u16) -> ObjectValues
+    requires { ⌜ (at ≡ start (sheetOf (now s)) objects o) × (at < 2199023255552) × (pack ≡ packOf (sheetOf (now s)) o) ⌝ }
     ensures { λ r. ⌜ r ≡ objectValues (sheetOf (now (s .entry))) o ⌝ }
 {
-    let at = start(s, OBJECTS, o as u32);
     ObjectValues {
         interact: word(s, at + 7),
-        front: has_front_pack(s, o),
+        front: is_front(s, pack),
         gains: values_at(s, at + 8, at + 9, at + 10),
         offsets: values_at(s, at + 11, at + 12, at + 13),
     }
@@ -104,61 +123,58 @@ fn values_break(v: ObjectValues) -> bool
 }
 
 // An object without a pack: it has children and no tracks, and each child is an object with a pack of kind 3.
-fn children_break(s: &[u8], o: u16) -> bool
+fn children_break(s: &[u8], at: usize, o: u16) -> bool
+    requires { ⌜ (at ≡ start (sheetOf (now s)) objects o) × (at < 2199023255552) ⌝ }
     ensures { λ r. ⌜ r ≡ childrenBroken (sheetOf (now (s .entry))) o ⌝ }
 {
-    let n = number(s, OBJECTS, o, CHILD_LIST);
+    let n = word(s, at + 4);
     (n == 0)
-        | (number(s, OBJECTS, o, TRACK_LIST) != 0)
+        | (word(s, at + 2) != 0)
         | any_bad_child(
             s,
             offset(s, REFERENCES),
-            field(s, OBJECTS, o, CHILD_LIST),
+            word(s, at + 3),
             n,
             count(s, OBJECTS),
         )
 }
 
 // An object with a pack: it has no children, and its tracks are the pack's channels in their order.
-fn tracks_break(s: &[u8], o: u16, pack: u16) -> bool
+fn tracks_break(s: &[u8], at: usize, o: u16, pack: u16) -> bool
+    requires { ⌜ (at ≡ start (sheetOf (now s)) objects o) × (at < 2199023255552) ⌝ }
     ensures { λ r. ⌜ r ≡ tracksBroken (sheetOf (now (s .entry))) o pack ⌝ }
 {
-    let n = number(s, OBJECTS, o, TRACK_LIST);
-    (0 < number(s, OBJECTS, o, CHILD_LIST))
+    let n = word(s, at + 2);
+    (0 < word(s, at + 4))
         | (count(s, PACKS) <= pack)
         | (n != field(s, PACKS, pack, PACK_CHANNELS))
-        | any_out_of_order(
-            s,
-            offset(s, REFERENCES),
-            field(s, OBJECTS, o, TRACK_LIST),
-            n,
-            pack,
-        )
+        | any_out_of_order(s, offset(s, REFERENCES), word(s, at + 1), n, pack)
 }
 
 // Whether an object may break rule 13 or 14, or rule 5 by its pack, a track or a child.
-fn source_breaks(s: &[u8], o: u16) -> bool
+fn source_breaks(s: &[u8], at: usize, o: u16, pack: u16) -> bool
+    requires { ⌜ (at ≡ start (sheetOf (now s)) objects o) × (at < 2199023255552) × (pack ≡ packOf (sheetOf (now s)) o) ⌝ }
     ensures { λ r. ⌜ (r ≡ false → sourceKept (sheetOf (now (s .entry))) o) ⌝ }
 {
-    let pack = pack_of(s, o);
     if pack == NO_PACK {
-        return children_break(s, o);
+        return children_break(s, at, o);
     }
-    tracks_break(s, o, pack)
+    tracks_break(s, at, o, pack)
 }
 
 // Whether an object may break rule 19 or 20, or rule 5 by a complement.
-fn complements_break(s: &[u8], tops: &[u16], complements: &[u16], o: u16) -> bool
+fn complements_break(s: &[u8], tops: &[u16], complements: &[u16], at: usize, o: u16) -> bool
+    requires { ⌜ (at ≡ start (sheetOf (now s)) objects o) × (at < 2199023255552) ⌝ }
     ensures { λ r. ⌜ (r ≡ false → Tops (sheetOf (now (s .entry))) (now (tops .entry)) → Complemented (sheetOf (now (s .entry))) (now (complements .entry)) → complementsKept (sheetOf (now (s .entry))) o) ⌝ }
 {
-    let n = number(s, OBJECTS, o, COMPLEMENT_LIST);
+    let n = word(s, at + 6);
     if n == 0 {
         return false;
     }
     any_lacking(
         s,
         offset(s, REFERENCES),
-        field(s, OBJECTS, o, COMPLEMENT_LIST),
+        word(s, at + 5),
         n,
         count(s, OBJECTS),
     )
@@ -166,21 +182,28 @@ fn complements_break(s: &[u8], tops: &[u16], complements: &[u16], o: u16) -> boo
         | rule20(s, OBJECTS, o)
 }
 
+// Whether an object that isn't top may break rule 15.
+fn child_breaks(s: &[u8], tops: &[u16], o: u16) -> bool
+    ensures { λ r. ⌜ (r ≡ false → Tops (sheetOf (now (s .entry))) (now (tops .entry)) → rule15 (sheetOf (now (s .entry))) objects o ≡ false) ⌝ }
+{
+    if top_by(s, tops, o) {
+        return false;
+    }
+    rule15(s, tops, OBJECTS, o)
+}
+
 // Whether an object, or a set of its, may break a rule.
 pub fn object_breaks(s: &[u8], named: &[u16], tops: &[u16], complements: &[u16], o: u16) -> bool
     ensures { λ r. ⌜ (r ≡ false → Named (sheetOf (now (s .entry))) (now (named .entry)) → Tops (sheetOf (now (s .entry))) (now (tops .entry)) → Complemented (sheetOf (now (s .entry))) (now (complements .entry)) → objectBroken (sheetOf (now (s .entry))) o ≡ false) ⌝ }
 {
-    let values = object_values(s, o);
-    object_lists_break(s, o)
+    let at = start(s, OBJECTS, o as u32);
+    let pack = pack_of(s, o);
+    let values = object_values(s, at, o, pack);
+    object_lists_break(s, at, o)
         | values_break(values)
-        | any_set_breaks(
-            s,
-            field(s, OBJECTS, o, SET_SPAN),
-            number(s, OBJECTS, o, SET_SPAN),
-            values,
-        )
-        | source_breaks(s, o)
-        | complements_break(s, tops, complements, o)
+        | any_set_breaks(s, word(s, at + 14), word(s, at + 15), values)
+        | source_breaks(s, at, o, pack)
+        | complements_break(s, tops, complements, at, o)
         | rule11(s, named, OBJECTS, o)
-        | rule15(s, tops, OBJECTS, o)
+        | child_breaks(s, tops, o)
 }

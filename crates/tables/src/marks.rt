@@ -4,15 +4,32 @@ use crate::Naming;
 use crate::namings::item;
 use crate::namings::items;
 use crate::namings::namers;
-ghost use Prim.Native.Nat.{ℕ, _≤_};
+use sheet::fields::CHILD_LIST;
+use sheet::fields::COMPLEMENT_LIST;
+use sheet::fields::CONTENT_LIST;
+use sheet::fields::CONTENT_OBJECT;
+use sheet::fields::CONTENTS;
+use sheet::fields::OBJECTS;
+use sheet::fields::PROGRAMMES;
+use sheet::fields::REFERENCES;
+use sheet::fields::SET_LIST;
+use sheet::fields::SET_SPAN;
+use sheet::layout::field;
+use sheet::layout::number;
+use sheet::layout::offset;
+use sheet::words::word;
+ghost use Prim.Native.Nat.{ℕ, _+_, _≤_};
 ghost use lib.Dec.{eqb};
 ghost use lib.ListN.{getD, length};
 ghost use mathlib.Core.Bool.{cond};
 ghost use mathlib.Core.Path.{_≡_};
-ghost use Rattle.sheet.specs.Words.{sheetOf};
+ghost use Rattle.profile.specs.Counting.{howMany};
+ghost use Rattle.profile.specs.Relations.{times};
+ghost use Rattle.sheet.specs.Words.{sheetOf, word};
 ghost use Rattle.tables.specs.Marks.{Standing, firstBy, marked, namedBy, repeat, timesBy};
 ghost use Rattle.tables.specs.Right.{Included, NamedSets};
 ghost use Rattle.tables.specs.declared.Mark.the-variants.{Count};
+ghost use Rattle.tables.specs.declared.Naming.the-variants.{Included as IncludedObjects};
 
 // What a place has after a mark.
 fn after(mark: Mark, c: u16) -> u16
@@ -34,15 +51,79 @@ pub fn mark_at(table: &mut [u16], x: u32, mark: Mark)
     }
 }
 
+// Marks n places from one on.
+fn mark_span(from: u16, n: u16, mark: Mark, table: &mut [u16])
+    ensures { λ r. ⌜ (length (now (table .exit)) ≡ length (now (table .entry))) × Standing (λ x. repeat (marked mark) (howMany (λ j. eqb (from + j) x) n) (getD (now (table .entry)) x 0)) (now (table .exit)) ⌝ }
+{
+    let mut i: u16 = 0;
+    while i < n {
+        mark_at(table, from as u32 + i as u32, mark);
+        i += 1;
+    }
+}
+
+// Marks the entries of a list: n entries of section 6, whose offset is `base`, from `first` on.
+fn mark_list(s: &[u8], base: u16, first: u16, n: u16, mark: Mark, table: &mut [u16])
+    ensures { λ r. ⌜ (length (now (table .exit)) ≡ length (now (table .entry))) × Standing (λ x. repeat (marked mark) (howMany (λ j. eqb (word (sheetOf (now (s .entry))) (base + (first + j))) x) n) (getD (now (table .entry)) x 0)) (now (table .exit)) ⌝ }
+{
+    let mut i: u16 = 0;
+    while i < n {
+        mark_at(
+            table,
+            word(s, base as usize + (first as usize + i as usize)) as u32,
+            mark,
+        );
+        i += 1;
+    }
+}
+
+// Marks the objects that a programme includes.
+fn mark_objects(s: &[u8], q: u16, mark: Mark, table: &mut [u16])
+    ensures { λ r. ⌜ (length (now (table .exit)) ≡ length (now (table .entry))) × Standing (λ x. repeat (marked mark) (timesBy (sheetOf (now (s .entry))) IncludedObjects q x) (getD (now (table .entry)) x 0)) (now (table .exit)) ⌝ }
+{
+    let n = items(s, Naming::Included, q);
+    let mut i: u16 = 0;
+    while i < n {
+        mark_at(table, item(s, Naming::Included, q, i), mark);
+        i += 1;
+    }
+}
+
+// Marks the entries of the list at a position of a record.
+fn mark_listed(s: &[u8], section: u8, q: u16, at: u8, mark: Mark, table: &mut [u16])
+    ensures { λ r. ⌜ (length (now (table .exit)) ≡ length (now (table .entry))) × Standing (λ x. repeat (marked mark) (times (sheetOf (now (s .entry))) section q at x) (getD (now (table .entry)) x 0)) (now (table .exit)) ⌝ }
+{
+    mark_list(
+        s,
+        offset(s, REFERENCES),
+        field(s, section, q, at),
+        number(s, section, q, at),
+        mark,
+        table,
+    );
+}
+
 // Marks all that a record names.
 pub fn mark_items(s: &[u8], kind: Naming, q: u16, mark: Mark, table: &mut [u16])
     ensures { λ r. ⌜ (length (now (table .exit)) ≡ length (now (table .entry))) × Standing (λ x. repeat (marked mark) (timesBy (sheetOf (now (s .entry))) kind q x) (getD (now (table .entry)) x 0)) (now (table .exit)) ⌝ }
 {
-    let n = items(s, kind, q);
-    let mut i: u16 = 0;
-    while i < n {
-        mark_at(table, item(s, kind, q, i), mark);
-        i += 1;
+    match kind {
+        Naming::ContentObjects => mark_at(
+            table,
+            field(s, CONTENTS, q, CONTENT_OBJECT) as u32,
+            mark,
+        ),
+        Naming::Children => mark_listed(s, OBJECTS, q, CHILD_LIST, mark, table),
+        Naming::Complements => mark_listed(s, OBJECTS, q, COMPLEMENT_LIST, mark, table),
+        Naming::ContentLists => mark_listed(s, PROGRAMMES, q, CONTENT_LIST, mark, table),
+        Naming::Included => mark_objects(s, q, mark, table),
+        Naming::SetLists => mark_listed(s, PROGRAMMES, q, SET_LIST, mark, table),
+        Naming::SetSpans => mark_span(
+            field(s, OBJECTS, q, SET_SPAN),
+            number(s, OBJECTS, q, SET_SPAN),
+            mark,
+            table,
+        ),
     }
 }
 

@@ -2,26 +2,35 @@
 use mathlib.Core.Path.{_≡_, sym, _∙_}
 use mathlib.Core.Bool.{false, _||_}
 use Rattle.sheet.specs.Words.{sheetOf}
+use Prim.Native.Nat.{_+_}
+use mathlib.Core.Path.{ap}
 use Rattle.profile.proofs.BoolLaws.{or-none-3}
 use Rattle.profile.specs.Rules.{listLacks, lacks}
-use Rattle.sheet.specs.Layout.{entry, reference}
+use Rattle.sheet.specs.Layout.{entry, reference, number, field}
 use Rattle.screen.specs.Entries.{lackingAt, listed}
 use Rattle.screen.proofs.ObjectLaws.{no-complements}
 use borrow.Author.Needs.{needs}
 use Rattle.screen.proofs.objects.complements_break.Statement.{statement}
 use Rattle.screen.proofs.objects.complements_break.Tie as tie
 
-number-requires : tie.Need-number-requires
-number-requires c κs = search needs
+add-word : tie.Need-add-word
+add-word c = search needs
+
+word-requires : tie.Need-word-requires
+word-requires c κs = search needs
 
 returns : tie.Need-returns
-returns c = λ e t f. no-complements (sheetOf (c .before .before .before .before .before .args .s .now)) (c .before .before .before .before .before .args .o) (sym (c .before .number .ensures) ∙ c .if1 .taken)
+unfolding number field
+returns c = λ e t f. no-complements (sheetOf (c .before .before .before .before .before .args .s .now)) (c .before .before .before .before .before .args .o) (sym (rw (c .before .before .before .before .before .pre .0) at (c .before .word .ensures)) ∙ c .if1 .taken)
 
 offset-requires : tie.Need-offset-requires
 offset-requires c κs = search needs
 
-field-requires : tie.Need-field-requires
-field-requires c κs = search needs
+add-word-2 : tie.Need-add-word-2
+add-word-2 c = search needs
+
+word-requires-2 : tie.Need-word-requires-2
+word-requires-2 c κs = search needs
 
 count-requires : tie.Need-count-requires
 count-requires c κs = search needs
@@ -36,17 +45,19 @@ rule20-requires : tie.Need-rule20-requires
 rule20-requires c κs = search needs
 
 returns-2 : tie.Need-returns-2
-unfolding listLacks lacks lackingAt listed entry reference
-returns-2 c = λ e t f. let p = or-none-3 (c .before .before .any-lacking .result) (c .before .rule19 .result) (c .rule20 .result) e in (rw (c .before .before .before .before .before .offset .ensures, c .before .before .before .before .field .ensures, c .before .before .before .count .ensures, c .before .before .before .before .before .before .before .number .ensures) at (sym (c .before .before .any-lacking .ensures) ∙ p .0), sym (c .before .rule19 .ensures t f) ∙ p .1, sym (c .rule20 .ensures) ∙ p .2)
+unfolding listLacks lacks lackingAt listed entry reference number field
+returns-2 c = λ e t f. let p = or-none-3 (c .before .before .any-lacking .result) (c .before .rule19 .result) (c .rule20 .result) e in (rw (c .before .before .before .before .before .offset .ensures, c .before .before .before .before .word2 .ensures, c .before .before .before .count .ensures, c .before .before .before .before .before .before .before .word .ensures, c .before .before .before .before .before .before .before .before .before .before .before .pre .0) at (sym (c .before .before .any-lacking .ensures) ∙ p .0), sym (c .before .rule19 .ensures t f) ∙ p .1, sym (c .rule20 .ensures) ∙ p .2)
 
 pub complements-break-spec : {M : Type 1} → statement M
 complements-break-spec =
     tie.close
     (tie.spec
-    number-requires
+    add-word
+    word-requires
     returns
     offset-requires
-    field-requires
+    add-word-2
+    word-requires-2
     count-requires
     any-lacking-requires
     rule19-requires

@@ -1,4 +1,5 @@
 -- Each test is its callee's. Assumes nothing.
+use Rattle.sheet.specs.Layout.{field, number, start}
 use Rattle.screen.specs.Objects.{objectListsBroken}
 use borrow.Author.Needs.{needs}
 use Rattle.screen.proofs.objects.object_lists_break.Statement.{statement}
@@ -7,32 +8,53 @@ use Rattle.screen.proofs.objects.object_lists_break.Tie as tie
 count-requires : tie.Need-count-requires
 count-requires c κs = search needs
 
-number-requires : tie.Need-number-requires
-number-requires c κs = search needs
+add-word : tie.Need-add-word
+add-word c = search needs
 
-number-requires-2 : tie.Need-number-requires-2
-number-requires-2 c κs = search needs
+word-requires : tie.Need-word-requires
+word-requires c κs = search needs
 
-number-requires-3 : tie.Need-number-requires-3
-number-requires-3 c κs = search needs
+add-word-2 : tie.Need-add-word-2
+add-word-2 c = search needs
 
-field-requires : tie.Need-field-requires
-field-requires c κs = search needs
+word-requires-2 : tie.Need-word-requires-2
+word-requires-2 c κs = search needs
 
-number-requires-4 : tie.Need-number-requires-4
-number-requires-4 c κs = search needs
+add-word-3 : tie.Need-add-word-3
+add-word-3 c = search needs
+
+word-requires-3 : tie.Need-word-requires-3
+word-requires-3 c κs = search needs
+
+add-word-4 : tie.Need-add-word-4
+add-word-4 c = search needs
+
+word-requires-4 : tie.Need-word-requires-4
+word-requires-4 c κs = search needs
+
+add-word-5 : tie.Need-add-word-5
+add-word-5 c = search needs
+
+word-requires-5 : tie.Need-word-requires-5
+word-requires-5 c κs = search needs
 
 beyond-requires : tie.Need-beyond-requires
 beyond-requires c κs = search needs
 
-field-requires-2 : tie.Need-field-requires-2
-field-requires-2 c κs = search needs
+add-word-6 : tie.Need-add-word-6
+add-word-6 c = search needs
+
+word-requires-6 : tie.Need-word-requires-6
+word-requires-6 c κs = search needs
 
 beyond-requires-2 : tie.Need-beyond-requires-2
 beyond-requires-2 c κs = search needs
 
-field-requires-3 : tie.Need-field-requires-3
-field-requires-3 c κs = search needs
+add-word-7 : tie.Need-add-word-7
+add-word-7 c = search needs
+
+word-requires-7 : tie.Need-word-requires-7
+word-requires-7 c κs = search needs
 
 beyond-requires-3 : tie.Need-beyond-requires-3
 beyond-requires-3 c κs = search needs
@@ -40,56 +62,55 @@ beyond-requires-3 c κs = search needs
 count-requires-2 : tie.Need-count-requires-2
 count-requires-2 c κs = search needs
 
-field-requires-4 : tie.Need-field-requires-4
-field-requires-4 c κs = search needs
+add-word-8 : tie.Need-add-word-8
+add-word-8 c = search needs
+
+word-requires-8 : tie.Need-word-requires-8
+word-requires-8 c κs = search needs
 
 beyond-requires-4 : tie.Need-beyond-requires-4
 beyond-requires-4 c κs = search needs
 
-cast-exceeds : tie.Need-cast-exceeds
-cast-exceeds c = search needs
+exceeding-requires : tie.Need-exceeding-requires
+exceeding-requires c κs = search needs
 
-exceeds-requires : tie.Need-exceeds-requires
-exceeds-requires c κs = search needs
+exceeding-requires-2 : tie.Need-exceeding-requires-2
+exceeding-requires-2 c κs = search needs
 
-cast-exceeds-2 : tie.Need-cast-exceeds-2
-cast-exceeds-2 c = search needs
-
-exceeds-requires-2 : tie.Need-exceeds-requires-2
-exceeds-requires-2 c κs = search needs
-
-cast-exceeds-3 : tie.Need-cast-exceeds-3
-cast-exceeds-3 c = search needs
-
-exceeds-requires-3 : tie.Need-exceeds-requires-3
-exceeds-requires-3 c κs = search needs
+exceeding-requires-3 : tie.Need-exceeding-requires-3
+exceeding-requires-3 c κs = search needs
 
 returns : tie.Need-returns
-unfolding objectListsBroken
-returns c = simp (c .exceeds3 .ensures, c .before .exceeds2 .ensures, c .before .before .exceeds .ensures, c .before .before .before .beyond4 .ensures, c .before .before .before .before .field4 .ensures, c .before .before .before .before .before .count2 .ensures, c .before .before .before .before .before .before .beyond3 .ensures, c .before .before .before .before .before .before .before .field3 .ensures, c .before .before .before .before .before .before .before .before .beyond2 .ensures, c .before .before .before .before .before .before .before .before .before .field2 .ensures, c .before .before .before .before .before .before .before .before .before .before .beyond .ensures, c .before .before .before .before .before .before .before .before .before .before .before .number4 .ensures, c .before .before .before .before .before .before .before .before .before .before .before .before .field .ensures, c .before .before .before .before .before .before .before .before .before .before .before .before .before .number3 .ensures, c .before .before .before .before .before .before .before .before .before .before .before .before .before .before .number2 .ensures, c .before .before .before .before .before .before .before .before .before .before .before .before .before .before .before .number .ensures, c .before .before .before .before .before .before .before .before .before .before .before .before .before .before .before .before .count .ensures)
+unfolding objectListsBroken number field
+returns c = simp (c .exceeding3 .ensures, c .before .exceeding2 .ensures, c .before .before .exceeding .ensures, c .before .before .before .beyond4 .ensures, c .before .before .before .before .word8 .ensures, c .before .before .before .before .before .count2 .ensures, c .before .before .before .before .before .before .beyond3 .ensures, c .before .before .before .before .before .before .before .word7 .ensures, c .before .before .before .before .before .before .before .before .beyond2 .ensures, c .before .before .before .before .before .before .before .before .before .word6 .ensures, c .before .before .before .before .before .before .before .before .before .before .beyond .ensures, c .before .before .before .before .before .before .before .before .before .before .before .word5 .ensures, c .before .before .before .before .before .before .before .before .before .before .before .before .word4 .ensures, c .before .before .before .before .before .before .before .before .before .before .before .before .before .word3 .ensures, c .before .before .before .before .before .before .before .before .before .before .before .before .before .before .word2 .ensures, c .before .before .before .before .before .before .before .before .before .before .before .before .before .before .before .word .ensures, c .before .before .before .before .before .before .before .before .before .before .before .before .before .before .before .before .count .ensures, c .before .before .before .before .before .before .before .before .before .before .before .before .before .before .before .before .before .before .pre .0)
 
 pub object-lists-break-spec : {M : Type 1} → statement M
 object-lists-break-spec =
     tie.close
     (tie.spec
     count-requires
-    number-requires
-    number-requires-2
-    number-requires-3
-    field-requires
-    number-requires-4
+    add-word
+    word-requires
+    add-word-2
+    word-requires-2
+    add-word-3
+    word-requires-3
+    add-word-4
+    word-requires-4
+    add-word-5
+    word-requires-5
     beyond-requires
-    field-requires-2
+    add-word-6
+    word-requires-6
     beyond-requires-2
-    field-requires-3
+    add-word-7
+    word-requires-7
     beyond-requires-3
     count-requires-2
-    field-requires-4
+    add-word-8
+    word-requires-8
     beyond-requires-4
-    cast-exceeds
-    exceeds-requires
-    cast-exceeds-2
-    exceeds-requires-2
-    cast-exceeds-3
-    exceeds-requires-3
+    exceeding-requires
+    exceeding-requires-2
+    exceeding-requires-3
     returns)

@@ -1,11 +1,9 @@
 -- Each word is there. Assumes nothing.
-use Rattle.screen.specs.Objects.{objectValues}
+use Rattle.profile.specs.Relations.{hasFrontPack, hasObjectsPack, hasPack}
+use Rattle.screen.specs.Objects.{objectValues, isFront}
 use borrow.Author.Needs.{needs}
 use Rattle.screen.proofs.objects.object_values.Statement.{statement}
 use Rattle.screen.proofs.objects.object_values.Tie as tie
-
-start-requires : tie.Need-start-requires
-start-requires c κs = search needs
 
 add-word : tie.Need-add-word
 add-word c = search needs
@@ -13,8 +11,8 @@ add-word c = search needs
 word-requires : tie.Need-word-requires
 word-requires c κs = search needs
 
-has-front-pack-requires : tie.Need-has-front-pack-requires
-has-front-pack-requires c κs = search needs
+is-front-requires : tie.Need-is-front-requires
+is-front-requires c κs = search needs
 
 add-values-at : tie.Need-add-values-at
 add-values-at c = search needs
@@ -41,17 +39,16 @@ values-at-requires-2 : tie.Need-values-at-requires-2
 values-at-requires-2 c κs = search needs
 
 returns : tie.Need-returns
-unfolding objectValues
-returns c = simp (c .values-at2 .ensures, c .before .values-at .ensures, c .before .before .has-front-pack .ensures, c .before .before .before .word .ensures, c .before .before .before .before .start .ensures .0)
+unfolding objectValues isFront hasFrontPack hasObjectsPack hasPack
+returns c = simp (c .values-at2 .ensures, c .before .values-at .ensures, c .before .before .is-front .ensures, c .before .before .before .word .ensures, c .before .before .before .before .before .pre .0, c .before .before .before .before .before .pre .2)
 
 pub object-values-spec : {M : Type 1} → statement M
 object-values-spec =
     tie.close
     (tie.spec
-    start-requires
     add-word
     word-requires
-    has-front-pack-requires
+    is-front-requires
     add-values-at
     add-values-at-2
     add-values-at-3
