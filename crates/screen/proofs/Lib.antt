@@ -1,4 +1,5 @@
 mod NoughtLaws
 mod ObjectLaws
 mod ScreenedLaws
+mod SetLaws
 mod SpeechLaws

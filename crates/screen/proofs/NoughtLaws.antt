@@ -1,6 +1,7 @@
 -- What a pass leaves in a table of noughts. Assumes nothing.
-use Prim.Native.Nat.{ℕ, _<_}
-use mathlib.Core.Path.{_≡_, sym, ap, _∙_}
+use Prim.Native.Nat.{ℕ, _+_, _<_}
+use mathlib.Core.Path.{_≡_, refl, sym, ap, _∙_}
+use native.Mathlib.Omega.{arith}
 use mathlib.Core.List.{List}
 use lib.ListN.{length, getD}
 use Rattle.sheet.specs.Words.{Sheet}
@@ -9,7 +10,15 @@ use Rattle.tables.specs.declared.Naming.the-variants.{ContentObjects, Children,
 use Rattle.tables.specs.declared.Mark.the-variants.{Count}
 use Rattle.tables.specs.Marks.{Standing, marked, repeat, namedBy, firstBy}
 use Rattle.tables.specs.Right.{counted, Named, Spanned}
-use Rattle.tables.proofs.TableLaws.{namings-added, span-namings}
+use Rattle.tables.proofs.TableLaws.{namings-added, span-namings, counted-one}
+use mathlib.Core.Bool.{true, false, not, _&&_, _||_}
+use lib.Dec.{eqb}
+use borrow.Author.Tests.{eq-eqb, eqb-true, eqb-false}
+use Rattle.sheet.specs.Layout.{count}
+use Rattle.sheet.specs.Fields.{objects, valueSets}
+use Rattle.profile.specs.Counting.{howMany}
+use Rattle.profile.specs.Relations.{hasSet}
+use Rattle.profile.specs.Rules.{rule11}
 
 module _ (s : Sheet) (t₀ t : List ℕ) (nought : Standing (λ x. 0) t₀) (long : length t ≡ length t₀) where
   pub counts-made : (kind : Naming) → Standing (λ x. repeat (marked Count) (namedBy s kind x) (getD t₀ x 0)) t → Standing (λ x. counted (namedBy s kind x)) t
@@ -29,3 +38,21 @@ named-made s t₀ t u nought long e h k x l =
     k x l
     ∙ ap (repeat (marked Count) (namedBy s Children x)) (h x (rw e at l) ∙ ap (repeat (marked Count) (namedBy s ContentObjects x)) (nought x (rw (e, long) at l)))
     ∙ namings-added s x
+
+-- a set that the table has once is in one span
+pub spanned-once : (s : Sheet) (t : List ℕ) (v : ℕ) → Spanned s t → v < length t → getD t v 0 ≡ 1 → rule11 s valueSets v ≡ false
+unfolding rule11
+spanned-once s t v right l e =
+    let one : eqb (howMany (λ o. hasSet s o v) (count s objects)) 1 ≡ true = sym (counted-one (howMany (λ o. hasSet s o v) (count s objects))) ∙ eq-eqb (counted (howMany (λ o. hasSet s o v) (count s objects))) 1 (sym (right v l) ∙ e) in
+    simp one
+
+-- places that have 1, one after the other
+pub once-none : (t : List ℕ) (x : ℕ) → x < 0 → getD t x 0 ≡ 1
+once-none t x l = absurd (omega arith)
+
+pub once-more : (t : List ℕ) (i : ℕ) → ((x : ℕ) → x < i → getD t x 0 ≡ 1) → getD t i 0 ≡ 1 → (x : ℕ) → x < i + 1 → getD t x 0 ≡ 1
+once-more t i h e x l =
+    (elim (eqb x i) as (λ b. eqb x i ≡ b → getD t x 0 ≡ 1) [
+      | true ↦ λ q. ap (λ (y : ℕ). getD t y 0) (eqb-true x i q) ∙ e
+      | false ↦ λ q. h x (omega (arith, l, eqb-false x i q))
+    ]) refl

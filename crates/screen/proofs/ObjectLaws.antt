@@ -18,7 +18,7 @@ use Rattle.profile.proofs.BoolLaws.{or-false, or-none, or-none-3, or-none-4, an
 use Rattle.profile.proofs.CountingLaws.{any-none}
 use Rattle.profile.proofs.SumLaws.{any-nowhere, howMany-eq}
 use Rattle.screen.specs.Entries.{listed, badChildAt, outOfOrderAt}
-use Rattle.screen.specs.Values.{valuesAt, hasRange, wordsBroken, valueLeaves, setBroken}
+use Rattle.screen.specs.Values.{valuesAt, hasRange, wordsBroken, valueLeaves, setWordsBroken, setBroken}
 use Rattle.screen.specs.Objects.{objectListsBroken, objectValues, valuesBroken, childrenBroken, tracksBroken, sourceKept, complementsKept, setsBroken, objectBroken}
 
 -- two tests of each number below n
@@ -181,7 +181,7 @@ pub set-kept : (s : Sheet) (o v : ℕ) → setBroken s (objectValues s o) (start
     × (((not (isAbsent (field s valueSets v (setValue Offsets))) || setRange s v Offsets) && not (hasFrontPack s o)) ≡ false)
     × (setLeaves s o v Gains ≡ false)
     × (setLeaves s o v Offsets ≡ false)
-unfolding setBroken objectValues valuesAt hasRange wordsBroken valueLeaves badSet badSetWords setRange setLeaves effectiveValue effectiveMinimum effectiveMaximum ownValue field
+unfolding setBroken setWordsBroken objectValues valuesAt hasRange wordsBroken valueLeaves badSet badSetWords setRange setLeaves effectiveValue effectiveMinimum effectiveMaximum ownValue field
 set-kept s o v e =
     let p = or-none-8
     (ltb 1 (field s valueSets v setOwn))

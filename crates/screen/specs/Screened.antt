@@ -1,6 +1,6 @@
 -- What the screening of a sheet tests of a record. Assumes nothing.
 use Prim.Native.Nat.{ℕ, _+_}
-use mathlib.Core.Bool.{Bool, cond, not, _&&_, _||_}
+use mathlib.Core.Bool.{Bool, not, _&&_, _||_}
 use mathlib.Core.List.{List}
 use lib.Dec.{eqb, ltb}
 use Rattle.sheet.specs.Words.{Sheet}
@@ -9,9 +9,9 @@ use Rattle.sheet.specs.Fields.{programmes, contents, objects, packs, tracks, re
 use Rattle.values.specs.Language.{language, loudness}
 use Rattle.profile.specs.Counting.{any, twoOf}
 use Rattle.profile.specs.Limits.{exceeds, labelsLimit, programmeContentsLimit, programmeSetsLimit}
-use Rattle.profile.specs.Rules.{outside, rule1, rule2, rule3, rule4, rule5, rule6, rule7, rule8, rule9, rule10, rule11, rule12}
+use Rattle.profile.specs.Rules.{outside, rule1, rule2, rule3, rule4, rule5, rule6, rule7, rule8, rule9, rule10, rule12}
 use Rattle.tables.specs.Marks.{Standing}
-use Rattle.tables.specs.Right.{Named, Spanned, Listed, Tops, Complemented}
+use Rattle.tables.specs.Right.{Named, Listed, Tops, Complemented}
 use Rattle.screen.specs.Entries.{lackingAt, noLanguageAt, sameAt}
 use Rattle.screen.specs.Objects.{objectBroken}
 
@@ -59,7 +59,7 @@ headerBroken s =
     || rule7 s 4 0
     || rule7 s 5 0
 
--- a record of a section breaks a rule from 4 to 20; of a value set, those of its object are with the object
+-- a record of sections 1 to 5 breaks a rule from 4 to 20; an object, also by a set of its
 unfoldable pub recordBroken : Sheet → ℕ → ℕ → Bool
 recordBroken s section k =
     eqb section programmes && programmeBroken s k
@@ -67,20 +67,14 @@ recordBroken s section k =
     || eqb section objects && objectBroken s k
     || eqb section packs && (rule6 s packs k || rule10 s packs k)
     || eqb section tracks && rule5 s tracks k
-    || eqb section valueSets && rule11 s valueSets k
-
--- how many records of a section are tested: the entries of section 6 are, with the lists that have them
-unfoldable pub recordCount : Sheet → ℕ → ℕ
-recordCount s section = cond (eqb section references) 0 (count s section)
 
 -- some record of a section does
 unfoldable pub sectionBroken : Sheet → ℕ → Bool
-sectionBroken s section = any (recordBroken s section) (recordCount s section)
+sectionBroken s section = any (recordBroken s section) (count s section)
 
 -- the tables that the records are tested with are right
-pub record RecordsTabled (s : Sheet) (named spanned listed tops complements : List ℕ) : Type 0 where
+pub record RecordsTabled (s : Sheet) (named listed tops complements : List ℕ) : Type 0 where
   pub named-right : Named s named
-  pub spanned-right : Spanned s spanned
   pub listed-right : Listed s listed
   pub tops-right : Tops s tops
   pub complements-right : Complemented s complements

@@ -1,6 +1,6 @@
 -- The values of an object and of its sets, as the screening tests them: on the words themselves. Assumes nothing.
 use Prim.Native.Nat.{ℕ, _+_}
-use mathlib.Core.Bool.{Bool, cond, not, _&&_, _||_}
+use mathlib.Core.Bool.{Bool, false, cond, not, _&&_, _||_}
 use lib.Dec.{eqb, ltb}
 use Rattle.sheet.specs.Words.{Sheet, word}
 use Rattle.sheet.specs.Fields.{setGain, setOwn, setGainMinimum, setGainMaximum, setOffset, setOffsetMinimum, setOffsetMaximum}
@@ -36,14 +36,25 @@ setGains s at = valuesAt s (at + setGain) (at + setGainMinimum) (at + setGainMax
 abbrev pub setOffsets : Sheet → ℕ → Values
 setOffsets s at = valuesAt s (at + setOffset) (at + setOffsetMinimum) (at + setOffsetMaximum)
 
--- the set whose words begin at an index breaks rule 6, 16, 17 or 18 as a set of an object with these values
+-- the words of a set that break rule 6, 16, 17 or 18 as a set of an object with these values
+unfoldable pub setWordsBroken : ℕ → Values → Values → ObjectValues → Bool
+setWordsBroken own gains offsets v =
+    ltb 1 own
+    || wordsBroken Gains gains
+    || wordsBroken Offsets offsets
+    || eqb own 0 && (hasRange gains || hasRange offsets)
+    || eqb (v .interact) 0 && eqb own 1
+    || (not (isAbsent (offsets .value)) || hasRange offsets) && not (v .front)
+    || valueLeaves Gains (eqb own 1) gains (v .gains)
+    || valueLeaves Offsets (eqb own 1) offsets (v .offsets)
+
+-- the same of a set with own 0 that has no more than a gain
+unfoldable pub gainBroken : Values → ObjectValues → Bool
+gainBroken gains v =
+    wordsBroken Gains gains
+    || valueLeaves Gains false gains (v .gains)
+    || leaves Offsets (orElse (v .offsets .value) 0) (v .offsets .minimum) (v .offsets .maximum)
+
+-- the set whose words begin at an index does
 unfoldable pub setBroken : Sheet → ObjectValues → ℕ → Bool
-setBroken s v at =
-    ltb 1 (word s (at + setOwn))
-    || wordsBroken Gains (setGains s at)
-    || wordsBroken Offsets (setOffsets s at)
-    || eqb (word s (at + setOwn)) 0 && (hasRange (setGains s at) || hasRange (setOffsets s at))
-    || eqb (v .interact) 0 && eqb (word s (at + setOwn)) 1
-    || (not (isAbsent (setOffsets s at .value)) || hasRange (setOffsets s at)) && not (v .front)
-    || valueLeaves Gains (eqb (word s (at + setOwn)) 1) (setGains s at) (v .gains)
-    || valueLeaves Offsets (eqb (word s (at + setOwn)) 1) (setOffsets s at) (v .offsets)
+setBroken s v at = setWordsBroken (word s (at + setOwn)) (setGains s at) (setOffsets s at) v

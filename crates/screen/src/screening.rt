@@ -1,4 +1,5 @@
 // The screening: a sheet that passes it is accepted. One that doesn't may be accepted too.
+use crate::records::all_once;
 use crate::records::header_breaks;
 use crate::records::records_pass;
 use grouping::programmes::programmes_pass;
@@ -15,6 +16,7 @@ use sheet::fields::PROGRAMMES;
 use sheet::fields::SET_LIST;
 use sheet::fields::SET_SPAN;
 use sheet::fields::TRACK_LIST;
+use sheet::fields::VALUE_SETS;
 use sheet::layout::count;
 use sheet::layout::level;
 use sheet::layout::number;
@@ -112,7 +114,10 @@ fn screened(
     count_namings(s, Naming::ContentLists, listed);
     count_namings(s, Naming::ContentObjects, tops);
     count_namings(s, Naming::Complements, complements);
-    if !records_pass(s, named, spanned, listed, tops, complements) {
+    if !records_pass(s, named, listed, tops, complements) {
+        return false;
+    }
+    if !all_once(spanned, count(s, VALUE_SETS)) {
         return false;
     }
     if totals_break(s, tops, complements) {

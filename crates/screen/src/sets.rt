@@ -13,7 +13,7 @@ ghost use Prim.Native.Nat.{_+_, _<_};
 ghost use mathlib.Core.Bool.{cond};
 ghost use mathlib.Core.Path.{_≡_};
 ghost use Rattle.profile.specs.Counting.{any};
-ghost use Rattle.screen.specs.Values.{hasRange, setBroken, valueLeaves, valuesAt, wordsBroken};
+ghost use Rattle.screen.specs.Values.{gainBroken, hasRange, setBroken, setWordsBroken, valueLeaves, valuesAt, wordsBroken};
 ghost use Rattle.sheet.specs.Fields.{valueSets};
 ghost use Rattle.sheet.specs.Layout.{start};
 ghost use Rattle.sheet.specs.Words.{sheetOf};
@@ -63,14 +63,25 @@ fn value_leaves(sort: Sort, own: bool, set: Values, object: Values) -> bool
         | !is_absent(set.value) & leaves(sort, set.value, object.minimum, object.maximum)
 }
 
-// Whether the set whose words begin at an index breaks rule 6, 16, 17 or 18 as a set of an object with these values.
-fn set_breaks(s: &[u8], at: usize, v: ObjectValues) -> bool
-    requires { ⌜ at < 2199023255552 ⌝ }
-    ensures { λ r. ⌜ r ≡ setBroken (sheetOf (now (s .entry))) v at ⌝ }
+// A set with own 0 that has no more than a gain: the object's offset is its own.
+fn gain_breaks(gains: Values, v: ObjectValues) -> bool
+    ensures { λ r. ⌜ r ≡ gainBroken gains v ⌝ }
 {
-    let own = word(s, at + 1);
-    let gains = values_at(s, at, at + 2, at + 3);
-    let offsets = values_at(s, at + 4, at + 5, at + 6);
+    let offsets = v.offsets;
+    words_break(Sort::Gains, gains)
+        | value_leaves(Sort::Gains, false, gains, v.gains)
+        | leaves(
+            Sort::Offsets,
+            or_else(offsets.value, 0),
+            offsets.minimum,
+            offsets.maximum,
+        )
+}
+
+// A set with any words.
+fn words_of_set_break(own: u16, gains: Values, offsets: Values, v: ObjectValues) -> bool
+    ensures { λ r. ⌜ r ≡ setWordsBroken own gains offsets v ⌝ }
+{
     (1 < own)
         | words_break(Sort::Gains, gains)
         | words_break(Sort::Offsets, offsets)
@@ -79,6 +90,21 @@ fn set_breaks(s: &[u8], at: usize, v: ObjectValues) -> bool
         | (!is_absent(offsets.value) | has_range(offsets)) & !v.front
         | value_leaves(Sort::Gains, own == 1, gains, v.gains)
         | value_leaves(Sort::Offsets, own == 1, offsets, v.offsets)
+}
+
+// Whether the set whose words begin at an index breaks rule 6, 16, 17 or 18 as a set of an object with these values. Most sets have
+// no more than a gain.
+fn set_breaks(s: &[u8], at: usize, v: ObjectValues) -> bool
+    requires { ⌜ at < 2199023255552 ⌝ }
+    ensures { λ r. ⌜ r ≡ setBroken (sheetOf (now (s .entry))) v at ⌝ }
+{
+    let own = word(s, at + 1);
+    let gains = values_at(s, at, at + 2, at + 3);
+    let offsets = values_at(s, at + 4, at + 5, at + 6);
+    if (own == 0) & !has_range(gains) & !has_range(offsets) & is_absent(offsets.value) {
+        return gain_breaks(gains, v);
+    }
+    words_of_set_break(own, gains, offsets, v)
 }
 
 // Whether one of the n sets from one on does.

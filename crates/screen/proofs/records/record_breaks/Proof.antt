@@ -36,9 +36,6 @@ field-requires c κs = search needs
 lacks-requires : tie.Need-lacks-requires
 lacks-requires c κs = search needs
 
-rule11-requires : tie.Need-rule11-requires
-rule11-requires c κs = search needs
-
 returns : tie.Need-returns
 unfolding recordBroken
 returns c = λ e t. simp (c .before .match .keys1, c .programme-breaks .ensures e, or-false)
@@ -61,11 +58,7 @@ returns-5 c = λ e t. simp (c .before .before .match .keys5, rw (c .before .fiel
 
 returns-6 : tie.Need-returns-6
 unfolding recordBroken
-returns-6 c = λ e t. simp (c .before .match .keys6, sym (c .rule11 .ensures (λ z. let y : _≡_ {A = ℕ} 7 3 = z in absurd (omega arith)) (λ z. t .spanned-right)) ∙ e, or-false)
-
-returns-7 : tie.Need-returns-7
-unfolding recordBroken
-returns-7 c = λ e t. simp (ne-eqb _ 1 (c .match .rest .0 .0 .0 .0 .0 .1), ne-eqb _ 2 (c .match .rest .0 .0 .0 .0 .1), ne-eqb _ 3 (c .match .rest .0 .0 .0 .1), ne-eqb _ 4 (c .match .rest .0 .0 .1), ne-eqb _ 5 (c .match .rest .0 .1), ne-eqb _ 7 (c .match .rest .1))
+returns-6 c = λ e t. simp (ne-eqb _ 1 (c .match .rest .0 .0 .0 .0 .1), ne-eqb _ 2 (c .match .rest .0 .0 .0 .1), ne-eqb _ 3 (c .match .rest .0 .0 .1), ne-eqb _ 4 (c .match .rest .0 .1), ne-eqb _ 5 (c .match .rest .1))
 
 pub record-breaks-spec : {M : Type 1} → statement M
 record-breaks-spec =
@@ -79,11 +72,9 @@ record-breaks-spec =
     rule10-requires
     field-requires
     lacks-requires
-    rule11-requires
     returns
     returns-2
     returns-3
     returns-4
     returns-5
-    returns-6
-    returns-7)
+    returns-6)

@@ -13,10 +13,10 @@ use Rattle.screen.proofs.records.records_pass.Statement.{statement}
 use Rattle.screen.proofs.records.records_pass.Tie as tie
 
 abbrev Inv-loop : tie.InvT-loop
-Inv-loop s named spanned listed tops complements section₀ section = (section ≤ 8) × (RecordsTabled (sheetOf s) named spanned listed tops complements → any (sectionBroken (sheetOf s)) section ≡ false)
+Inv-loop s named listed tops complements section₀ section = (section ≤ 6) × (RecordsTabled (sheetOf s) named listed tops complements → any (sectionBroken (sheetOf s)) section ≡ false)
 
 abbrev μ-loop : tie.MeasureT-loop
-μ-loop s named spanned listed tops complements section₀ section = 8 - section
+μ-loop s named listed tops complements section₀ section = 6 - section
 
 loop-holds : tie.Need-loop-holds Inv-loop μ-loop
 unfolding any
@@ -39,7 +39,7 @@ unfolding any
 loop-again c = (search needs, λ t. rw (add-one, c .before .section-passes .ensures (not-false (c .before .section-passes .result) (c .if1 .left)) t, c .before .before .before .loop .inv .1 t) refl)
 
 returns-2 : tie.Need-returns-2 Inv-loop μ-loop
-returns-2 c = λ e t. let h : c .before .loop .section ≡ 8 = omega arith in sym (ap (any _) h) ∙ c .before .loop .inv .1 t
+returns-2 c = λ e t. let h : c .before .loop .section ≡ 6 = omega arith in sym (ap (any _) h) ∙ c .before .loop .inv .1 t
 
 pub records-pass-spec : {M : Type 1} → statement M
 records-pass-spec =

@@ -13,13 +13,13 @@ use Rattle.screen.proofs.records.section_passes.Statement.{statement}
 use Rattle.screen.proofs.records.section_passes.Tie as tie
 
 abbrev Inv-loop : tie.InvT-loop
-Inv-loop s named spanned listed tops complements section n k₀ k = (k ≤ n) × (RecordsTabled (sheetOf s) named spanned listed tops complements → any (recordBroken (sheetOf s) section) k ≡ false)
+Inv-loop s named listed tops complements section n k₀ k = (k ≤ n) × (RecordsTabled (sheetOf s) named listed tops complements → any (recordBroken (sheetOf s) section) k ≡ false)
 
 abbrev μ-loop : tie.MeasureT-loop
-μ-loop s named spanned listed tops complements section n k₀ k = n - k
+μ-loop s named listed tops complements section n k₀ k = n - k
 
-record-count-requires : tie.Need-record-count-requires Inv-loop μ-loop
-record-count-requires c κs = search needs
+count-requires : tie.Need-count-requires Inv-loop μ-loop
+count-requires c κs = search needs
 
 loop-holds : tie.Need-loop-holds Inv-loop μ-loop
 unfolding any
@@ -43,7 +43,7 @@ loop-again c = (search needs, λ t. rw (add-one, c .before .record-breaks .ensur
 
 returns-2 : tie.Need-returns-2 Inv-loop μ-loop
 unfolding sectionBroken
-returns-2 c = λ e t. let h : c .before .loop .k ≡ c .before .before .record-count .result = omega arith in sym (ap (any _) (h ∙ c .before .before .record-count .ensures)) ∙ c .before .loop .inv .1 t
+returns-2 c = λ e t. let h : c .before .loop .k ≡ c .before .before .count .result = omega arith in sym (ap (any _) (h ∙ c .before .before .count .ensures)) ∙ c .before .loop .inv .1 t
 
 pub section-passes-spec : {M : Type 1} → statement M
 section-passes-spec =
@@ -51,7 +51,7 @@ section-passes-spec =
     (tie.spec
     Inv-loop
     μ-loop
-    record-count-requires
+    count-requires
     loop-holds
     record-breaks-requires
     returns

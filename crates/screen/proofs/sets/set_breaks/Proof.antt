@@ -1,6 +1,12 @@
--- Each test is its callee's. Assumes nothing.
+-- With no more than a gain, or with any words. Assumes nothing.
 use native.Mathlib.Nat.{add-zero}
-use Rattle.screen.specs.Values.{setBroken}
+use mathlib.Core.Path.{_≡_, sym, _∙_}
+use mathlib.Core.Bool.{true, not, _&&_}
+use lib.Dec.{eqb}
+use Rattle.sheet.specs.Words.{sheetOf}
+use Rattle.values.specs.Values.{isAbsent}
+use Rattle.screen.specs.Values.{setBroken, setGains, setOffsets, hasRange}
+use Rattle.screen.proofs.SetLaws.{only-gain}
 use borrow.Author.Needs.{needs}
 use Rattle.screen.proofs.sets.set_breaks.Statement.{statement}
 use Rattle.screen.proofs.sets.set_breaks.Tie as tie
@@ -32,12 +38,6 @@ add-values-at-5 c = search needs
 values-at-requires-2 : tie.Need-values-at-requires-2
 values-at-requires-2 c κs = search needs
 
-words-break-requires : tie.Need-words-break-requires
-words-break-requires c κs = search needs
-
-words-break-requires-2 : tie.Need-words-break-requires-2
-words-break-requires-2 c κs = search needs
-
 has-range-requires : tie.Need-has-range-requires
 has-range-requires c κs = search needs
 
@@ -47,18 +47,19 @@ has-range-requires-2 c κs = search needs
 is-absent-requires : tie.Need-is-absent-requires
 is-absent-requires c κs = search needs
 
-has-range-requires-3 : tie.Need-has-range-requires-3
-has-range-requires-3 c κs = search needs
-
-value-leaves-requires : tie.Need-value-leaves-requires
-value-leaves-requires c κs = search needs
-
-value-leaves-requires-2 : tie.Need-value-leaves-requires-2
-value-leaves-requires-2 c κs = search needs
+gain-breaks-requires : tie.Need-gain-breaks-requires
+gain-breaks-requires c κs = search needs
 
 returns : tie.Need-returns
 unfolding setBroken
-returns c = simp (c .value-leaves2 .ensures, c .before .value-leaves .ensures, c .before .before .before .has-range3 .ensures, c .before .before .before .before .is-absent .ensures, c .before .before .before .before .before .before .has-range2 .ensures, c .before .before .before .before .before .before .before .has-range .ensures, c .before .before .before .before .before .before .before .before .words-break2 .ensures, c .before .before .before .before .before .before .before .before .before .words-break .ensures, c .before .before .before .before .before .before .before .before .before .before .values-at2 .ensures, c .before .before .before .before .before .before .before .before .before .before .before .values-at .ensures, c .before .before .before .before .before .before .before .before .before .before .before .before .word .ensures, add-zero)
+returns c = let e = rw (c .before .before .before .before .has-range .ensures, c .before .before .before .has-range2 .ensures, c .before .before .is-absent .ensures) at (c .before .if1 .taken) in c .gain-breaks .ensures ∙ only-gain (c .before .before .before .before .before .before .before .word .result) (c .before .before .before .before .before .before .values-at .result) (c .before .before .before .before .before .values-at2 .result) (c .before .before .before .before .before .before .before .before .before .args .v) e ∙ simp (c .before .before .before .before .before .before .before .word .ensures, c .before .before .before .before .before .before .values-at .ensures, c .before .before .before .before .before .values-at2 .ensures, add-zero)
+
+words-of-set-break-requires : tie.Need-words-of-set-break-requires
+words-of-set-break-requires c κs = search needs
+
+returns-2 : tie.Need-returns-2
+unfolding setBroken
+returns-2 c = c .words-of-set-break .ensures ∙ simp (c .before .before .before .before .before .before .before .word .ensures, c .before .before .before .before .before .before .values-at .ensures, c .before .before .before .before .before .values-at2 .ensures, add-zero)
 
 pub set-breaks-spec : {M : Type 1} → statement M
 set-breaks-spec =
@@ -73,12 +74,10 @@ set-breaks-spec =
     add-values-at-4
     add-values-at-5
     values-at-requires-2
-    words-break-requires
-    words-break-requires-2
     has-range-requires
     has-range-requires-2
     is-absent-requires
-    has-range-requires-3
-    value-leaves-requires
-    value-leaves-requires-2
-    returns)
+    gain-breaks-requires
+    returns
+    words-of-set-break-requires
+    returns-2)
