@@ -138,7 +138,13 @@ fn lowest_broken(s: &[u8], rule: u8, section: u8, n: u16) -> u16
             }
             by_tables(s, rule, section, n)
         }
-        15 | 17 | 18 | 19 => by_tables(s, rule, section, n),
+        15 | 19 => by_tables(s, rule, section, n),
+        17 | 18 => {
+            if section == OBJECTS {
+                return plainly(s, rule, section, n);
+            }
+            by_tables(s, rule, section, n)
+        }
         21 | 22 => by_tables(s, rule, section, n),
         23 | 24 => by_tables(s, rule, section, n),
         _ => plainly(s, rule, section, n),
