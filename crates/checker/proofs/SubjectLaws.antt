@@ -1,18 +1,17 @@
 -- The tables of rules and subjects past their ends. Assumes nothing.
 use Prim.Native.Nat.{zero-le, ℕ, zero, suc, _+_, _-_, _/_, _%_, _<_, _≤_}
 use mathlib.Core.Path.{_≡_, refl, sym, ap, _∙_}
-use mathlib.Core.Bool.{Bool, true, false, not}
-use mathlib.Core.List.{List, [], _∷_}
+use mathlib.Core.Bool.{Bool, true, false}
+use mathlib.Core.List.{List, []}
 use native.Mathlib.Omega.{arith}
 use mathlib.Core.Logic.{⊎-elim}
-use native.Mathlib.Nat.{le-trans, eq-or-lt-of-le, eq-zero-or-pos}
-use lib.Dec.{eqb, ltb, leb}
-use lib.ListN.{length, getD, List·getD-eq-default}
-use borrow.Author.Tests.{le-ltb, ltb-true, ltb-false, leb-true, eqb-true, not-false}
+use native.Mathlib.Nat.{eq-or-lt-of-le, eq-zero-or-pos}
+use lib.Dec.{eqb, ltb}
+use lib.ListN.{getD, List·getD-eq-default}
+use borrow.Author.Tests.{le-ltb, ltb-true, ltb-false, eqb-true}
 use Rattle.sheet.specs.Words.{Sheet}
-use Rattle.profile.specs.Counting.{any, every}
+use Rattle.profile.specs.Counting.{every}
 use Rattle.profile.specs.Verdict.{breaks, rules, subjectTable, subjectKind, subjects, brokenRecord, sectionBroken}
-use Rattle.profile.proofs.CountingLaws.{any-none}
 use Rattle.profile.proofs.ListLaws.{every-at}
 use Rattle.checker.specs.Rows.{digit, subjectRows, subjectRow, subjectsOf}
 

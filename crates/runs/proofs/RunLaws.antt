@@ -6,13 +6,12 @@ use mathlib.Core.List.{List}
 use mathlib.Core.Logic.{⊎-elim}
 use native.Mathlib.Omega.{arith}
 use native.Mathlib.Nat.{add-zero, eq-or-lt-of-le}
-use borrow.Author.Tests.{lt-ltb, le-ltb, ltb-true, ltb-false, leb-true, eqb-true, eqb-false, eq-eqb, ne-eqb}
-use lib.Dec.{eqb, ltb, leb}
-use lib.ListN.{length, getD, set, replicate, length-set}
+use borrow.Author.Tests.{lt-ltb, le-ltb, ltb-true, ltb-false, eqb-true, eqb-false}
+use lib.Dec.{eqb, ltb}
+use lib.ListN.{length, getD}
 use Rattle.profile.specs.Counting.{any, twoOf}
 use Rattle.profile.proofs.BoolLaws.{or-false, and-both}
 use Rattle.tables.specs.Marks.{Standing}
-use Rattle.tables.proofs.MarkLaws.{set-standing}
 use Rattle.tables.proofs.TableLaws.{any-below, eqb-turned}
 use Rattle.runs.specs.Runs.{Next, Repeat}
 

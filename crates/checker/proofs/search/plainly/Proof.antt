@@ -1,7 +1,7 @@
 -- Empty tables are right. Assumes nothing.
 use Rattle.sheet.specs.Words.{sheetOf}
 use Rattle.checker.proofs.SearchLaws.{empty-right}
-use Rattle.checker.specs.Tables.{Right, firstTable, secondTable}
+use Rattle.checker.specs.Tables.{firstTable, secondTable}
 use borrow.Author.Needs.{needs}
 use Rattle.checker.proofs.search.plainly.Statement.{statement}
 use Rattle.checker.proofs.search.plainly.Tie as tie

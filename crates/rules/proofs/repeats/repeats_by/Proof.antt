@@ -1,6 +1,6 @@
 -- By the table, or by the list. Assumes nothing.
 use Prim.Native.Nat.{ℕ, _+_}
-use mathlib.Core.Path.{_≡_, sym, ap₂, _∙_}
+use mathlib.Core.Path.{sym, ap₂, _∙_}
 use borrow.Author.Tests.{ltb-true, leb-true}
 use lib.Dec.{eqb}
 use Rattle.sheet.specs.Words.{sheetOf}

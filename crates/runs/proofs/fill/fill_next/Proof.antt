@@ -1,15 +1,15 @@
 -- What stands from x on is right. Assumes nothing.
-use Prim.Native.Nat.{ℕ, suc, _+_, _-_, _<_, _≤_}
-use mathlib.Core.Path.{_≡_, refl, sym, ap, _∙_}
-use mathlib.Core.Bool.{Bool, true, false, cond}
+use Prim.Native.Nat.{suc, _-_, _≤_}
+use mathlib.Core.Path.{_≡_, refl, ap, _∙_}
+use mathlib.Core.Bool.{Bool, cond}
 use native.Mathlib.Omega.{arith}
-use lib.ListN.{length, getD, replicate, length-set, length-replicate, getD-replicate}
+use lib.ListN.{length}
 use Rattle.sheet.specs.Words.{sheetOf}
 use Rattle.sheet.specs.Layout.{count, reference}
 use Rattle.sheet.specs.Fields.{references}
-use Rattle.runs.specs.Runs.{Next, Repeat, NextRight, RepeatRight}
-use Rattle.runs.proofs.RunLaws.{next-start, next-more, repeat-start, repeat-more, Filled, filled-start, filled-more}
-use Rattle.relations.specs.Tests.{entryTest, anyEntry}
+use Rattle.runs.specs.Runs.{Next}
+use Rattle.runs.proofs.RunLaws.{next-start, next-more, Filled, filled-start, filled-more}
+use Rattle.relations.specs.Tests.{entryTest}
 use borrow.Author.Needs.{needs}
 use Rattle.runs.proofs.fill.fill_next.Statement.{statement}
 use Rattle.runs.proofs.fill.fill_next.Tie as tie

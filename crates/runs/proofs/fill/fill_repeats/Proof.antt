@@ -1,14 +1,14 @@
 -- What stands from x on is right, and the least index of each entry is kept. Assumes nothing.
-use Prim.Native.Nat.{ℕ, suc, _+_, _-_, _<_, _≤_}
-use mathlib.Core.Path.{_≡_, refl, sym, ap, _∙_}
-use mathlib.Core.Bool.{Bool, true, false, cond}
+use Prim.Native.Nat.{ℕ, suc, _-_, _<_, _≤_}
+use mathlib.Core.Path.{_≡_, refl, ap, _∙_}
+use mathlib.Core.Bool.{cond}
 use native.Mathlib.Omega.{arith}
 use lib.Dec.{eqb, ltb}
-use lib.ListN.{length, getD, replicate, length-set, length-replicate, getD-replicate}
+use lib.ListN.{length, getD, length-replicate, getD-replicate}
 use Rattle.sheet.specs.Words.{sheetOf}
 use Rattle.sheet.specs.Layout.{count, reference}
 use Rattle.sheet.specs.Fields.{references}
-use Rattle.runs.specs.Runs.{Next, Repeat, NextRight, RepeatRight}
+use Rattle.runs.specs.Runs.{Next, Repeat}
 use Rattle.runs.proofs.RunLaws.{next-start, next-more, repeat-start, repeat-more, Filled, filled-start, filled-more}
 use borrow.Author.Needs.{needs}
 use Rattle.runs.proofs.fill.fill_repeats.Statement.{statement}

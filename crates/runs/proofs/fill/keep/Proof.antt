@@ -1,8 +1,8 @@
 -- The index is kept. Assumes nothing.
-use mathlib.Core.Path.{_≡_, refl, sym, ap, _∙_}
-use lib.ListN.{length, getD, replicate, length-set, length-replicate, getD-replicate}
-use mathlib.Core.Bool.{Bool, true, false, cond}
-use lib.Dec.{eqb, ltb}
+use mathlib.Core.Path.{refl, _∙_}
+use lib.ListN.{getD, length-set}
+use mathlib.Core.Bool.{cond}
+use lib.Dec.{eqb}
 use Rattle.tables.proofs.MarkLaws.{set-standing}
 use borrow.Author.Needs.{needs}
 use Rattle.runs.proofs.fill.keep.Statement.{statement}

@@ -1,7 +1,6 @@
 -- The lower. Assumes nothing.
-use mathlib.Core.Path.{_≡_, refl, sym, ap, _∙_}
-use borrow.Author.Tests.{lt-ltb, le-ltb, ltb-true, leb-true}
-use borrow.Author.Needs.{needs}
+use mathlib.Core.Path.{refl}
+use borrow.Author.Tests.{lt-ltb, le-ltb}
 use Rattle.runs.proofs.fill.lower.Statement.{statement}
 use Rattle.runs.proofs.fill.lower.Tie as tie
 

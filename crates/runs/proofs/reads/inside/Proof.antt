@@ -1,5 +1,4 @@
 -- The three tests. Assumes nothing.
-use mathlib.Core.Path.{_≡_, refl, sym, ap, _∙_}
 use borrow.Author.Needs.{needs}
 use Rattle.runs.proofs.reads.inside.Statement.{statement}
 use Rattle.runs.proofs.reads.inside.Tie as tie
