@@ -53,7 +53,7 @@ fn entries(s: &[u8], section: u8, k: u16) -> u32
 
 // The lists of a section that have more entries together are left to the search: where many records share long lists, walking them
 // takes too long.
-const MOST_ENTRIES: u32 = 131070;
+const MOST_ENTRIES: u32 = 4194304;
 
 // Whether a section's lists have few entries together. Nothing rests on this but time.
 fn few_entries(s: &[u8], section: u8) -> bool {
