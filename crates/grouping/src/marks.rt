@@ -4,19 +4,7 @@ ghost use lib.Dec.{eqb};
 ghost use lib.ListN.{getD, length};
 ghost use mathlib.Core.Bool.{cond, true};
 ghost use mathlib.Core.Path.{_≡_};
-ghost use Rattle.grouping.specs.Groups.{Noughts};
 ghost use Rattle.tables.specs.Marks.{Standing};
-
-// Writes 0 everywhere.
-pub fn clear(table: &mut [u16])
-    ensures { λ r. ⌜ (length (now (table .exit)) ≡ length (now (table .entry))) × Noughts (now (table .exit)) ⌝ }
-{
-    let mut i: usize = 0;
-    while i < table.len() {
-        table[i] = 0;
-        i += 1;
-    }
-}
 
 // Writes `to` at a place where `from` stands.
 pub fn change(table: &mut [u16], x: u16, from: u16, to: u16) -> bool

@@ -1,7 +1,6 @@
 // What a programme includes and the sets that it names, in tables by object. An object in no group is the only member of its own.
 use crate::marks::add_one;
 use crate::marks::change;
-use crate::marks::clear;
 use crate::marks::empty;
 use relations::groups::members;
 use sheet::fields::CONTENT_LIST;
@@ -16,6 +15,7 @@ use sheet::layout::count;
 use sheet::layout::field;
 use sheet::layout::number;
 use sheet::layout::reference;
+use tables::marks::clear;
 use tables::reads::leader_by;
 use tables::reads::owner_by;
 ghost use Prim.Native.Nat.{ℕ, _<_};

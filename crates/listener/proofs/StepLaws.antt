@@ -19,24 +19,13 @@ use Rattle.tables.specs.declared.Naming.the-variants.{Complements}
 use Rattle.tables.specs.Marks.{Standing, firstBy}
 use Rattle.tables.specs.Right.{Leaders}
 use Rattle.tables.proofs.MarkLaws.{nought}
-use Rattle.tables.proofs.TableLaws.{flag}
+use Rattle.tables.proofs.TableLaws.{flag, lowest-any}
 use Rattle.listener.specs.declared.Setting.{Setting}
 use Rattle.listener.specs.declared.State.{State}
 use Rattle.listener.specs.State.{stateObjects, blank, setting, active, isResting}
 use Rattle.listener.specs.Programme.{inWholeGroup}
 use Rattle.listener.specs.Sound.{soundGain, soundOffset, activeMembers, soundActivity, soundAt}
 use Rattle.listener.specs.Steps.{setPlace, flagged, flaggedMembers, flaggedActivity, flaggedSound}
-
--- the lowest is one of n exactly where there is any
-lowest-any : (p : ℕ → Bool) (n : ℕ) → ltb (lowest p n) n ≡ any p n
-lowest-any p n =
-    (elim (ltb (lowest p n) n) as (λ b. ltb (lowest p n) n ≡ b → b ≡ any p n) [
-      | true ↦ λ e. (elim (any p n) as (λ b. any p n ≡ b → true ≡ b) [
-        | true ↦ λ f. refl
-        | false ↦ λ f. sym (found p n e) ∙ any-none p n f (lowest p n) (ltb-true (lowest p n) n e)
-      ]) refl
-      | false ↦ λ e. sym (any-nowhere p n (nothing p n e))
-    ]) refl
 
 module _ (s : Sheet) (p o : ℕ) where
   place-names : ltb (setPlace s p o) (number s programmes p setList) ≡ namesSet s p o

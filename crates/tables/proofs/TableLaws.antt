@@ -117,7 +117,8 @@ first-any p d i (suc n) =
       | false ↦ λ e. let z : i + suc n ≡ suc i + n = omega arith in rw (e, z) (first-any p d (suc i) n)
     ]) refl
 
-lowest-any : (p : ℕ → Bool) (n : ℕ) → ltb (lowest p n) n ≡ any p n
+-- the lowest is one of n exactly where there is any
+pub lowest-any : (p : ℕ → Bool) (n : ℕ) → ltb (lowest p n) n ≡ any p n
 lowest-any p n =
     (elim (ltb (lowest p n) n) as (λ b. ltb (lowest p n) n ≡ b → b ≡ any p n) [
       | true ↦ λ e. (elim (any p n) as (λ b. any p n ≡ b → true ≡ b) [

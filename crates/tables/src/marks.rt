@@ -151,7 +151,7 @@ pub fn first_namers(s: &[u8], kind: Naming, table: &mut [u16])
 }
 
 // Writes 0 everywhere.
-fn clear(table: &mut [u16])
+pub fn clear(table: &mut [u16])
     ensures { λ r. ⌜ (length (now (table .exit)) ≡ length (now (table .entry))) × Standing (λ x. 0) (now (table .exit)) ⌝ }
 {
     let mut i: usize = 0;
