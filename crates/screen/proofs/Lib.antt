@@ -3,3 +3,4 @@ mod ObjectLaws
 mod ScreenedLaws
 mod SetLaws
 mod SpeechLaws
+mod TotalLaws

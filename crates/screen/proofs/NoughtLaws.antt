@@ -9,16 +9,16 @@ use Rattle.tables.specs.declared.Naming.{Naming}
 use Rattle.tables.specs.declared.Naming.the-variants.{ContentObjects, Children, SetSpans}
 use Rattle.tables.specs.declared.Mark.the-variants.{Count}
 use Rattle.tables.specs.Marks.{Standing, marked, repeat, namedBy, firstBy}
-use Rattle.tables.specs.Right.{counted, Named, Spanned}
-use Rattle.tables.proofs.TableLaws.{namings-added, span-namings, counted-one}
+use Rattle.tables.specs.Right.{counted, Named, Listed, Spanned}
+use Rattle.tables.proofs.TableLaws.{namings-added, span-namings, counted-one, listed-counted}
 use mathlib.Core.Bool.{true, false, not, _&&_, _||_}
 use lib.Dec.{eqb}
 use borrow.Author.Tests.{eq-eqb, eqb-true, eqb-false}
 use Rattle.sheet.specs.Layout.{count}
-use Rattle.sheet.specs.Fields.{objects, valueSets}
-use Rattle.profile.specs.Counting.{howMany}
-use Rattle.profile.specs.Relations.{hasSet}
-use Rattle.profile.specs.Rules.{rule11}
+use Rattle.sheet.specs.Fields.{programmes, contents, objects, valueSets, contentList}
+use Rattle.profile.specs.Counting.{any, howMany}
+use Rattle.profile.specs.Relations.{hasSet, lists, namings}
+use Rattle.profile.specs.Rules.{rule11, rule12}
 
 module _ (s : Sheet) (t₀ t : List ℕ) (nought : Standing (λ x. 0) t₀) (long : length t ≡ length t₀) where
   pub counts-made : (kind : Naming) → Standing (λ x. repeat (marked Count) (namedBy s kind x) (getD t₀ x 0)) t → Standing (λ x. counted (namedBy s kind x)) t
@@ -56,3 +56,17 @@ once-more t i h e x l =
       | true ↦ λ q. ap (λ (y : ℕ). getD t y 0) (eqb-true x i q) ∙ e
       | false ↦ λ q. h x (omega (arith, l, eqb-false x i q))
     ]) refl
+
+-- an object that the table has once is named once
+pub named-once : (s : Sheet) (t : List ℕ) (o : ℕ) → Named s t → o < length t → getD t o 0 ≡ 1 → rule11 s objects o ≡ false
+unfolding rule11
+named-once s t o right l e =
+    let one : eqb (namings s o) 1 ≡ true = sym (counted-one (namings s o)) ∙ eq-eqb (counted (namings s o)) 1 (sym (right o l) ∙ e) in
+    simp one
+
+-- a content that the table has is in a content list
+pub listed-some : (s : Sheet) (t : List ℕ) (c : ℕ) → Listed s t → c < length t → eqb (getD t c 0) 0 ≡ false → rule12 s contents c ≡ false
+unfolding rule12
+listed-some s t c right l e =
+    let some : any (λ p. lists s programmes p contentList c) (count s programmes) ≡ true = listed-counted s c ∙ ap (λ (n : ℕ). not (eqb n 0)) (sym (right c l)) ∙ ap not e in
+    simp some

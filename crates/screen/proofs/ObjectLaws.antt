@@ -7,19 +7,20 @@ use native.Mathlib.Nat.{add-zero}
 use lib.Dec.{eqb, leb, ltb}
 use borrow.Author.Tests.{eqb-true, eqb-false, ltb-true, ltb-false, le-ltb, eq-eqb, ne-eqb, lt-ltb, not-false}
 use Rattle.sheet.specs.Words.{Sheet, word}
-use Rattle.sheet.specs.Layout.{count, offset, start, field, first, number, entry, reference}
+use Rattle.sheet.specs.Layout.{level, count, offset, start, field, first, number, entry, reference}
 use Rattle.sheet.specs.Fields.{objects, packs, tracks, references, valueSets, objectPack, noPack, trackList, childList, complementList, interact, setSpan, packChannels, trackPack, trackOrdinal, setOwn}
 use Rattle.values.specs.declared.Sort.the-variants.{Gains, Offsets}
 use Rattle.values.specs.Values.{isAbsent}
 use Rattle.profile.specs.Counting.{any, howMany}
-use Rattle.profile.specs.Relations.{hasPack, packOf, hasChildren, hasObjectsPack, hasFrontPack, channels, trackAt, ownValue, setValue, effectiveValue, effectiveMinimum, effectiveMaximum}
-use Rattle.profile.specs.Rules.{beyond, lacks, listLacks, leaves, badSet, badSetWords, setRange, setLeaves, badObject, badObjectWords, objectRange, objectLeaves, rule4, rule5, rule6, rule8, rule11, rule13, rule14, rule15, rule16, rule17, rule18, rule19, rule20}
-use Rattle.profile.proofs.BoolLaws.{or-false, or-none, or-none-3, or-none-4, and-second}
+use Rattle.profile.specs.Limits.{exceeds, limit}
+use Rattle.profile.specs.Relations.{leader, hasPack, packOf, hasChildren, hasObjectsPack, hasFrontPack, channels, trackAt, ownValue, setValue, effectiveValue, effectiveMinimum, effectiveMaximum}
+use Rattle.profile.specs.Rules.{beyond, lacks, listLacks, badWords, leaves, badComplement, differs, badSet, badSetWords, setRange, setLeaves, badObject, badObjectWords, objectRange, objectLeaves, rule4, rule5, rule6, rule8, rule11, rule13, rule14, rule15, rule16, rule17, rule18, rule19, rule20}
+use Rattle.profile.proofs.BoolLaws.{or-false, or-none, or-none-3, or-none-4, and-both, and-second}
 use Rattle.profile.proofs.CountingLaws.{any-none}
 use Rattle.profile.proofs.SumLaws.{any-nowhere, howMany-eq}
 use Rattle.screen.specs.Entries.{listed, badChildAt, outOfOrderAt}
 use Rattle.screen.specs.Values.{valuesAt, hasRange, wordsBroken, valueLeaves, setWordsBroken, setBroken}
-use Rattle.screen.specs.Objects.{objectListsBroken, objectValues, valuesBroken, childrenBroken, tracksBroken, sourceKept, complementsKept, setsBroken, objectBroken}
+use Rattle.screen.specs.Objects.{objectListsBroken, objectValues, valuesBroken, childrenBroken, tracksBroken, sourceKept, complementBroken, complementsKept, setsBroken, isPlain, restKept, objectBroken}
 
 -- two tests of each number below n
 module _ (p q : ℕ → Bool) (n : ℕ) (e : any (λ i. p i || q i) n ≡ false) where
@@ -32,6 +33,11 @@ module _ (p q : ℕ → Bool) (n : ℕ) (e : any (λ i. p i || q i) n ≡ false)
 pub and-nothing : (b : Bool) → (b && false) ≡ false
 and-nothing true = refl
 and-nothing false = refl
+
+-- nothing exceeds a limit
+pub no-excess : (s : Sheet) (column : ℕ) → exceeds s column 0 ≡ false
+unfolding exceeds
+no-excess s column = rw (le-ltb (limit (level s) column) 0 (omega arith)) (and-nothing (not (eqb (level s) 0)))
 
 -- an or of seven that fails
 pub or-none-7 : (a b c d e f g : Bool) → (a || b || c || d || e || f || g) ≡ false → (a ≡ false) × (b ≡ false) × (c ≡ false) × (d ≡ false) × (e ≡ false) × (f ≡ false) × (g ≡ false)
@@ -168,6 +174,37 @@ module _ (s : Sheet) (o pack : ℕ) (named : pack ≡ packOf s o) (some : (pack 
 pub no-complements : (s : Sheet) (o : ℕ) → number s objects o complementList ≡ 0 → complementsKept s o
 unfolding any listLacks rule19 rule20
 no-complements s o e = (simp e, simp e, simp e)
+
+-- a plain object
+pub plain-kept : (s : Sheet) (o : ℕ) → isPlain s o ≡ true → restKept s o
+unfolding any isPlain setsBroken leader rule15 valuesBroken objectValues valuesAt hasRange wordsBroken badWords leaves objectRange field
+plain-kept s o e =
+    let offset-maximum = and-both _ (isAbsent (field s objects o 13)) e in
+    let offset-minimum = and-both _ (isAbsent (field s objects o 12)) (offset-maximum .0) in
+    let offset = and-both _ (isAbsent (field s objects o 11)) (offset-minimum .0) in
+    let gain-maximum = and-both _ (isAbsent (field s objects o 10)) (offset .0) in
+    let gain-minimum = and-both _ (isAbsent (field s objects o 9)) (gain-maximum .0) in
+    let gain = and-both _ (isAbsent (field s objects o 8)) (gain-minimum .0) in
+    let still = and-both _ (eqb (field s objects o 7) 0) (gain .0) in
+    let none = and-both (eqb (number s objects o complementList) 0) (eqb (number s objects o setSpan) 0) (still .0) in
+    let complements : number s objects o complementList ≡ 0 = eqb-true (number s objects o complementList) 0 (none .0) in
+    let sets : number s objects o setSpan ≡ 0 = eqb-true (number s objects o setSpan) 0 (none .1) in
+    let off : field s objects o 7 ≡ 0 = eqb-true (field s objects o 7) 0 (still .1) in (
+      simp (off, gain .1, gain-minimum .1, gain-maximum .1, offset .1, offset-minimum .1, offset-maximum .1),
+      simp sets,
+      no-complements s o complements,
+      simp (complements, sets, off, gain .1, gain-minimum .1, gain-maximum .1, offset .1, offset-minimum .1, offset-maximum .1, and-nothing),
+    )
+
+-- complements that pass
+pub complements-kept : (s : Sheet) (o : ℕ) → any (λ i. complementBroken s o (entry s objects o complementList i)) (number s objects o complementList) ≡ false → complementsKept s o
+unfolding complementBroken listLacks rule19 rule20
+complements-kept s o e =
+    let first-two = any-left (λ i. lacks s objects (entry s objects o complementList i) || badComplement s (entry s objects o complementList i)) (λ i. differs s o (entry s objects o complementList i)) (number s objects o complementList) e in (
+      any-left (λ i. lacks s objects (entry s objects o complementList i)) (λ i. badComplement s (entry s objects o complementList i)) (number s objects o complementList) first-two,
+      any-right (λ i. lacks s objects (entry s objects o complementList i)) (λ i. badComplement s (entry s objects o complementList i)) (number s objects o complementList) first-two,
+      any-right (λ i. lacks s objects (entry s objects o complementList i) || badComplement s (entry s objects o complementList i)) (λ i. differs s o (entry s objects o complementList i)) (number s objects o complementList) e,
+    )
 
 -- a set of the object, as it is tested
 sets : (s : Sheet) (o : ℕ) → setsBroken s o ≡ false → any (λ i. setBroken s (objectValues s o) (start s valueSets (first s objects o setSpan + i))) (number s objects o setSpan) ≡ false

@@ -22,43 +22,35 @@ use Rattle.profile.proofs.VerdictLaws.{none-accepted}
 use Rattle.grouping.specs.Groups.{GroupsGround, ProgrammesKept}
 use Rattle.screen.specs.Values.{setBroken}
 use Rattle.screen.specs.Objects.{objectBroken, objectValues, setsBroken}
-use Rattle.screen.specs.Screened.{contentBroken, programmeBroken, headerBroken, recordBroken, sectionBroken}
+use Rattle.screen.specs.Screened.{contentBroken, programmeBroken, headerBroken, RecordsKept}
 use Rattle.screen.proofs.ObjectLaws.{or-none-7, or-none-8, set-kept}
 
 -- an or of five that fails
 or-none-5 : (a b c d e : Bool) → (a || b || c || d || e) ≡ false → (a ≡ false) × (b ≡ false) × (c ≡ false) × (d ≡ false) × (e ≡ false)
 or-none-5 a b c d e h = let l = or-none (a || b || c || d) e h in let m = or-none-4 a b c d (l .0) in (m .0, m .1, m .2, m .3, l .1)
 
-module _ (s : Sheet) (header : headerBroken s ≡ false) (sections : any (sectionBroken s) 6 ≡ false)
+module _ (s : Sheet) (header : headerBroken s ≡ false) (records : RecordsKept s)
     (set-once : (v : ℕ) → v < count s valueSets → rule11 s valueSets v ≡ false) where
-  -- a record of a section that is tested
-  record-at : (section k : ℕ) → section < 6 → k < count s section → recordBroken s section k ≡ false
-  unfolding sectionBroken
-  record-at section k l h = any-none (recordBroken s section) (count s section) (any-none (sectionBroken s) 6 sections section l) k h
-
   programme-at : (k : ℕ) → k < count s programmes
       → (rule4 s programmes k ≡ false) × (rule5 s programmes k ≡ false) × (rule6 s programmes k ≡ false) × (rule8 s programmes k ≡ false) × (rule9 s programmes k ≡ false)
-  unfolding recordBroken programmeBroken
-  programme-at k l = or-none-5 (rule4 s programmes k) (rule5 s programmes k) (rule6 s programmes k) (rule8 s programmes k) (rule9 s programmes k) (simp or-false at (record-at programmes k (omega arith) l))
+  unfolding programmeBroken
+  programme-at k l = or-none-5 (rule4 s programmes k) (rule5 s programmes k) (rule6 s programmes k) (rule8 s programmes k) (rule9 s programmes k) (any-none (programmeBroken s) (count s programmes) (records .programmes-kept) k l)
 
   content-at : (k : ℕ) → k < count s contents
       → ((rule4 s contents k ≡ false) × (rule5 s contents k ≡ false) × (rule6 s contents k ≡ false) × (rule8 s contents k ≡ false) × (rule9 s contents k ≡ false)) × (rule12 s contents k ≡ false)
-  unfolding recordBroken contentBroken
+  unfolding contentBroken
   content-at k l =
-      let p = or-none (contentBroken s k) (rule12 s contents k) (simp or-false at (record-at contents k (omega arith) l)) in
+      let p = or-none (contentBroken s k) (rule12 s contents k) (any-none (λ i. contentBroken s i || rule12 s contents i) (count s contents) (records .contents-kept) k l) in
       (or-none-5 (rule4 s contents k) (rule5 s contents k) (rule6 s contents k) (rule8 s contents k) (rule9 s contents k) (p .0), p .1)
 
   object-at : (o : ℕ) → o < count s objects → objectBroken s o ≡ false
-  unfolding recordBroken
-  object-at o l = simp or-false at (record-at objects o (omega arith) l)
+  object-at o l = any-none (objectBroken s) (count s objects) (records .objects-kept) o l
 
   pack-at : (k : ℕ) → k < count s packs → (rule6 s packs k ≡ false) × (rule10 s packs k ≡ false)
-  unfolding recordBroken
-  pack-at k l = or-none (rule6 s packs k) (rule10 s packs k) (simp or-false at (record-at packs k (omega arith) l))
+  pack-at k l = or-none (rule6 s packs k) (rule10 s packs k) (any-none (λ i. rule6 s packs i || rule10 s packs i) (count s packs) (records .packs-kept) k l)
 
   track-at : (k : ℕ) → k < count s tracks → rule5 s tracks k ≡ false
-  unfolding recordBroken
-  track-at k l = record-at tracks k (omega arith) l
+  track-at k l = any-none (rule5 s tracks) (count s tracks) (records .tracks-kept) k l
 
   object-parts : (o : ℕ) → o < count s objects
       → (rule4 s objects o ≡ false) × (rule5 s objects o ≡ false) × (rule6 s objects o ≡ false) × (rule8 s objects o ≡ false) × (rule11 s objects o ≡ false) × (rule13 s objects o ≡ false) × (rule14 s objects o ≡ false) × (rule15 s objects o ≡ false) × (rule16 s objects o ≡ false) × (rule17 s objects o ≡ false) × (rule18 s objects o ≡ false) × (rule19 s objects o ≡ false) × (rule20 s objects o ≡ false) × (setsBroken s o ≡ false)

@@ -1,16 +1,19 @@
 -- What the tests of a programme or content say of the rules. Assumes nothing.
 use Prim.Native.Nat.{ℕ, _+_}
 use mathlib.Core.Path.{_≡_, refl, sym, ap}
-use mathlib.Core.Bool.{Bool, false, _||_}
+use mathlib.Core.Bool.{Bool, false, not, _||_}
 use native.Mathlib.Nat.{add-zero}
 use lib.Dec.{leb, ltb}
 use Rattle.sheet.specs.Words.{Sheet, word}
 use Rattle.sheet.specs.Layout.{count, field, number, start, entry, reference}
 use Rattle.sheet.specs.Fields.{programmes, contents, objects, references, valueSets, programmeLanguage, contentList, setList, programmeLabels, programmeLoudness}
+use Rattle.values.specs.Language.{language, loudness}
+use Rattle.profile.specs.Counting.{any, twoOf}
 use Rattle.profile.specs.Limits.{exceeds, labelsLimit, programmeContentsLimit, programmeSetsLimit}
 use Rattle.profile.specs.Rules.{rule4, rule5, rule6, rule8, rule9, beyond, lacks, listLacks, badSpeech, badLabel, repeats, outside}
 use Rattle.profile.proofs.BoolLaws.{or-false, or-none-3, or-none-4}
 use Rattle.screen.specs.Entries.{listed, lackingAt, noLanguageAt, sameAt}
+use Rattle.screen.proofs.ObjectLaws.{no-excess}
 use Rattle.screen.specs.Screened.{speechBroken, contentBroken, programmeListsBroken, programmeBroken}
 
 -- an or of six that fails
@@ -19,6 +22,11 @@ or-none-6 a b c d e f h =
     let l = or-none-3 (a || b || c || d) e f h in
     let m = or-none-4 a b c d (l .0) in
     (m .0, m .1, m .2, m .3, l .1, l .2)
+
+-- a record without labels
+pub no-labels : (s : Sheet) (lang first loud : ℕ) → (ltb (count s references) (first + 0) || (not (language lang) || not (loudness loud))) ≡ speechBroken s lang first 0 loud
+unfolding speechBroken any twoOf
+no-labels s lang first loud = simp (no-excess s labelsLimit, or-false)
 
 -- the words of a content at their places
 content-words-kept : (s : Sheet) (k : ℕ) → speechBroken s (word s (start s contents k + 0)) (word s (start s contents k + 2)) (word s (start s contents k + 3)) (word s (start s contents k + 4)) ≡ false

@@ -5,13 +5,13 @@ use mathlib.Core.Path.{_≡_}
 use lib.Dec.{eqb, leb, ltb}
 use Rattle.sheet.specs.Words.{Sheet, word}
 use Rattle.sheet.specs.Layout.{count, offset, start, field, first, number}
-use Rattle.sheet.specs.Fields.{objects, packs, tracks, references, valueSets, trackList, childList, complementList, setSpan, noPack, packKind, packChannels, packFront}
+use Rattle.sheet.specs.Fields.{objects, packs, tracks, references, valueSets, trackList, childList, complementList, interact, setSpan, noPack, packKind, packChannels, packFront}
 use Rattle.values.specs.declared.Sort.the-variants.{Gains, Offsets}
 use Rattle.values.specs.Values.{isAbsent, orElse}
 use Rattle.profile.specs.Counting.{any}
 use Rattle.profile.specs.Limits.{exceeds, childrenLimit, complementsLimit, spanLimit}
-use Rattle.profile.specs.Relations.{hasPack, packOf, hasFrontPack}
-use Rattle.profile.specs.Rules.{lacks, listLacks, leaves, rule4, rule5, rule6, rule8, rule11, rule13, rule14, rule15, rule16, rule17, rule18, rule19, rule20}
+use Rattle.profile.specs.Relations.{hasPack, packOf, hasFrontPack, objectValue, objectMinimum, objectMaximum}
+use Rattle.profile.specs.Rules.{lacks, listLacks, leaves, badComplement, differs, rule4, rule5, rule6, rule8, rule11, rule13, rule14, rule15, rule16, rule17, rule18, rule19, rule20}
 use Rattle.screen.specs.Entries.{badChildAt, outOfOrderAt}
 use Rattle.screen.specs.Values.{valuesAt, hasRange, wordsBroken, setBroken}
 use Rattle.screen.specs.declared.ObjectValues.{ObjectValues}
@@ -80,9 +80,34 @@ sourceKept s o =
 abbrev pub complementsKept : Sheet → ℕ → Type 0
 complementsKept s o = (listLacks s objects objects o complementList ≡ false) × (rule19 s objects o ≡ false) × (rule20 s objects o ≡ false)
 
+-- a complement that breaks rule 19 or 20, or rule 5
+unfoldable pub complementBroken : Sheet → ℕ → ℕ → Bool
+complementBroken s l q = lacks s objects q || badComplement s q || differs s l q
+
 -- a set of an object breaks rule 6, 16, 17 or 18
 unfoldable pub setsBroken : Sheet → ℕ → Bool
 setsBroken s o = any (λ i. setBroken s (objectValues s o) (start s valueSets (first s objects o setSpan + i))) (number s objects o setSpan)
+
+-- an object without complements and sets, with interact 0 and no gain, offset or range; plain is our word
+unfoldable pub isPlain : Sheet → ℕ → Bool
+isPlain s o =
+    eqb (number s objects o complementList) 0
+    && eqb (number s objects o setSpan) 0
+    && eqb (field s objects o interact) 0
+    && isAbsent (field s objects o (objectValue Gains))
+    && isAbsent (field s objects o (objectMinimum Gains))
+    && isAbsent (field s objects o (objectMaximum Gains))
+    && isAbsent (field s objects o (objectValue Offsets))
+    && isAbsent (field s objects o (objectMinimum Offsets))
+    && isAbsent (field s objects o (objectMaximum Offsets))
+
+-- an object that keeps rules 6 and 15 to 20, with its sets, and rule 5 by its complements
+abbrev pub restKept : Sheet → ℕ → Type 0
+restKept s o =
+    (valuesBroken (objectValues s o) ≡ false)
+    × (setsBroken s o ≡ false)
+    × complementsKept s o
+    × (rule15 s objects o ≡ false)
 
 -- an object, or a set of its, breaks a rule up to 20
 unfoldable pub objectBroken : Sheet → ℕ → Bool

@@ -1,6 +1,7 @@
 -- What the screening of a sheet tests of a record. Assumes nothing.
 use Prim.Native.Nat.{ℕ, _+_}
-use mathlib.Core.Bool.{Bool, not, _&&_, _||_}
+use mathlib.Core.Bool.{Bool, false, not, _||_}
+use mathlib.Core.Path.{_≡_}
 use mathlib.Core.List.{List}
 use lib.Dec.{eqb, ltb}
 use Rattle.sheet.specs.Words.{Sheet}
@@ -59,18 +60,13 @@ headerBroken s =
     || rule7 s 4 0
     || rule7 s 5 0
 
--- a record of sections 1 to 5 breaks a rule from 4 to 20; an object, also by a set of its
-unfoldable pub recordBroken : Sheet → ℕ → ℕ → Bool
-recordBroken s section k =
-    eqb section programmes && programmeBroken s k
-    || eqb section contents && (contentBroken s k || rule12 s contents k)
-    || eqb section objects && objectBroken s k
-    || eqb section packs && (rule6 s packs k || rule10 s packs k)
-    || eqb section tracks && rule5 s tracks k
-
--- some record of a section does
-unfoldable pub sectionBroken : Sheet → ℕ → Bool
-sectionBroken s section = any (recordBroken s section) (count s section)
+-- no record of sections 1 to 5 breaks a rule from 4 to 20; an object, also by a set of its. Rule 12 is that of contents
+pub record RecordsKept (s : Sheet) : Type 0 where
+  pub programmes-kept : any (programmeBroken s) (count s programmes) ≡ false
+  pub contents-kept : any (λ k. contentBroken s k || rule12 s contents k) (count s contents) ≡ false
+  pub objects-kept : any (objectBroken s) (count s objects) ≡ false
+  pub packs-kept : any (λ k. rule6 s packs k || rule10 s packs k) (count s packs) ≡ false
+  pub tracks-kept : any (rule5 s tracks) (count s tracks) ≡ false
 
 -- the tables that the records are tested with are right
 pub record RecordsTabled (s : Sheet) (named listed tops complements : List ℕ) : Type 0 where

@@ -1,11 +1,13 @@
 // The screening of a sheet: one pass over each section that shows for most accepted sheets that no rule is broken. Where it cannot tell,
 // the search of the checker decides.
+pub mod complements;
 pub mod lists;
 pub mod objects;
 pub mod records;
 pub mod screening;
 pub mod sets;
 pub mod speech;
+pub mod totals;
 
 // A gain with its range, or an offset with its range: three words.
 pub struct Values {
@@ -20,4 +22,11 @@ pub struct ObjectValues {
     pub front: bool,
     pub gains: Values,
     pub offsets: Values,
+}
+
+// What objects add up to: groups, top objects in no group, and counted tracks.
+pub struct SheetTotals {
+    pub groups: u32,
+    pub lone: u32,
+    pub tracks: u64,
 }

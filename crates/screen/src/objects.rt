@@ -1,7 +1,7 @@
 // An object: the rules that have it as their place, and its value sets.
 use crate::ObjectValues;
+use crate::complements::complements_break;
 use crate::lists::any_bad_child;
-use crate::lists::any_lacking;
 use crate::lists::any_out_of_order;
 use crate::lists::beyond;
 use crate::sets::any_set_breaks;
@@ -13,9 +13,6 @@ use profile::limits::COMPLEMENTS_LIMIT;
 use profile::limits::SPAN_LIMIT;
 use profile::limits::exceeds;
 use relations::objects::pack_of;
-use rules::groups::rule19;
-use rules::groups::rule20;
-use rules::naming::rule11;
 use rules::objects::rule15;
 use rules::ranges::leaves;
 use sheet::fields::NO_PACK;
@@ -31,17 +28,19 @@ use sheet::layout::field;
 use sheet::layout::offset;
 use sheet::layout::start;
 use sheet::words::word;
+use sheet::words::word_count;
 use tables::reads::top_by;
 use values::Sort;
 use values::values::is_absent;
 use values::values::or_else;
 ghost use Prim.Native.Nat.{_<_};
-ghost use mathlib.Core.Bool.{false};
+ghost use lib.ListN.{getD, length};
+ghost use mathlib.Core.Bool.{false, true};
 ghost use mathlib.Core.Path.{_≡_};
 ghost use Rattle.profile.specs.Limits.{exceeds};
 ghost use Rattle.profile.specs.Relations.{packOf};
 ghost use Rattle.profile.specs.Rules.{rule15};
-ghost use Rattle.screen.specs.Objects.{childrenBroken, complementsKept, isFront, objectBroken, objectListsBroken, objectValues, sourceKept, tracksBroken, valuesBroken};
+ghost use Rattle.screen.specs.Objects.{childrenBroken, isFront, isPlain, objectBroken, objectListsBroken, objectValues, restKept, sourceKept, tracksBroken, valuesBroken};
 ghost use Rattle.sheet.specs.Fields.{objects};
 ghost use Rattle.sheet.specs.Layout.{start};
 ghost use Rattle.sheet.specs.Words.{sheetOf};
@@ -162,26 +161,6 @@ fn source_breaks(s: &[u8], at: usize, o: u16, pack: u16) -> bool
     tracks_break(s, at, o, pack)
 }
 
-// Whether an object may break rule 19 or 20, or rule 5 by a complement.
-fn complements_break(s: &[u8], tops: &[u16], complements: &[u16], at: usize, o: u16) -> bool
-    requires { ⌜ (at ≡ start (sheetOf (now s)) objects o) × (at < 2199023255552) ⌝ }
-    ensures { λ r. ⌜ (r ≡ false → Tops (sheetOf (now (s .entry))) (now (tops .entry)) → Complemented (sheetOf (now (s .entry))) (now (complements .entry)) → complementsKept (sheetOf (now (s .entry))) o) ⌝ }
-{
-    let n = word(s, at + 6);
-    if n == 0 {
-        return false;
-    }
-    any_lacking(
-        s,
-        offset(s, REFERENCES),
-        word(s, at + 5),
-        n,
-        count(s, OBJECTS),
-    )
-        | rule19(s, tops, complements, OBJECTS, o)
-        | rule20(s, OBJECTS, o)
-}
-
 // Whether an object that isn't top may break rule 15.
 fn child_breaks(s: &[u8], tops: &[u16], o: u16) -> bool
     ensures { λ r. ⌜ (r ≡ false → Tops (sheetOf (now (s .entry))) (now (tops .entry)) → rule15 (sheetOf (now (s .entry))) objects o ≡ false) ⌝ }
@@ -192,18 +171,68 @@ fn child_breaks(s: &[u8], tops: &[u16], o: u16) -> bool
     rule15(s, tops, OBJECTS, o)
 }
 
-// Whether an object, or a set of its, may break a rule.
+// Whether contents and child lists name an object once, as far as the table tells: rule 11.
+fn named_once(named: &[u16], o: u16) -> bool
+    ensures { λ r. ⌜ (r ≡ true → (o < length (now (named .entry))) × (getD (now (named .entry)) o 0 ≡ 1)) ⌝ }
+{
+    let i = o as usize;
+    if i < named.len() {
+        named[i] == 1
+    } else {
+        false
+    }
+}
+
+// Whether an object has no complements, no sets, interact 0 and no gain, offset or range, as most children and backgrounds: it keeps
+// rules 15 to 20.
+fn is_plain(s: &[u8], at: usize, o: u16) -> bool
+    requires { ⌜ (at ≡ start (sheetOf (now s)) objects o) × (at < 2199023255552) ⌝ }
+    ensures { λ r. ⌜ r ≡ isPlain (sheetOf (now (s .entry))) o ⌝ }
+{
+    (word(s, at + 6) == 0)
+        & (word(s, at + 15) == 0)
+        & (word(s, at + 7) == 0)
+        & is_absent(word(s, at + 8))
+        & is_absent(word(s, at + 9))
+        & is_absent(word(s, at + 10))
+        & is_absent(word(s, at + 11))
+        & is_absent(word(s, at + 12))
+        & is_absent(word(s, at + 13))
+}
+
+// Whether an object that is not plain may break rule 6, one of 15 to 20, or rule 5 by a complement; or a set of its one.
+fn values_or_complements_break(
+    s: &[u8],
+    tops: &[u16],
+    complements: &[u16],
+    at: usize,
+    o: u16,
+    pack: u16,
+) -> bool
+    requires { ⌜ (at ≡ start (sheetOf (now s)) objects o) × (at < 2199023255552) × (pack ≡ packOf (sheetOf (now s)) o) ⌝ }
+    ensures { λ r. ⌜ (r ≡ false → Tops (sheetOf (now (s .entry))) (now (tops .entry)) → Complemented (sheetOf (now (s .entry))) (now (complements .entry)) → restKept (sheetOf (now (s .entry))) o) ⌝ }
+{
+    let values = object_values(s, at, o, pack);
+    values_break(values)
+        | any_set_breaks(s, word(s, at + 14), word(s, at + 15), values)
+        | complements_break(s, tops, complements, at, o)
+        | child_breaks(s, tops, o)
+}
+
+// Whether an object, or a set of its, may break a rule. The first test spares one for each word.
 pub fn object_breaks(s: &[u8], named: &[u16], tops: &[u16], complements: &[u16], o: u16) -> bool
     ensures { λ r. ⌜ (r ≡ false → Named (sheetOf (now (s .entry))) (now (named .entry)) → Tops (sheetOf (now (s .entry))) (now (tops .entry)) → Complemented (sheetOf (now (s .entry))) (now (complements .entry)) → objectBroken (sheetOf (now (s .entry))) o ≡ false) ⌝ }
 {
     let at = start(s, OBJECTS, o as u32);
+    if word_count(s) < at + 16 {
+        return true;
+    }
     let pack = pack_of(s, o);
-    let values = object_values(s, at, o, pack);
-    object_lists_break(s, at, o)
-        | values_break(values)
-        | any_set_breaks(s, word(s, at + 14), word(s, at + 15), values)
-        | source_breaks(s, at, o, pack)
-        | complements_break(s, tops, complements, at, o)
-        | rule11(s, named, OBJECTS, o)
-        | child_breaks(s, tops, o)
+    if object_lists_break(s, at, o) | source_breaks(s, at, o, pack) | !named_once(named, o) {
+        return true;
+    }
+    if is_plain(s, at, o) {
+        return false;
+    }
+    values_or_complements_break(s, tops, complements, at, o, pack)
 }

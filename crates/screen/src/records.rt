@@ -8,21 +8,28 @@ use rules::header::rule2;
 use rules::header::rule3;
 use rules::limits::rule7;
 use rules::limits::rule10;
-use rules::naming::rule12;
 use rules::words::bad_pack;
 use sheet::fields::CONTENTS;
+use sheet::fields::OBJECTS;
 use sheet::fields::PACKS;
+use sheet::fields::PROGRAMMES;
 use sheet::fields::TRACK_PACK;
 use sheet::fields::TRACKS;
 use sheet::layout::count;
 use sheet::layout::field;
 ghost use Prim.Native.Nat.{ℕ, _<_};
+ghost use lib.Dec.{eqb};
 ghost use lib.ListN.{getD, length};
-ghost use mathlib.Core.Bool.{false, true};
+ghost use mathlib.Core.Bool.{false, true, _||_};
 ghost use mathlib.Core.Path.{_≡_};
 ghost use Rattle.profile.specs.Counting.{any};
-ghost use Rattle.screen.specs.Screened.{RecordsTabled, headerBroken, recordBroken, sectionBroken};
+ghost use Rattle.profile.specs.Rules.{rule5, rule6, rule10, rule12};
+ghost use Rattle.screen.specs.Objects.{objectBroken};
+ghost use Rattle.screen.specs.Screened.{RecordsKept, RecordsTabled, contentBroken, headerBroken, programmeBroken};
+ghost use Rattle.sheet.specs.Fields.{contents, objects, packs, programmes, tracks};
+ghost use Rattle.sheet.specs.Layout.{count};
 ghost use Rattle.sheet.specs.Words.{sheetOf};
+ghost use Rattle.tables.specs.Right.{Complemented, Listed, Named, Tops};
 
 // The header and the sections themselves: rules 1, 2, 3 and 7.
 pub fn header_breaks(s: &[u8]) -> bool
@@ -44,43 +51,86 @@ pub fn header_breaks(s: &[u8]) -> bool
         | rule7(s, 5, 0)
 }
 
-// Whether a record may break a rule from 4 to 20.
-fn record_breaks(
-    s: &[u8],
-    named: &[u16],
-    listed: &[u16],
-    tops: &[u16],
-    complements: &[u16],
-    section: u8,
-    k: u16,
-) -> bool
-    ensures { λ r. ⌜ (r ≡ false → RecordsTabled (sheetOf (now (s .entry))) (now (named .entry)) (now (listed .entry)) (now (tops .entry)) (now (complements .entry)) → recordBroken (sheetOf (now (s .entry))) section k ≡ false) ⌝ }
+// Whether no programme breaks a rule that needs no table.
+fn programmes_keep(s: &[u8]) -> bool
+    ensures { λ r. ⌜ (r ≡ true → any (programmeBroken (sheetOf (now (s .entry)))) (count (sheetOf (now (s .entry))) programmes) ≡ false) ⌝ }
 {
-    match section {
-        1 => programme_breaks(s, k),
-        2 => content_breaks(s, k) | rule12(s, listed, CONTENTS, k),
-        3 => object_breaks(s, named, tops, complements, k),
-        4 => bad_pack(s, k) | rule10(s, PACKS, k),
-        5 => lacks(s, PACKS, field(s, TRACKS, k, TRACK_PACK)),
-        _ => false,
+    let n = count(s, PROGRAMMES);
+    let mut k: u16 = 0;
+    while k < n {
+        if programme_breaks(s, k) {
+            return false;
+        }
+        k += 1;
+    }
+    true
+}
+
+// Whether no content list has the content, as far as the table tells.
+fn unlisted(listed: &[u16], k: u16) -> bool
+    ensures { λ r. ⌜ (r ≡ false → (k < length (now (listed .entry))) × (eqb (getD (now (listed .entry)) k 0) 0 ≡ false)) ⌝ }
+{
+    let i = k as usize;
+    if i < listed.len() {
+        listed[i] == 0
+    } else {
+        true
     }
 }
 
-// Whether no record of a section breaks one.
-fn section_passes(
-    s: &[u8],
-    named: &[u16],
-    listed: &[u16],
-    tops: &[u16],
-    complements: &[u16],
-    section: u8,
-) -> bool
-    ensures { λ r. ⌜ (r ≡ true → RecordsTabled (sheetOf (now (s .entry))) (now (named .entry)) (now (listed .entry)) (now (tops .entry)) (now (complements .entry)) → sectionBroken (sheetOf (now (s .entry))) section ≡ false) ⌝ }
+// Whether no content breaks one, and each is in a content list.
+fn contents_keep(s: &[u8], listed: &[u16]) -> bool
+    ensures { λ r. ⌜ (r ≡ true → Listed (sheetOf (now (s .entry))) (now (listed .entry)) → any (λ k. contentBroken (sheetOf (now (s .entry))) k || rule12 (sheetOf (now (s .entry))) contents k) (count (sheetOf (now (s .entry))) contents) ≡ false) ⌝ }
 {
-    let n = count(s, section);
+    let n = count(s, CONTENTS);
     let mut k: u16 = 0;
     while k < n {
-        if record_breaks(s, named, listed, tops, complements, section, k) {
+        if content_breaks(s, k) | unlisted(listed, k) {
+            return false;
+        }
+        k += 1;
+    }
+    true
+}
+
+// Whether no object breaks a rule up to 20, itself or by a set of its.
+fn objects_keep(s: &[u8], named: &[u16], tops: &[u16], complements: &[u16]) -> bool
+    ensures { λ r. ⌜ (r ≡ true → Named (sheetOf (now (s .entry))) (now (named .entry)) → Tops (sheetOf (now (s .entry))) (now (tops .entry)) → Complemented (sheetOf (now (s .entry))) (now (complements .entry)) → any (objectBroken (sheetOf (now (s .entry)))) (count (sheetOf (now (s .entry))) objects) ≡ false) ⌝ }
+{
+    let n = count(s, OBJECTS);
+    let mut k: u16 = 0;
+    while k < n {
+        if object_breaks(s, named, tops, complements, k) {
+            return false;
+        }
+        k += 1;
+    }
+    true
+}
+
+// Whether no pack breaks one.
+fn packs_keep(s: &[u8]) -> bool
+    ensures { λ r. ⌜ (r ≡ true → any (λ k. rule6 (sheetOf (now (s .entry))) packs k || rule10 (sheetOf (now (s .entry))) packs k) (count (sheetOf (now (s .entry))) packs) ≡ false) ⌝ }
+{
+    let n = count(s, PACKS);
+    let mut k: u16 = 0;
+    while k < n {
+        if bad_pack(s, k) | rule10(s, PACKS, k) {
+            return false;
+        }
+        k += 1;
+    }
+    true
+}
+
+// Whether no track breaks one.
+fn tracks_keep(s: &[u8]) -> bool
+    ensures { λ r. ⌜ (r ≡ true → any (rule5 (sheetOf (now (s .entry))) tracks) (count (sheetOf (now (s .entry))) tracks) ≡ false) ⌝ }
+{
+    let n = count(s, TRACKS);
+    let mut k: u16 = 0;
+    while k < n {
+        if lacks(s, PACKS, field(s, TRACKS, k, TRACK_PACK)) {
             return false;
         }
         k += 1;
@@ -97,16 +147,21 @@ pub fn records_pass(
     tops: &[u16],
     complements: &[u16],
 ) -> bool
-    ensures { λ r. ⌜ (r ≡ true → RecordsTabled (sheetOf (now (s .entry))) (now (named .entry)) (now (listed .entry)) (now (tops .entry)) (now (complements .entry)) → any (sectionBroken (sheetOf (now (s .entry)))) 6 ≡ false) ⌝ }
+    ensures { λ r. ⌜ (r ≡ true → RecordsTabled (sheetOf (now (s .entry))) (now (named .entry)) (now (listed .entry)) (now (tops .entry)) (now (complements .entry)) → RecordsKept (sheetOf (now (s .entry)))) ⌝ }
 {
-    let mut section: u8 = 0;
-    while section < 6 {
-        if !section_passes(s, named, listed, tops, complements, section) {
-            return false;
-        }
-        section += 1;
+    if !programmes_keep(s) {
+        return false;
     }
-    true
+    if !contents_keep(s, listed) {
+        return false;
+    }
+    if !objects_keep(s, named, tops, complements) {
+        return false;
+    }
+    if !packs_keep(s) {
+        return false;
+    }
+    tracks_keep(s)
 }
 
 // Whether the first n places of a table have 1.

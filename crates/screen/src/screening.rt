@@ -2,9 +2,8 @@
 use crate::records::all_once;
 use crate::records::header_breaks;
 use crate::records::records_pass;
+use crate::totals::totals_break;
 use grouping::programmes::programmes_pass;
-use rules::totals::rule23;
-use rules::totals::rule24;
 use sheet::fields::CHILD_LIST;
 use sheet::fields::COMPLEMENT_LIST;
 use sheet::fields::CONTENT_LABELS;
@@ -18,22 +17,19 @@ use sheet::fields::SET_SPAN;
 use sheet::fields::TRACK_LIST;
 use sheet::fields::VALUE_SETS;
 use sheet::layout::count;
-use sheet::layout::level;
 use sheet::layout::number;
 use tables::Naming;
 use tables::marks::count_namings;
-use tables::marks::first_namers;
+use tables::passes::count_lists;
+use tables::passes::count_tops;
+use tables::passes::first_lists;
 ghost use Prim.Native.Nat.{_≤_};
-ghost use lib.ListN.{length};
-ghost use mathlib.Core.Bool.{false, true};
+ghost use mathlib.Core.Bool.{true};
 ghost use mathlib.Core.Path.{_≡_};
 ghost use Rattle.profile.specs.Verdict.{verdict};
-ghost use Rattle.profile.specs.Rules.{rule23, rule24};
 ghost use Rattle.profile.specs.declared.Verdict.the-variants.{Accepted};
 ghost use Rattle.screen.specs.Screened.{Noughts};
 ghost use Rattle.sheet.specs.Words.{sheetOf};
-ghost use Rattle.tables.specs.Marks.{Standing};
-ghost use Rattle.tables.specs.Right.{Complemented, Named, Tops};
 
 // How many entries the lists and the span of a record have.
 fn entries(s: &[u8], section: u8, k: u16) -> u32
@@ -53,10 +49,13 @@ fn entries(s: &[u8], section: u8, k: u16) -> u32
 
 // The lists of a section that have more entries together are left to the search: where many records share long lists, walking them
 // takes too long.
-const MOST_ENTRIES: u32 = 4194304;
+const MOST_ENTRIES: u32 = 262144;
 
-// Whether a section's lists have few entries together. Nothing rests on this but time.
+// Whether a section's lists have few entries together, as they have in a short sheet. Nothing rests on this but time.
 fn few_entries(s: &[u8], section: u8) -> bool {
+    if s.len() < 8192 {
+        return true;
+    }
     let n = count(s, section);
     let mut left = MOST_ENTRIES;
     let mut k: u16 = 0;
@@ -69,24 +68,6 @@ fn few_entries(s: &[u8], section: u8) -> bool {
         k += 1;
     }
     true
-}
-
-// Whether the whole sheet may break rule 23 or 24, which level 0 can't.
-fn totals_break(s: &[u8], tops: &[u16], complements: &[u16]) -> bool
-    ensures { λ r. ⌜ (r ≡ false → Tops (sheetOf (now (s .entry))) (now (tops .entry)) → Complemented (sheetOf (now (s .entry))) (now (complements .entry)) → (rule23 (sheetOf (now (s .entry))) 0 0 ≡ false) × (rule24 (sheetOf (now (s .entry))) 0 0 ≡ false)) ⌝ }
-{
-    if level(s) == 0 {
-        return false;
-    }
-    rule23(s, tops, complements, 0, 0) | rule24(s, tops, complements, 0, 0)
-}
-
-// Counts how often contents and child lists name each object, in a table of noughts.
-fn count_names(s: &[u8], named: &mut [u16])
-    ensures { λ r. ⌜ (length (now (named .exit)) ≡ length (now (named .entry))) × (Standing (λ x. 0) (now (named .entry)) → Named (sheetOf (now (s .entry))) (now (named .exit))) ⌝ }
-{
-    count_namings(s, Naming::ContentObjects, named);
-    count_namings(s, Naming::Children, named);
 }
 
 // With tables of noughts for what names each object and content, for the sets' objects and the complements' leaders. Those of the first
@@ -103,17 +84,18 @@ fn screened(
 ) -> bool
     ensures { λ r. ⌜ (r ≡ true → Noughts (now (named .entry)) (now (spanned .entry)) (now (listed .entry)) (now (tops .entry)) (now (complements .entry)) (now (owners .entry)) (now (leaders .entry)) → verdict (sheetOf (now (s .entry))) ≡ Accepted) ⌝ }
 {
+    if s.len() < 32 {
+        return false;
+    }
     if header_breaks(s) {
         return false;
     }
     if !(few_entries(s, PROGRAMMES) & few_entries(s, CONTENTS) & few_entries(s, OBJECTS)) {
         return false;
     }
-    count_names(s, named);
-    count_namings(s, Naming::SetSpans, spanned);
+    count_tops(s, tops, named);
+    count_lists(s, named, complements, spanned);
     count_namings(s, Naming::ContentLists, listed);
-    count_namings(s, Naming::ContentObjects, tops);
-    count_namings(s, Naming::Complements, complements);
     if !records_pass(s, named, listed, tops, complements) {
         return false;
     }
@@ -123,8 +105,7 @@ fn screened(
     if totals_break(s, tops, complements) {
         return false;
     }
-    first_namers(s, Naming::SetSpans, owners);
-    first_namers(s, Naming::Complements, leaders);
+    first_lists(s, leaders, owners);
     programmes_pass(s, owners, leaders, named, tops, complements, listed)
 }
 

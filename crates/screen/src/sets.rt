@@ -6,11 +6,12 @@ use rules::words::bad_words;
 use sheet::fields::VALUE_SETS;
 use sheet::layout::start;
 use sheet::words::word;
+use sheet::words::word_count;
 use values::Sort;
 use values::values::is_absent;
 use values::values::or_else;
 ghost use Prim.Native.Nat.{_+_, _<_};
-ghost use mathlib.Core.Bool.{cond};
+ghost use mathlib.Core.Bool.{cond, false};
 ghost use mathlib.Core.Path.{_≡_};
 ghost use Rattle.profile.specs.Counting.{any};
 ghost use Rattle.screen.specs.Values.{gainBroken, hasRange, setBroken, setWordsBroken, valueLeaves, valuesAt, wordsBroken};
@@ -92,12 +93,15 @@ fn words_of_set_break(own: u16, gains: Values, offsets: Values, v: ObjectValues)
         | value_leaves(Sort::Offsets, own == 1, offsets, v.offsets)
 }
 
-// Whether the set whose words begin at an index breaks rule 6, 16, 17 or 18 as a set of an object with these values. Most sets have
-// no more than a gain.
+// Whether the set whose words begin at an index may break rule 6, 16, 17 or 18 as a set of an object with these values. Most sets have
+// no more than a gain. The first test spares one for each word.
 fn set_breaks(s: &[u8], at: usize, v: ObjectValues) -> bool
     requires { ⌜ at < 2199023255552 ⌝ }
-    ensures { λ r. ⌜ r ≡ setBroken (sheetOf (now (s .entry))) v at ⌝ }
+    ensures { λ r. ⌜ (r ≡ false → setBroken (sheetOf (now (s .entry))) v at ≡ false) ⌝ }
 {
+    if word_count(s) < at + 7 {
+        return true;
+    }
     let own = word(s, at + 1);
     let gains = values_at(s, at, at + 2, at + 3);
     let offsets = values_at(s, at + 4, at + 5, at + 6);
@@ -109,7 +113,7 @@ fn set_breaks(s: &[u8], at: usize, v: ObjectValues) -> bool
 
 // Whether one of the n sets from one on does.
 pub fn any_set_breaks(s: &[u8], first: u16, n: u16, v: ObjectValues) -> bool
-    ensures { λ r. ⌜ r ≡ any (λ i. setBroken (sheetOf (now (s .entry))) v (start (sheetOf (now (s .entry))) valueSets (first + i))) n ⌝ }
+    ensures { λ r. ⌜ (r ≡ false → any (λ i. setBroken (sheetOf (now (s .entry))) v (start (sheetOf (now (s .entry))) valueSets (first + i))) n ≡ false) ⌝ }
 {
     let mut found = false;
     let mut i: u16 = 0;

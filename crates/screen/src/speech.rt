@@ -16,6 +16,7 @@ use sheet::layout::count;
 use sheet::layout::offset;
 use sheet::layout::start;
 use sheet::words::word;
+use sheet::words::word_count;
 use values::language::language;
 use values::language::loudness;
 ghost use mathlib.Core.Bool.{false};
@@ -30,6 +31,9 @@ const LONGEST: u16 = 48;
 fn speech_breaks(s: &[u8], lang: u16, first: u16, n: u16, loud: u16) -> bool
     ensures { λ r. ⌜ r ≡ speechBroken (sheetOf (now (s .entry))) lang first n loud ⌝ }
 {
+    if n == 0 {
+        return beyond(count(s, REFERENCES), first, n) | (!language(lang) | !loudness(loud));
+    }
     let base = offset(s, REFERENCES);
     beyond(count(s, REFERENCES), first, n)
         | (!language(lang) | any_no_language(s, base, first, n) | !loudness(loud))
@@ -42,6 +46,9 @@ pub fn content_breaks(s: &[u8], k: u16) -> bool
     ensures { λ r. ⌜ (r ≡ false → contentBroken (sheetOf (now (s .entry))) k ≡ false) ⌝ }
 {
     let at = start(s, CONTENTS, k as u32);
+    if word_count(s) < at + 5 {
+        return true;
+    }
     let n = word(s, at + 3);
     if LONGEST < n {
         return true;
@@ -69,6 +76,9 @@ pub fn programme_breaks(s: &[u8], k: u16) -> bool
     ensures { λ r. ⌜ (r ≡ false → programmeBroken (sheetOf (now (s .entry))) k ≡ false) ⌝ }
 {
     let at = start(s, PROGRAMMES, k as u32);
+    if word_count(s) < at + 8 {
+        return true;
+    }
     let n = word(s, at + 6);
     if LONGEST < n {
         return true;

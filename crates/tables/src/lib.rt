@@ -2,6 +2,7 @@
 // stands at each index is the contract of the function that fills the table.
 pub mod marks;
 pub mod namings;
+pub mod passes;
 pub mod reads;
 pub mod totals;
 

@@ -1,12 +1,12 @@
 -- Each part is its callee's. Assumes nothing.
-use Prim.Native.Nat.{ℕ}
-use mathlib.Core.Path.{_≡_, sym, _∙_}
-use mathlib.Core.Bool.{false, _||_}
+use Prim.Native.Nat.{ℕ, _+_, _-_, _≤_}
+use mathlib.Core.Path.{_≡_, refl, sym, ap, _∙_}
+use mathlib.Core.Bool.{true, false, not, true≢false, _||_}
 use Rattle.sheet.specs.Words.{sheetOf}
-use native.Mathlib.Omega.{arith}
-use Rattle.sheet.specs.Layout.{field, number}
-use Rattle.screen.specs.Objects.{setsBroken}
-use Rattle.screen.proofs.ObjectLaws.{object-kept, or-none-7}
+use borrow.Author.Tests.{not-false}
+use Rattle.profile.proofs.BoolLaws.{or-none-3}
+use Rattle.screen.proofs.NoughtLaws.{named-once}
+use Rattle.screen.proofs.ObjectLaws.{object-kept, plain-kept}
 use borrow.Author.Needs.{needs}
 use Rattle.screen.proofs.objects.object_breaks.Statement.{statement}
 use Rattle.screen.proofs.objects.object_breaks.Tie as tie
@@ -14,74 +14,56 @@ use Rattle.screen.proofs.objects.object_breaks.Tie as tie
 start-requires : tie.Need-start-requires
 start-requires c κs = search needs
 
+word-count-requires : tie.Need-word-count-requires
+word-count-requires c κs = search needs
+
+add-if1 : tie.Need-add-if1
+add-if1 c = search needs
+
+returns : tie.Need-returns
+returns c = λ e. absurd (true≢false e)
+
 pack-of-requires : tie.Need-pack-of-requires
 pack-of-requires c κs = search needs
 
-object-values-requires : tie.Need-object-values-requires
-object-values-requires c κs = (c .before .start .ensures .0, c .before .start .ensures .1, c .pack-of .ensures)
-
 object-lists-break-requires : tie.Need-object-lists-break-requires
-object-lists-break-requires c κs = (c .before .before .start .ensures .0, c .before .before .start .ensures .1)
-
-values-break-requires : tie.Need-values-break-requires
-values-break-requires c κs = search needs
-
-add-word : tie.Need-add-word
-add-word c = search needs
-
-word-requires : tie.Need-word-requires
-word-requires c κs = search needs
-
-add-word-2 : tie.Need-add-word-2
-add-word-2 c = search needs
-
-word-requires-2 : tie.Need-word-requires-2
-word-requires-2 c κs = search needs
-
-any-set-breaks-requires : tie.Need-any-set-breaks-requires
-any-set-breaks-requires c κs = search needs
+object-lists-break-requires c κs = (c .before .before .before .start .ensures .0, c .before .before .before .start .ensures .1)
 
 source-breaks-requires : tie.Need-source-breaks-requires
-source-breaks-requires c κs = (c .before .before .before .before .before .before .before .start .ensures .0, c .before .before .before .before .before .before .before .start .ensures .1, c .before .before .before .before .before .before .pack-of .ensures)
+source-breaks-requires c κs = (c .before .before .before .before .start .ensures .0, c .before .before .before .before .start .ensures .1, c .before .pack-of .ensures)
 
-complements-break-requires : tie.Need-complements-break-requires
-complements-break-requires c κs = (c .before .before .before .before .before .before .before .before .start .ensures .0, c .before .before .before .before .before .before .before .before .start .ensures .1)
+named-once-requires : tie.Need-named-once-requires
+named-once-requires c κs = search needs
 
-rule11-requires : tie.Need-rule11-requires
-rule11-requires c κs = search needs
+returns-2 : tie.Need-returns-2
+returns-2 c = λ e. absurd (true≢false e)
 
-child-breaks-requires : tie.Need-child-breaks-requires
-child-breaks-requires c κs = search needs
+is-plain-requires : tie.Need-is-plain-requires
+is-plain-requires c κs = (c .before .before .before .before .before .before .before .start .ensures .0, c .before .before .before .before .before .before .before .start .ensures .1)
 
-returns : tie.Need-returns
-unfolding setsBroken number field
-returns c = λ e named tops complements.
-    let p = or-none-7 (c .before .before .before .before .before .before .before .before .object-lists-break .result) (c .before .before .before .before .before .before .before .values-break .result) (c .before .before .before .before .any-set-breaks .result) (c .before .before .before .source-breaks .result) (c .before .before .complements-break .result) (c .before .rule11 .result) (c .child-breaks .result) e in
-    object-kept (sheetOf (c .before .before .before .before .before .before .before .before .before .before .before .before .before .before .before .before .args .s .now)) (c .before .before .before .before .before .before .before .before .before .before .before .before .before .before .before .before .args .o)
-    (sym (c .before .before .before .before .before .before .before .before .object-lists-break .ensures) ∙ p .0)
-    (rw (c .before .before .before .before .before .before .before .before .before .object-values .ensures) at (sym (c .before .before .before .before .before .before .before .values-break .ensures) ∙ p .1))
-    (rw (c .before .before .before .before .before .before .word .ensures, c .before .before .before .before .before .word2 .ensures, c .before .before .before .before .before .before .before .before .before .before .before .start .ensures .0, c .before .before .before .before .before .before .before .before .before .object-values .ensures) at (sym (c .before .before .before .before .any-set-breaks .ensures) ∙ p .2))
-    (c .before .before .before .source-breaks .ensures (p .3))
-    (c .before .before .complements-break .ensures (p .4) tops complements)
-    (sym (c .before .rule11 .ensures (λ z. named) (λ z. let y : _≡_ {A = ℕ} 3 7 = z in absurd (omega arith))) ∙ p .5)
-    (c .child-breaks .ensures (p .6) tops)
+returns-3 : tie.Need-returns-3
+returns-3 c = λ e named tops complements. let p = or-none-3 (c .before .before .before .before .before .object-lists-break .result) (c .before .before .before .before .source-breaks .result) (not (c .before .before .before .named-once .result)) (c .before .before .if2 .left) in let u = c .before .before .before .named-once .ensures (not-false (c .before .before .before .named-once .result) (p .2)) in let k = plain-kept (sheetOf (c .before .before .before .before .before .before .before .before .before .before .before .before .before .before .args .s .now)) (c .before .before .before .before .before .before .before .before .before .before .before .before .before .before .args .o) (sym (c .before .is-plain .ensures) ∙ c .if3 .taken) in object-kept (sheetOf (c .before .before .before .before .before .before .before .before .before .before .before .before .before .before .args .s .now)) (c .before .before .before .before .before .before .before .before .before .before .before .before .before .before .args .o) (sym (c .before .before .before .before .before .object-lists-break .ensures) ∙ p .0) (k .0) (k .1) (c .before .before .before .before .source-breaks .ensures (p .1)) (k .2) (named-once (sheetOf (c .before .before .before .before .before .before .before .before .before .before .before .before .before .before .args .s .now)) (c .before .before .before .before .before .before .before .before .before .before .before .before .before .before .args .named .now) (c .before .before .before .before .before .before .before .before .before .before .before .before .before .before .args .o) named (u .0) (u .1)) (k .3)
+
+values-or-complements-break-requires : tie.Need-values-or-complements-break-requires
+values-or-complements-break-requires c κs = (c .before .before .before .before .before .before .before .before .before .start .ensures .0, c .before .before .before .before .before .before .before .before .before .start .ensures .1, c .before .before .before .before .before .before .pack-of .ensures)
+
+returns-4 : tie.Need-returns-4
+returns-4 c = λ e named tops complements. let p = or-none-3 (c .before .before .before .before .before .before .object-lists-break .result) (c .before .before .before .before .before .source-breaks .result) (not (c .before .before .before .before .named-once .result)) (c .before .before .before .if2 .left) in let u = c .before .before .before .before .named-once .ensures (not-false (c .before .before .before .before .named-once .result) (p .2)) in let k = c .values-or-complements-break .ensures e tops complements in object-kept (sheetOf (c .before .before .before .before .before .before .before .before .before .before .before .before .before .before .before .args .s .now)) (c .before .before .before .before .before .before .before .before .before .before .before .before .before .before .before .args .o) (sym (c .before .before .before .before .before .before .object-lists-break .ensures) ∙ p .0) (k .0) (k .1) (c .before .before .before .before .before .source-breaks .ensures (p .1)) (k .2) (named-once (sheetOf (c .before .before .before .before .before .before .before .before .before .before .before .before .before .before .before .args .s .now)) (c .before .before .before .before .before .before .before .before .before .before .before .before .before .before .before .args .named .now) (c .before .before .before .before .before .before .before .before .before .before .before .before .before .before .before .args .o) named (u .0) (u .1)) (k .3)
 
 pub object-breaks-spec : {M : Type 1} → statement M
 object-breaks-spec =
     tie.close
     (tie.spec
     start-requires
+    word-count-requires
+    add-if1
+    returns
     pack-of-requires
-    object-values-requires
     object-lists-break-requires
-    values-break-requires
-    add-word
-    word-requires
-    add-word-2
-    word-requires-2
-    any-set-breaks-requires
     source-breaks-requires
-    complements-break-requires
-    rule11-requires
-    child-breaks-requires
-    returns)
+    named-once-requires
+    returns-2
+    is-plain-requires
+    returns-3
+    values-or-complements-break-requires
+    returns-4)

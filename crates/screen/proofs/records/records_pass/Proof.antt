@@ -1,56 +1,54 @@
--- No record of the sections passed breaks a rule. Assumes nothing.
-use borrow.Author.Needs.{needs}
-use Prim.Native.Nat.{_-_, _≤_}
-use native.Mathlib.Omega.{arith}
-use native.Mathlib.Numerals.{add-one}
+-- Section by section. Assumes nothing.
 use mathlib.Core.Path.{_≡_, refl, sym, ap, _∙_}
-use mathlib.Core.Bool.{true, false, true≢false, _||_}
+use mathlib.Core.Bool.{true, false, not, true≢false, _||_}
 use Rattle.sheet.specs.Words.{sheetOf}
-use borrow.Author.Tests.{not-true, not-false}
-use Rattle.profile.specs.Counting.{any}
-use Rattle.screen.specs.Screened.{RecordsTabled, sectionBroken}
+use borrow.Author.Tests.{not-false}
+use Rattle.screen.specs.Screened.{RecordsKept}
+use borrow.Author.Needs.{needs}
 use Rattle.screen.proofs.records.records_pass.Statement.{statement}
 use Rattle.screen.proofs.records.records_pass.Tie as tie
 
-abbrev Inv-loop : tie.InvT-loop
-Inv-loop s named listed tops complements section₀ section = (section ≤ 6) × (RecordsTabled (sheetOf s) named listed tops complements → any (sectionBroken (sheetOf s)) section ≡ false)
+programmes-keep-requires : tie.Need-programmes-keep-requires
+programmes-keep-requires c κs = search needs
 
-abbrev μ-loop : tie.MeasureT-loop
-μ-loop s named listed tops complements section₀ section = 6 - section
-
-loop-holds : tie.Need-loop-holds Inv-loop μ-loop
-unfolding any
-loop-holds c = (search needs, λ t. refl)
-
-section-passes-requires : tie.Need-section-passes-requires Inv-loop μ-loop
-section-passes-requires c κs = search needs
-
-returns : tie.Need-returns Inv-loop μ-loop
+returns : tie.Need-returns
 returns c = λ e. absurd (true≢false (sym e))
 
-add-section : tie.Need-add-section Inv-loop μ-loop
-add-section c = search needs
+contents-keep-requires : tie.Need-contents-keep-requires
+contents-keep-requires c κs = search needs
 
-loop-less : tie.Need-loop-less Inv-loop μ-loop
-loop-less c = search needs
+returns-2 : tie.Need-returns-2
+returns-2 c = λ e. absurd (true≢false (sym e))
 
-loop-again : tie.Need-loop-again Inv-loop μ-loop
-unfolding any
-loop-again c = (search needs, λ t. rw (add-one, c .before .section-passes .ensures (not-false (c .before .section-passes .result) (c .if1 .left)) t, c .before .before .before .loop .inv .1 t) refl)
+objects-keep-requires : tie.Need-objects-keep-requires
+objects-keep-requires c κs = search needs
 
-returns-2 : tie.Need-returns-2 Inv-loop μ-loop
-returns-2 c = λ e t. let h : c .before .loop .section ≡ 6 = omega arith in sym (ap (any _) h) ∙ c .before .loop .inv .1 t
+returns-3 : tie.Need-returns-3
+returns-3 c = λ e. absurd (true≢false (sym e))
+
+packs-keep-requires : tie.Need-packs-keep-requires
+packs-keep-requires c κs = search needs
+
+returns-4 : tie.Need-returns-4
+returns-4 c = λ e. absurd (true≢false (sym e))
+
+tracks-keep-requires : tie.Need-tracks-keep-requires
+tracks-keep-requires c κs = search needs
+
+returns-5 : tie.Need-returns-5
+returns-5 c = λ e t. record { programmes-kept = c .before .before .before .before .before .before .before .before .programmes-keep .ensures (not-false (c .before .before .before .before .before .before .before .before .programmes-keep .result) (c .before .before .before .before .before .before .before .if1 .left)); contents-kept = c .before .before .before .before .before .before .contents-keep .ensures (not-false (c .before .before .before .before .before .before .contents-keep .result) (c .before .before .before .before .before .if2 .left)) (t .listed-right); objects-kept = c .before .before .before .before .objects-keep .ensures (not-false (c .before .before .before .before .objects-keep .result) (c .before .before .before .if3 .left)) (t .named-right) (t .tops-right) (t .complements-right); packs-kept = c .before .before .packs-keep .ensures (not-false (c .before .before .packs-keep .result) (c .before .if4 .left)); tracks-kept = c .tracks-keep .ensures e }
 
 pub records-pass-spec : {M : Type 1} → statement M
 records-pass-spec =
     tie.close
     (tie.spec
-    Inv-loop
-    μ-loop
-    loop-holds
-    section-passes-requires
+    programmes-keep-requires
     returns
-    add-section
-    loop-less
-    loop-again
-    returns-2)
+    contents-keep-requires
+    returns-2
+    objects-keep-requires
+    returns-3
+    packs-keep-requires
+    returns-4
+    tracks-keep-requires
+    returns-5)

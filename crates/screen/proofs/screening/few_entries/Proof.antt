@@ -10,6 +10,9 @@ Inv-loop s section n left₀ k₀ left k = k ≤ n
 abbrev μ-loop : tie.MeasureT-loop
 μ-loop s section n left₀ k₀ left k = n - k
 
+returns : tie.Need-returns Inv-loop μ-loop
+returns c = search needs
+
 count-requires : tie.Need-count-requires Inv-loop μ-loop
 count-requires c κs = search needs
 
@@ -19,8 +22,8 @@ loop-holds c = search needs
 entries-requires : tie.Need-entries-requires Inv-loop μ-loop
 entries-requires c κs = search needs
 
-returns : tie.Need-returns Inv-loop μ-loop
-returns c = search needs
+returns-2 : tie.Need-returns-2 Inv-loop μ-loop
+returns-2 c = search needs
 
 add-k : tie.Need-add-k Inv-loop μ-loop
 add-k c = search needs
@@ -31,8 +34,8 @@ loop-less c = search needs
 loop-again : tie.Need-loop-again Inv-loop μ-loop
 loop-again c = search needs
 
-returns-2 : tie.Need-returns-2 Inv-loop μ-loop
-returns-2 c = search needs
+returns-3 : tie.Need-returns-3 Inv-loop μ-loop
+returns-3 c = search needs
 
 pub few-entries-spec : {M : Type 1} → statement M
 few-entries-spec =
@@ -40,11 +43,12 @@ few-entries-spec =
     (tie.spec
     Inv-loop
     μ-loop
+    returns
     count-requires
     loop-holds
     entries-requires
-    returns
+    returns-2
     add-k
     loop-less
     loop-again
-    returns-2)
+    returns-3)

@@ -1,12 +1,14 @@
--- Found so far is what the sets passed have. Assumes nothing.
-use Prim.Native.Nat.{_+_}
-use Prim.Native.Nat.{_-_, _≤_}
-use mathlib.Core.Path.{_≡_, refl, ap, _∙_}
+-- Where nothing is found, the sets passed break nothing. Assumes nothing.
+use Prim.Native.Nat.{ℕ, _+_, _-_, _*_, _<_, _≤_}
+use mathlib.Core.Path.{_≡_, refl, sym, ap, _∙_}
+use mathlib.Core.Bool.{true, false, not, true≢false, _&&_, _||_}
 use native.Mathlib.Omega.{arith}
 use native.Mathlib.Numerals.{add-one}
-use Rattle.profile.specs.Counting.{any, twoOf}
 use Rattle.sheet.specs.Words.{sheetOf}
 use borrow.Author.Needs.{needs}
+use Rattle.profile.specs.Counting.{any}
+use lib.Dec.{eqb, leb, ltb}
+use Rattle.profile.proofs.BoolLaws.{or-none}
 use Rattle.screen.specs.Values.{setBroken}
 use Rattle.sheet.specs.Layout.{start}
 use Rattle.sheet.specs.Fields.{valueSets}
@@ -14,14 +16,14 @@ use Rattle.screen.proofs.sets.any_set_breaks.Statement.{statement}
 use Rattle.screen.proofs.sets.any_set_breaks.Tie as tie
 
 abbrev Inv-loop : tie.InvT-loop
-Inv-loop s first n v found₀ i₀ found i = (i ≤ n) × (found ≡ any (λ j. setBroken (sheetOf s) v (start (sheetOf s) valueSets (first + j))) i)
+Inv-loop s first n v found₀ i₀ found i = (i ≤ n) × (found ≡ false → any (λ j. setBroken (sheetOf s) v (start (sheetOf s) valueSets (first + j))) i ≡ false)
 
 abbrev μ-loop : tie.MeasureT-loop
 μ-loop s first n v found₀ i₀ found i = n - i
 
 loop-holds : tie.Need-loop-holds Inv-loop μ-loop
 unfolding any
-loop-holds c = (search needs, refl)
+loop-holds c = (search needs, λ e. refl)
 
 cast-start : tie.Need-cast-start Inv-loop μ-loop
 cast-start c = search needs
@@ -43,10 +45,10 @@ loop-less c = search needs
 
 loop-again : tie.Need-loop-again Inv-loop μ-loop
 unfolding any
-loop-again c = (search needs, rw (add-one, c .set-breaks .ensures, c .before .start .ensures .0, c .before .before .before .loop .inv .1))
+loop-again c = (search needs, λ e. let p = or-none (c .before .before .before .loop .found) (c .set-breaks .result) e in rw (add-one, c .before .before .before .loop .inv .1 (p .0), rw (c .before .start .ensures .0) at (c .set-breaks .ensures (p .1))) refl)
 
 returns : tie.Need-returns Inv-loop μ-loop
-returns c = let e : c .before .loop .i ≡ c .before .before .before .args .n = omega arith in c .before .loop .inv .1 ∙ ap (any _) e
+returns c = let e : c .before .loop .i ≡ c .before .before .before .args .n = omega arith in λ h. sym (ap (any _) e) ∙ c .before .loop .inv .1 h
 
 pub any-set-breaks-spec : {M : Type 1} → statement M
 any-set-breaks-spec =

@@ -1,11 +1,12 @@
 -- Each test is its callee's. Assumes nothing.
+use mathlib.Core.Path.{_≡_, refl, sym, ap, _∙_}
+use mathlib.Core.Bool.{true, false, not, true≢false, _&&_, _||_}
+use Rattle.sheet.specs.Words.{sheetOf}
+use Rattle.screen.proofs.SpeechLaws.{no-labels}
 use Rattle.screen.specs.Screened.{speechBroken}
 use borrow.Author.Needs.{needs}
 use Rattle.screen.proofs.speech.speech_breaks.Statement.{statement}
 use Rattle.screen.proofs.speech.speech_breaks.Tie as tie
-
-offset-requires : tie.Need-offset-requires
-offset-requires c κs = search needs
 
 count-requires : tie.Need-count-requires
 count-requires c κs = search needs
@@ -16,11 +17,29 @@ beyond-requires c κs = search needs
 language-requires : tie.Need-language-requires
 language-requires c κs = search needs
 
+loudness-requires : tie.Need-loudness-requires
+loudness-requires c κs = search needs
+
+returns : tie.Need-returns
+returns c = rw (c .before .before .beyond .ensures, c .before .before .before .count .ensures, c .before .language .ensures, c .loudness .ensures, c .before .before .before .before .if1 .taken) (no-labels (sheetOf (c .before .before .before .before .before .before .args .s .now)) (c .before .before .before .before .before .before .args .lang) (c .before .before .before .before .before .before .args .first) (c .before .before .before .before .before .before .args .loud))
+
+offset-requires : tie.Need-offset-requires
+offset-requires c κs = search needs
+
+count-requires-2 : tie.Need-count-requires-2
+count-requires-2 c κs = search needs
+
+beyond-requires-2 : tie.Need-beyond-requires-2
+beyond-requires-2 c κs = search needs
+
+language-requires-2 : tie.Need-language-requires-2
+language-requires-2 c κs = search needs
+
 any-no-language-requires : tie.Need-any-no-language-requires
 any-no-language-requires c κs = search needs
 
-loudness-requires : tie.Need-loudness-requires
-loudness-requires c κs = search needs
+loudness-requires-2 : tie.Need-loudness-requires-2
+loudness-requires-2 c κs = search needs
 
 exceeds-requires : tie.Need-exceeds-requires
 exceeds-requires c κs = search needs
@@ -28,20 +47,25 @@ exceeds-requires c κs = search needs
 any-twice-requires : tie.Need-any-twice-requires
 any-twice-requires c κs = search needs
 
-returns : tie.Need-returns
+returns-2 : tie.Need-returns-2
 unfolding speechBroken
-returns c = simp (c .any-twice .ensures, c .before .exceeds .ensures, c .before .before .loudness .ensures, c .before .before .before .any-no-language .ensures, c .before .before .before .before .language .ensures, c .before .before .before .before .before .beyond .ensures, c .before .before .before .before .before .before .count .ensures, c .before .before .before .before .before .before .before .offset .ensures)
+returns-2 c = simp (c .any-twice .ensures, c .before .exceeds .ensures, c .before .before .loudness2 .ensures, c .before .before .before .any-no-language .ensures, c .before .before .before .before .language2 .ensures, c .before .before .before .before .before .beyond2 .ensures, c .before .before .before .before .before .before .count2 .ensures, c .before .before .before .before .before .before .before .offset .ensures)
 
 pub speech-breaks-spec : {M : Type 1} → statement M
 speech-breaks-spec =
     tie.close
     (tie.spec
-    offset-requires
     count-requires
     beyond-requires
     language-requires
-    any-no-language-requires
     loudness-requires
+    returns
+    offset-requires
+    count-requires-2
+    beyond-requires-2
+    language-requires-2
+    any-no-language-requires
+    loudness-requires-2
     exceeds-requires
     any-twice-requires
-    returns)
+    returns-2)

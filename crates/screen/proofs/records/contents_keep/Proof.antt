@@ -1,0 +1,69 @@
+-- No content passed breaks one. Assumes nothing.
+use Prim.Native.Nat.{ℕ, _+_, _-_, _*_, _<_, _≤_}
+use mathlib.Core.Path.{_≡_, refl, sym, ap, _∙_}
+use mathlib.Core.Bool.{true, false, not, true≢false, _&&_, _||_}
+use native.Mathlib.Omega.{arith}
+use native.Mathlib.Numerals.{add-one}
+use Rattle.sheet.specs.Words.{sheetOf}
+use borrow.Author.Needs.{needs}
+use Rattle.profile.specs.Counting.{any}
+use lib.Dec.{eqb, leb, ltb}
+use Rattle.profile.specs.Rules.{rule5, rule6, rule10, rule12}
+use Rattle.sheet.specs.Fields.{contents, objects, packs, programmes, tracks}
+use Rattle.profile.proofs.BoolLaws.{or-none, or-false}
+use Rattle.screen.specs.Screened.{contentBroken, programmeBroken}
+use Rattle.tables.specs.Right.{Listed}
+use Rattle.screen.proofs.NoughtLaws.{listed-some}
+use Rattle.screen.proofs.records.contents_keep.Statement.{statement}
+use Rattle.screen.proofs.records.contents_keep.Tie as tie
+
+abbrev Inv-loop : tie.InvT-loop
+Inv-loop s listed n k₀ k = (k ≤ n) × (Listed (sheetOf s) listed → any (λ k. contentBroken (sheetOf s) k || rule12 (sheetOf s) contents k) k ≡ false)
+
+abbrev μ-loop : tie.MeasureT-loop
+μ-loop s listed n k₀ k = n - k
+
+count-requires : tie.Need-count-requires Inv-loop μ-loop
+count-requires c κs = search needs
+
+loop-holds : tie.Need-loop-holds Inv-loop μ-loop
+unfolding any
+loop-holds c = (search needs, λ t. refl)
+
+content-breaks-requires : tie.Need-content-breaks-requires Inv-loop μ-loop
+content-breaks-requires c κs = search needs
+
+unlisted-requires : tie.Need-unlisted-requires Inv-loop μ-loop
+unlisted-requires c κs = search needs
+
+returns : tie.Need-returns Inv-loop μ-loop
+returns c = λ e. absurd (true≢false (sym e))
+
+add-k : tie.Need-add-k Inv-loop μ-loop
+add-k c = search needs
+
+loop-less : tie.Need-loop-less Inv-loop μ-loop
+loop-less c = search needs
+
+loop-again : tie.Need-loop-again Inv-loop μ-loop
+unfolding any
+loop-again c = (search needs, λ t. let p = or-none (c .before .before .content-breaks .result) (c .before .unlisted .result) (c .if1 .left) in let u = c .before .unlisted .ensures (p .1) in rw (add-one, c .before .before .before .before .loop .inv .1 t, c .before .before .content-breaks .ensures (p .0), listed-some (sheetOf (c .before .before .before .before .before .before .before .before .args .s .now)) (c .before .before .before .before .before .before .before .before .args .listed .now) (c .before .before .before .before .loop .k) t (u .0) (u .1)) refl)
+
+returns-2 : tie.Need-returns-2 Inv-loop μ-loop
+returns-2 c = let h : c .before .loop .k ≡ c .before .before .count .result = omega arith in λ e t. sym (ap (any _) (h ∙ c .before .before .count .ensures)) ∙ c .before .loop .inv .1 t
+
+pub contents-keep-spec : {M : Type 1} → statement M
+contents-keep-spec =
+    tie.close
+    (tie.spec
+    Inv-loop
+    μ-loop
+    count-requires
+    loop-holds
+    content-breaks-requires
+    unlisted-requires
+    returns
+    add-k
+    loop-less
+    loop-again
+    returns-2)

@@ -1,0 +1,70 @@
+-- A leader, an object in no group, or neither. Assumes nothing.
+use Prim.Native.Nat.{ℕ, _+_, _-_, _*_, _<_, _≤_}
+use mathlib.Core.Path.{_≡_, refl, sym, ap, _∙_}
+use mathlib.Core.Bool.{true, false, not, true≢false, _&&_, _||_}
+use native.Mathlib.Omega.{arith}
+use native.Mathlib.Numerals.{add-one}
+use Rattle.sheet.specs.Words.{sheetOf}
+use Rattle.profile.specs.Counting.{any}
+use lib.Dec.{eqb, leb, ltb}
+use Rattle.screen.proofs.TotalLaws.{leader-added, lone-added, other-added}
+use borrow.Author.Needs.{needs}
+use Rattle.screen.proofs.totals.with_object.Statement.{statement}
+use Rattle.screen.proofs.totals.with_object.Tie as tie
+
+leader-requires : tie.Need-leader-requires
+leader-requires c κs = search needs
+
+add-t7 : tie.Need-add-t7
+add-t7 c = search needs
+
+largest-member-requires : tie.Need-largest-member-requires
+largest-member-requires c κs = search needs
+
+cast-t9 : tie.Need-cast-t9
+cast-t9 c = search needs
+
+add-t10 : tie.Need-add-t10
+add-t10 c = search needs
+
+returns : tie.Need-returns
+returns c = (omega arith, omega arith, omega arith, λ t f. let k = leader-added (sheetOf (c .before .before .before .before .before .before .before .before .args .s .now)) (c .before .before .before .before .before .before .before .before .args .o) (c .before .before .before .before .before .before .before .before .args .t .groups) (c .before .before .before .before .before .before .before .before .args .t .lone) (c .before .before .before .before .before .before .before .before .args .t .tracks) (sym (c .before .before .before .before .leader .ensures) ∙ c .before .before .before .if1 .taken) in (k .0, k .1, rw (c .before .largest-member .ensures) (k .2)))
+
+alone-requires : tie.Need-alone-requires
+alone-requires c κs = search needs
+
+add-t12 : tie.Need-add-t12
+add-t12 c = search needs
+
+size-requires : tie.Need-size-requires
+size-requires c κs = search needs
+
+cast-t14 : tie.Need-cast-t14
+cast-t14 c = search needs
+
+add-t15 : tie.Need-add-t15
+add-t15 c = search needs
+
+returns-2 : tie.Need-returns-2
+returns-2 c = (omega arith, omega arith, omega arith, λ t f. let k = lone-added (sheetOf (c .before .before .before .before .before .before .before .before .before .before .args .s .now)) (c .before .before .before .before .before .before .before .before .before .before .args .o) (c .before .before .before .before .before .before .before .before .before .before .args .t .groups) (c .before .before .before .before .before .before .before .before .before .before .args .t .lone) (c .before .before .before .before .before .before .before .before .before .before .args .t .tracks) (sym (c .before .before .before .before .before .before .leader .ensures) ∙ c .before .before .before .before .before .if1 .left) (sym (c .before .before .before .before .alone .ensures t f) ∙ c .before .before .before .if2 .taken) in (k .0, k .1, rw (c .before .size .ensures) (k .2)))
+
+returns-3 : tie.Need-returns-3
+returns-3 c = (omega arith, omega arith, omega arith, λ t f. other-added (sheetOf (c .before .before .before .before .before .before .before .args .s .now)) (c .before .before .before .before .before .before .before .args .o) (c .before .before .before .before .before .before .before .args .t .groups) (c .before .before .before .before .before .before .before .args .t .lone) (c .before .before .before .before .before .before .before .args .t .tracks) (sym (c .before .before .before .leader .ensures) ∙ c .before .before .if1 .left) (sym (c .before .alone .ensures t f) ∙ c .if2 .left))
+
+pub with-object-spec : {M : Type 1} → statement M
+with-object-spec =
+    tie.close
+    (tie.spec
+    leader-requires
+    add-t7
+    largest-member-requires
+    cast-t9
+    add-t10
+    returns
+    alone-requires
+    add-t12
+    size-requires
+    cast-t14
+    add-t15
+    returns-2
+    returns-3)

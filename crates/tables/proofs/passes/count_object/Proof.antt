@@ -1,0 +1,37 @@
+-- The one object of the content. Assumes nothing.
+use Prim.Native.Nat.{ℕ, suc, _-_, _≤_}
+use mathlib.Core.Path.{_≡_, refl, sym, ap, _∙_}
+use mathlib.Core.Bool.{cond}
+use native.Mathlib.Omega.{arith}
+use lib.Dec.{eqb}
+use lib.ListN.{length, getD}
+use Rattle.sheet.specs.Words.{sheetOf}
+use Rattle.sheet.specs.Layout.{count, field}
+use Rattle.sheet.specs.Fields.{contents, objects, contentObject}
+use Rattle.profile.specs.Counting.{sum, howMany}
+use Rattle.tables.specs.declared.Mark.the-variants.{Count}
+use Rattle.tables.specs.Marks.{marked, repeat, timesBy}
+use Rattle.tables.proofs.MarkLaws.{repeat-more}
+use borrow.Author.Needs.{needs}
+use Rattle.tables.proofs.passes.count_object.Statement.{statement}
+use Rattle.tables.proofs.passes.count_object.Tie as tie
+
+field-requires : tie.Need-field-requires
+field-requires c κs = search needs
+
+cast-mark-at : tie.Need-cast-mark-at
+cast-mark-at c = search needs
+
+mark-at-requires : tie.Need-mark-at-requires
+mark-at-requires c κs = search needs
+
+same-length : tie.Need-same-length
+same-length c = search needs
+
+returns : tie.Need-returns
+unfolding timesBy howMany repeat
+returns c = (c .before .before .mark-at .ensures .0, λ x l. c .before .before .mark-at .ensures .1 x l ∙ ap (λ (y : ℕ). cond (eqb y x) (marked Count (getD (c .before .before .before .before .before .before .before .args .table .now) x 0)) (getD (c .before .before .before .before .before .before .before .args .table .now) x 0)) (c .before .before .before .field .ensures) ∙ repeat-more (marked Count) (λ i. eqb (field (sheetOf (c .before .before .before .before .before .before .before .args .s .now)) contents (c .before .before .before .before .before .before .before .args .q) contentObject) x) 0 (getD (c .before .before .before .before .before .before .before .args .table .now) x 0))
+
+pub count-object-spec : {M : Type 1} → statement M
+count-object-spec =
+    tie.close (tie.spec field-requires cast-mark-at mark-at-requires same-length returns)

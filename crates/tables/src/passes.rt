@@ -1,0 +1,77 @@
+// Passes over the contents or the objects that fill several tables at once.
+use crate::Mark;
+use crate::Naming;
+use crate::marks::mark_at;
+use crate::marks::mark_items;
+use crate::namings::items;
+use sheet::fields::CONTENT_OBJECT;
+use sheet::fields::CONTENTS;
+use sheet::fields::OBJECTS;
+use sheet::layout::count;
+use sheet::layout::field;
+ghost use lib.ListN.{getD, length};
+ghost use mathlib.Core.Path.{_≡_};
+ghost use Rattle.sheet.specs.Words.{sheetOf};
+ghost use Rattle.tables.specs.Marks.{Standing, firstBy, marked, namedBy, repeat, timesBy};
+ghost use Rattle.tables.specs.declared.Mark.the-variants.{Count};
+ghost use Rattle.tables.specs.declared.Naming.the-variants.{Children, Complements, ContentObjects, SetSpans};
+
+// Counts the object that a content names.
+fn count_object(s: &[u8], q: u16, table: &mut [u16])
+    ensures { λ r. ⌜ (length (now (table .exit)) ≡ length (now (table .entry))) × Standing (λ x. repeat (marked Count) (timesBy (sheetOf (now (s .entry))) ContentObjects q x) (getD (now (table .entry)) x 0)) (now (table .exit)) ⌝ }
+{
+    mark_at(
+        table,
+        field(s, CONTENTS, q, CONTENT_OBJECT) as u32,
+        Mark::Count,
+    );
+}
+
+// Marks all that a record names, of which there is mostly nothing.
+fn mark_any(s: &[u8], kind: Naming, q: u16, mark: Mark, table: &mut [u16])
+    ensures { λ r. ⌜ (length (now (table .exit)) ≡ length (now (table .entry))) × Standing (λ x. repeat (marked mark) (timesBy (sheetOf (now (s .entry))) kind q x) (getD (now (table .entry)) x 0)) (now (table .exit)) ⌝ }
+{
+    if items(s, kind, q) != 0 {
+        mark_items(s, kind, q, mark, table);
+    }
+}
+
+// Counts how often contents name each object, in two tables.
+pub fn count_tops(s: &[u8], tops: &mut [u16], named: &mut [u16])
+    ensures { λ r. ⌜ (length (now (tops .exit)) ≡ length (now (tops .entry))) × Standing (λ x. repeat (marked Count) (namedBy (sheetOf (now (s .entry))) ContentObjects x) (getD (now (tops .entry)) x 0)) (now (tops .exit)) × (length (now (named .exit)) ≡ length (now (named .entry))) × Standing (λ x. repeat (marked Count) (namedBy (sheetOf (now (s .entry))) ContentObjects x) (getD (now (named .entry)) x 0)) (now (named .exit)) ⌝ }
+{
+    let n = count(s, CONTENTS);
+    let mut q: u16 = 0;
+    while q < n {
+        count_object(s, q, tops);
+        count_object(s, q, named);
+        q += 1;
+    }
+}
+
+// Counts how often child lists and complement lists name each object, and in how many spans each value set is.
+pub fn count_lists(s: &[u8], named: &mut [u16], complements: &mut [u16], spanned: &mut [u16])
+    ensures { λ r. ⌜ (length (now (named .exit)) ≡ length (now (named .entry))) × Standing (λ x. repeat (marked Count) (namedBy (sheetOf (now (s .entry))) Children x) (getD (now (named .entry)) x 0)) (now (named .exit)) × (length (now (complements .exit)) ≡ length (now (complements .entry))) × Standing (λ x. repeat (marked Count) (namedBy (sheetOf (now (s .entry))) Complements x) (getD (now (complements .entry)) x 0)) (now (complements .exit)) × (length (now (spanned .exit)) ≡ length (now (spanned .entry))) × Standing (λ x. repeat (marked Count) (namedBy (sheetOf (now (s .entry))) SetSpans x) (getD (now (spanned .entry)) x 0)) (now (spanned .exit)) ⌝ }
+{
+    let n = count(s, OBJECTS);
+    let mut q: u16 = 0;
+    while q < n {
+        mark_any(s, Naming::Children, q, Mark::Count, named);
+        mark_any(s, Naming::Complements, q, Mark::Count, complements);
+        mark_any(s, Naming::SetSpans, q, Mark::Count, spanned);
+        q += 1;
+    }
+}
+
+// Writes for each object one more than the number of its group's leader, and for each value set one more than that of its object; where
+// there is none, what stood there stays.
+pub fn first_lists(s: &[u8], leaders: &mut [u16], owners: &mut [u16])
+    ensures { λ r. ⌜ (length (now (leaders .exit)) ≡ length (now (leaders .entry))) × Standing (λ x. firstBy (sheetOf (now (s .entry))) Complements x (getD (now (leaders .entry)) x 0)) (now (leaders .exit)) × (length (now (owners .exit)) ≡ length (now (owners .entry))) × Standing (λ x. firstBy (sheetOf (now (s .entry))) SetSpans x (getD (now (owners .entry)) x 0)) (now (owners .exit)) ⌝ }
+{
+    let mut q: u16 = count(s, OBJECTS);
+    while 0 < q {
+        mark_any(s, Naming::Complements, q - 1, Mark::Store(q), leaders);
+        mark_any(s, Naming::SetSpans, q - 1, Mark::Store(q), owners);
+        q -= 1;
+    }
+}
