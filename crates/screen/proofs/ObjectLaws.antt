@@ -5,7 +5,7 @@ use mathlib.Core.Bool.{Bool, true, false, not, cond, true≢false, _&&_, _||_}
 use native.Mathlib.Omega.{arith}
 use native.Mathlib.Nat.{add-zero}
 use lib.Dec.{eqb, leb, ltb}
-use borrow.Author.Tests.{eqb-true, eqb-false, ltb-true, ltb-false, le-ltb, eq-eqb, ne-eqb, lt-ltb, not-false}
+use borrow.Author.Tests.{eqb-true, eqb-false, ltb-true, ltb-false, le-ltb, eq-eqb, ne-eqb, lt-ltb, not-false, not-true}
 use Rattle.sheet.specs.Words.{Sheet, word}
 use Rattle.sheet.specs.Layout.{level, count, offset, start, field, first, number, entry, reference}
 use Rattle.sheet.specs.Fields.{objects, packs, tracks, references, valueSets, objectPack, noPack, trackList, childList, complementList, interact, setSpan, packChannels, trackPack, trackOrdinal, setOwn}
@@ -20,7 +20,8 @@ use Rattle.profile.proofs.CountingLaws.{any-none}
 use Rattle.profile.proofs.SumLaws.{any-nowhere, howMany-eq}
 use Rattle.screen.specs.Entries.{listed, badChildAt, outOfOrderAt}
 use Rattle.screen.specs.Values.{valuesAt, hasRange, wordsBroken, valueLeaves, setWordsBroken, setBroken}
-use Rattle.screen.specs.Objects.{objectListsBroken, objectValues, valuesBroken, childrenBroken, tracksBroken, sourceKept, complementBroken, complementsKept, setsBroken, isPlain, restKept, objectBroken}
+use Rattle.screen.specs.declared.ObjectValues.{ObjectValues}
+use Rattle.screen.specs.Objects.{objectListsBroken, objectValues, gainsBroken, offsetsBroken, valuesBroken, childrenBroken, tracksBroken, sourceKept, complementBroken, complementsKept, setsBroken, isPlain, restKept, objectBroken}
 
 -- two tests of each number below n
 module _ (p q : ℕ → Bool) (n : ℕ) (e : any (λ i. p i || q i) n ≡ false) where
@@ -69,17 +70,20 @@ pub values-kept : (s : Sheet) (o : ℕ) → valuesBroken (objectValues s o) ≡ 
     × (rule17 s objects o ≡ false)
     × (rule18 s objects o ≡ false)
     × ((eqb (field s objects o interact) 0 && (objectRange s o Gains || objectRange s o Offsets)) ≡ false)
-unfolding valuesBroken objectValues valuesAt hasRange wordsBroken rule6 badObject badObjectWords rule17 rule18 objectLeaves ownValue objectRange field
+unfolding valuesBroken gainsBroken offsetsBroken objectValues valuesAt hasRange wordsBroken rule6 badObject badObjectWords rule17 rule18 objectLeaves ownValue objectRange field
 values-kept s o e =
-    let p = or-none-7
-    (ltb 1 (field s objects o interact))
-    (badObjectWords s o Gains)
+    let p = or-none-3 (ltb 1 (field s objects o interact)) (gainsBroken (objectValues s o)) (offsetsBroken (objectValues s o)) e in
+    let g = or-none-3 (badObjectWords s o Gains) (eqb (field s objects o interact) 0 && objectRange s o Gains) (objectLeaves s o Gains) (p .1) in
+    let f = or-none-4
     (badObjectWords s o Offsets)
-    (eqb (field s objects o interact) 0 && (objectRange s o Gains || objectRange s o Offsets))
+    (eqb (field s objects o interact) 0 && objectRange s o Offsets)
     ((not (isAbsent (field s objects o 11)) || objectRange s o Offsets) && not (hasFrontPack s o))
-    (objectLeaves s o Gains)
-    (objectLeaves s o Offsets) e in
-    (simp (p .0, p .1, p .2, or-false), simp (p .4, or-false), simp (p .5, p .6, or-false), p .3)
+    (objectLeaves s o Offsets) (p .2) in
+    (simp (p .0, g .0, f .0, or-false), simp (f .2, or-false), simp (g .2, f .3, or-false), neither (eqb (field s objects o interact) 0) (objectRange s o Gains) (objectRange s o Offsets) (g .1) (f .1))
+  where
+    neither : (a b c : Bool) → (a && b) ≡ false → (a && c) ≡ false → (a && (b || c)) ≡ false
+    neither true b c h k = rw (h, k) refl
+    neither false b c h k = refl
 
 -- the object at a place of a list has the place's number: each number below n comes once
 howMany-place : (m n : ℕ) → howMany (λ i. eqb i m) n ≡ cond (ltb m n) 1 0
@@ -177,7 +181,7 @@ no-complements s o e = (simp e, simp e, simp e)
 
 -- a plain object
 pub plain-kept : (s : Sheet) (o : ℕ) → isPlain s o ≡ true → restKept s o
-unfolding any isPlain setsBroken leader rule15 valuesBroken objectValues valuesAt hasRange wordsBroken badWords leaves objectRange field
+unfolding any isPlain setsBroken leader rule15 valuesBroken gainsBroken offsetsBroken objectValues valuesAt hasRange wordsBroken badWords leaves objectRange field
 plain-kept s o e =
     let offset-maximum = and-both _ (isAbsent (field s objects o 13)) e in
     let offset-minimum = and-both _ (isAbsent (field s objects o 12)) (offset-maximum .0) in
@@ -255,3 +259,11 @@ object-kept s o lists values sets source others once child =
     let l = lists-kept s o lists in
     let v = values-kept s o values in
     rw (l .0, rule5-kept s o source others, v .0, l .1, once, source .3, source .4, child, own-kept s o (v .3) sets, v .1, v .2, others .1, others .2, sets) refl
+
+-- no offset and no range of one
+pub no-offset : (v : ObjectValues) → (isAbsent (v .offsets .value) && not (hasRange (v .offsets))) ≡ true → offsetsBroken v ≡ false
+unfolding offsetsBroken hasRange wordsBroken badWords leaves
+no-offset v e =
+    let p = and-both (isAbsent (v .offsets .value)) (not (not (isAbsent (v .offsets .minimum)) || not (isAbsent (v .offsets .maximum)))) e in
+    let q = or-none (not (isAbsent (v .offsets .minimum))) (not (isAbsent (v .offsets .maximum))) (not-true (not (isAbsent (v .offsets .minimum)) || not (isAbsent (v .offsets .maximum))) (p .1)) in
+    simp (p .0, not-false (isAbsent (v .offsets .minimum)) (q .0), not-false (isAbsent (v .offsets .maximum)) (q .1), and-nothing)

@@ -41,16 +41,24 @@ objectValues s o =
       offsets = valuesAt s (start s objects o + 11) (start s objects o + 12) (start s objects o + 13);
     }
 
+-- a gain with its range that breaks rule 6, 16 or 18
+unfoldable pub gainsBroken : ObjectValues → Bool
+gainsBroken v =
+    wordsBroken Gains (v .gains)
+    || eqb (v .interact) 0 && hasRange (v .gains)
+    || leaves Gains (orElse (v .gains .value) 0) (v .gains .minimum) (v .gains .maximum)
+
+-- an offset with its range that breaks rule 6, 16, 17 or 18
+unfoldable pub offsetsBroken : ObjectValues → Bool
+offsetsBroken v =
+    wordsBroken Offsets (v .offsets)
+    || eqb (v .interact) 0 && hasRange (v .offsets)
+    || (not (isAbsent (v .offsets .value)) || hasRange (v .offsets)) && not (v .front)
+    || leaves Offsets (orElse (v .offsets .value) 0) (v .offsets .minimum) (v .offsets .maximum)
+
 -- values that break rule 6, 16, 17 or 18
 unfoldable pub valuesBroken : ObjectValues → Bool
-valuesBroken v =
-    ltb 1 (v .interact)
-    || wordsBroken Gains (v .gains)
-    || wordsBroken Offsets (v .offsets)
-    || eqb (v .interact) 0 && (hasRange (v .gains) || hasRange (v .offsets))
-    || (not (isAbsent (v .offsets .value)) || hasRange (v .offsets)) && not (v .front)
-    || leaves Gains (orElse (v .gains .value) 0) (v .gains .minimum) (v .gains .maximum)
-    || leaves Offsets (orElse (v .offsets .value) 0) (v .offsets .minimum) (v .offsets .maximum)
+valuesBroken v = ltb 1 (v .interact) || gainsBroken v || offsetsBroken v
 
 -- an object without a pack: no children, or a track, or a child that is no object with a pack of kind 3
 unfoldable pub childrenBroken : Sheet → ℕ → Bool

@@ -9,6 +9,7 @@ use sheet::words::word;
 use values::language::language;
 ghost use Prim.Native.Nat.{_+_};
 ghost use lib.Dec.{ltb};
+ghost use mathlib.Core.Bool.{false, true};
 ghost use mathlib.Core.Path.{_≡_};
 ghost use Rattle.profile.specs.Counting.{any, twoOf};
 ghost use Rattle.screen.specs.Entries.{badChildAt, lackingAt, listed, noLanguageAt, outOfOrderAt, sameAt};
@@ -79,6 +80,23 @@ pub fn any_twice(s: &[u8], base: u16, first: u16, n: u16) -> bool
         j += 1;
     }
     found
+}
+
+// Whether the entries are languages and each is above the one before; then none comes twice.
+pub fn labels_rise(s: &[u8], base: u16, first: u16, n: u16) -> bool
+    ensures { λ r. ⌜ (r ≡ true → (any (noLanguageAt (sheetOf (now (s .entry))) base first) n ≡ false) × (twoOf (sameAt (sheetOf (now (s .entry))) base first) n ≡ false)) ⌝ }
+{
+    let mut last: u16 = 0;
+    let mut i: u16 = 0;
+    while i < n {
+        let x = listed(s, base, first, i);
+        if (x <= last) | !language(x) {
+            return false;
+        }
+        last = x;
+        i += 1;
+    }
+    true
 }
 
 // Whether some entry is no track, a track of another pack, or one whose ordinal is not its place in the list.

@@ -40,7 +40,7 @@ ghost use mathlib.Core.Path.{_≡_};
 ghost use Rattle.profile.specs.Limits.{exceeds};
 ghost use Rattle.profile.specs.Relations.{packOf};
 ghost use Rattle.profile.specs.Rules.{rule15};
-ghost use Rattle.screen.specs.Objects.{childrenBroken, isFront, isPlain, objectBroken, objectListsBroken, objectValues, restKept, sourceKept, tracksBroken, valuesBroken};
+ghost use Rattle.screen.specs.Objects.{childrenBroken, gainsBroken, isFront, isPlain, objectBroken, objectListsBroken, objectValues, offsetsBroken, restKept, sourceKept, tracksBroken, valuesBroken};
 ghost use Rattle.sheet.specs.Fields.{objects};
 ghost use Rattle.sheet.specs.Layout.{start};
 ghost use Rattle.sheet.specs.Words.{sheetOf};
@@ -96,29 +96,45 @@ fn object_values(s: &[u8], at: usize, o: u16, pack: u16) -> ObjectValues
     }
 }
 
-// Rules 6, 17 and 18, and 16 but for the sets.
-fn values_break(v: ObjectValues) -> bool
-    ensures { λ r. ⌜ r ≡ valuesBroken v ⌝ }
+// The gain of an object: rules 6 and 18, and 16 but for the sets.
+fn gains_break(v: ObjectValues) -> bool
+    ensures { λ r. ⌜ r ≡ gainsBroken v ⌝ }
 {
     let gains = v.gains;
-    let offsets = v.offsets;
-    (1 < v.interact)
-        | words_break(Sort::Gains, gains)
-        | words_break(Sort::Offsets, offsets)
-        | (v.interact == 0) & (has_range(gains) | has_range(offsets))
-        | (!is_absent(offsets.value) | has_range(offsets)) & !v.front
+    words_break(Sort::Gains, gains)
+        | (v.interact == 0) & has_range(gains)
         | leaves(
             Sort::Gains,
             or_else(gains.value, 0),
             gains.minimum,
             gains.maximum,
         )
+}
+
+// The offset of an object: rules 6, 17 and 18, and 16 but for the sets. Most have none.
+fn offsets_break(v: ObjectValues) -> bool
+    ensures { λ r. ⌜ r ≡ offsetsBroken v ⌝ }
+{
+    let offsets = v.offsets;
+    if is_absent(offsets.value) & !has_range(offsets) {
+        return false;
+    }
+    words_break(Sort::Offsets, offsets)
+        | (v.interact == 0) & has_range(offsets)
+        | (!is_absent(offsets.value) | has_range(offsets)) & !v.front
         | leaves(
             Sort::Offsets,
             or_else(offsets.value, 0),
             offsets.minimum,
             offsets.maximum,
         )
+}
+
+// Rules 6, 17 and 18, and 16 but for the sets.
+fn values_break(v: ObjectValues) -> bool
+    ensures { λ r. ⌜ r ≡ valuesBroken v ⌝ }
+{
+    (1 < v.interact) | gains_break(v) | offsets_break(v)
 }
 
 // An object without a pack: it has children and no tracks, and each child is an object with a pack of kind 3.

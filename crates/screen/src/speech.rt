@@ -3,6 +3,7 @@ use crate::lists::any_lacking;
 use crate::lists::any_no_language;
 use crate::lists::any_twice;
 use crate::lists::beyond;
+use crate::lists::labels_rise;
 use profile::limits::LABELS_LIMIT;
 use profile::limits::PROGRAMME_CONTENTS_LIMIT;
 use profile::limits::PROGRAMME_SETS_LIMIT;
@@ -35,6 +36,11 @@ fn speech_breaks(s: &[u8], lang: u16, first: u16, n: u16, loud: u16) -> bool
         return beyond(count(s, REFERENCES), first, n) | (!language(lang) | !loudness(loud));
     }
     let base = offset(s, REFERENCES);
+    if labels_rise(s, base, first, n) {
+        return beyond(count(s, REFERENCES), first, n)
+            | (!language(lang) | !loudness(loud))
+            | exceeds(s, LABELS_LIMIT, n as u64);
+    }
     beyond(count(s, REFERENCES), first, n)
         | (!language(lang) | any_no_language(s, base, first, n) | !loudness(loud))
         | exceeds(s, LABELS_LIMIT, n as u64)

@@ -3,15 +3,19 @@ use crate::Mark;
 use crate::Naming;
 use crate::marks::mark_at;
 use crate::marks::mark_items;
-use crate::namings::items;
+use sheet::fields::CHILD_LIST;
+use sheet::fields::COMPLEMENT_LIST;
 use sheet::fields::CONTENT_OBJECT;
 use sheet::fields::CONTENTS;
 use sheet::fields::OBJECTS;
+use sheet::fields::SET_SPAN;
 use sheet::layout::count;
 use sheet::layout::field;
+use sheet::layout::number;
 ghost use lib.ListN.{getD, length};
 ghost use mathlib.Core.Path.{_≡_};
 ghost use Rattle.sheet.specs.Words.{sheetOf};
+ghost use Rattle.tables.specs.Namings.{items};
 ghost use Rattle.tables.specs.Marks.{Standing, firstBy, marked, namedBy, repeat, timesBy};
 ghost use Rattle.tables.specs.declared.Mark.the-variants.{Count};
 ghost use Rattle.tables.specs.declared.Naming.the-variants.{Children, Complements, ContentObjects, SetSpans};
@@ -27,11 +31,12 @@ fn count_object(s: &[u8], q: u16, table: &mut [u16])
     );
 }
 
-// Marks all that a record names, of which there is mostly nothing.
-fn mark_any(s: &[u8], kind: Naming, q: u16, mark: Mark, table: &mut [u16])
+// Marks the n records that a record names, mostly none.
+fn mark_some(s: &[u8], kind: Naming, q: u16, n: u16, mark: Mark, table: &mut [u16])
+    requires { ⌜ n ≡ items (sheetOf (now s)) kind q ⌝ }
     ensures { λ r. ⌜ (length (now (table .exit)) ≡ length (now (table .entry))) × Standing (λ x. repeat (marked mark) (timesBy (sheetOf (now (s .entry))) kind q x) (getD (now (table .entry)) x 0)) (now (table .exit)) ⌝ }
 {
-    if items(s, kind, q) != 0 {
+    if n != 0 {
         mark_items(s, kind, q, mark, table);
     }
 }
@@ -56,9 +61,30 @@ pub fn count_lists(s: &[u8], named: &mut [u16], complements: &mut [u16], spanned
     let n = count(s, OBJECTS);
     let mut q: u16 = 0;
     while q < n {
-        mark_any(s, Naming::Children, q, Mark::Count, named);
-        mark_any(s, Naming::Complements, q, Mark::Count, complements);
-        mark_any(s, Naming::SetSpans, q, Mark::Count, spanned);
+        mark_some(
+            s,
+            Naming::Children,
+            q,
+            number(s, OBJECTS, q, CHILD_LIST),
+            Mark::Count,
+            named,
+        );
+        mark_some(
+            s,
+            Naming::Complements,
+            q,
+            number(s, OBJECTS, q, COMPLEMENT_LIST),
+            Mark::Count,
+            complements,
+        );
+        mark_some(
+            s,
+            Naming::SetSpans,
+            q,
+            number(s, OBJECTS, q, SET_SPAN),
+            Mark::Count,
+            spanned,
+        );
         q += 1;
     }
 }
@@ -70,8 +96,22 @@ pub fn first_lists(s: &[u8], leaders: &mut [u16], owners: &mut [u16])
 {
     let mut q: u16 = count(s, OBJECTS);
     while 0 < q {
-        mark_any(s, Naming::Complements, q - 1, Mark::Store(q), leaders);
-        mark_any(s, Naming::SetSpans, q - 1, Mark::Store(q), owners);
+        mark_some(
+            s,
+            Naming::Complements,
+            q - 1,
+            number(s, OBJECTS, q - 1, COMPLEMENT_LIST),
+            Mark::Store(q),
+            leaders,
+        );
+        mark_some(
+            s,
+            Naming::SetSpans,
+            q - 1,
+            number(s, OBJECTS, q - 1, SET_SPAN),
+            Mark::Store(q),
+            owners,
+        );
         q -= 1;
     }
 }

@@ -30,14 +30,23 @@ loop-holds : tie.Need-loop-holds Inv-loop μ-loop
 unfolding sum repeat
 loop-holds c = (search needs, refl, λ x l. refl, refl, λ x l. refl, refl, λ x l. refl)
 
-mark-any-requires : tie.Need-mark-any-requires Inv-loop μ-loop
-mark-any-requires c κs = search needs
+number-requires : tie.Need-number-requires Inv-loop μ-loop
+number-requires c κs = search needs
 
-mark-any-requires-2 : tie.Need-mark-any-requires-2 Inv-loop μ-loop
-mark-any-requires-2 c κs = search needs
+mark-some-requires : tie.Need-mark-some-requires Inv-loop μ-loop
+mark-some-requires c κs = c .before .number .ensures
 
-mark-any-requires-3 : tie.Need-mark-any-requires-3 Inv-loop μ-loop
-mark-any-requires-3 c κs = search needs
+number-requires-2 : tie.Need-number-requires-2 Inv-loop μ-loop
+number-requires-2 c κs = search needs
+
+mark-some-requires-2 : tie.Need-mark-some-requires-2 Inv-loop μ-loop
+mark-some-requires-2 c κs = c .before .number2 .ensures
+
+number-requires-3 : tie.Need-number-requires-3 Inv-loop μ-loop
+number-requires-3 c κs = search needs
+
+mark-some-requires-3 : tie.Need-mark-some-requires-3 Inv-loop μ-loop
+mark-some-requires-3 c κs = c .before .number3 .ensures
 
 add-q : tie.Need-add-q Inv-loop μ-loop
 add-q c = search needs
@@ -46,7 +55,7 @@ loop-less : tie.Need-loop-less Inv-loop μ-loop
 loop-less c = search needs
 
 loop-again : tie.Need-loop-again Inv-loop μ-loop
-loop-again c = (search needs, c .before .before .before .before .before .before .before .before .before .before .mark-any .ensures .0 ∙ c .before .before .before .before .before .before .before .before .before .before .before .before .before .loop .inv .1, namers-more (marked Count) (c .before .before .before .before .before .before .before .before .before .before .before .before .before .before .before .before .before .before .before .args .named .now) (c .before .before .before .before .before .before .before .before .before .before .before .before .before .loop .named) (c .before .before .before .before .before .before .before .before .before .before .mark-any .last .1 .1 .1 .1 .0) (c .before .before .before .before .before .before .before .before .before .before .mark-any .ensures .0) (λ j x. timesBy (sheetOf (c .before .before .before .before .before .before .before .before .before .before .before .before .before .before .before .before .before .before .before .args .s .now)) Children j x) (c .before .before .before .before .before .before .before .before .before .before .before .before .before .loop .q) (c .before .before .before .before .before .before .before .before .before .before .before .before .before .loop .inv .2) (c .before .before .before .before .before .before .before .before .before .before .mark-any .ensures .1), c .before .before .before .before .before .before .mark-any2 .ensures .0 ∙ c .before .before .before .before .before .before .before .before .before .before .before .before .before .loop .inv .3, namers-more (marked Count) (c .before .before .before .before .before .before .before .before .before .before .before .before .before .before .before .before .before .before .before .args .complements .now) (c .before .before .before .before .before .before .before .before .before .before .before .before .before .loop .complements) (c .before .before .before .before .before .before .mark-any2 .last .1 .1 .1 .1 .0) (c .before .before .before .before .before .before .mark-any2 .ensures .0) (λ j x. timesBy (sheetOf (c .before .before .before .before .before .before .before .before .before .before .before .before .before .before .before .before .before .before .before .args .s .now)) Complements j x) (c .before .before .before .before .before .before .before .before .before .before .before .before .before .loop .q) (c .before .before .before .before .before .before .before .before .before .before .before .before .before .loop .inv .4) (c .before .before .before .before .before .before .mark-any2 .ensures .1), c .before .before .mark-any3 .ensures .0 ∙ c .before .before .before .before .before .before .before .before .before .before .before .before .before .loop .inv .5, namers-more (marked Count) (c .before .before .before .before .before .before .before .before .before .before .before .before .before .before .before .before .before .before .before .args .spanned .now) (c .before .before .before .before .before .before .before .before .before .before .before .before .before .loop .spanned) (c .before .before .mark-any3 .last .1 .1 .1 .1 .0) (c .before .before .mark-any3 .ensures .0) (λ j x. timesBy (sheetOf (c .before .before .before .before .before .before .before .before .before .before .before .before .before .before .before .before .before .before .before .args .s .now)) SetSpans j x) (c .before .before .before .before .before .before .before .before .before .before .before .before .before .loop .q) (c .before .before .before .before .before .before .before .before .before .before .before .before .before .loop .inv .6) (c .before .before .mark-any3 .ensures .1))
+loop-again c = (search needs, c .before .before .before .before .before .before .before .before .before .before .before .before .mark-some .ensures .0 ∙ c .before .before .before .before .before .before .before .before .before .before .before .before .before .before .before .before .loop .inv .1, namers-more (marked Count) (c .before .before .before .before .before .before .before .before .before .before .before .before .before .before .before .before .before .before .before .before .before .before .args .named .now) (c .before .before .before .before .before .before .before .before .before .before .before .before .before .before .before .before .loop .named) (c .before .before .before .before .before .before .before .before .before .before .before .before .mark-some .last .1 .1 .1 .1 .1 .0) (c .before .before .before .before .before .before .before .before .before .before .before .before .mark-some .ensures .0) (λ j x. timesBy (sheetOf (c .before .before .before .before .before .before .before .before .before .before .before .before .before .before .before .before .before .before .before .before .before .before .args .s .now)) Children j x) (c .before .before .before .before .before .before .before .before .before .before .before .before .before .before .before .before .loop .q) (c .before .before .before .before .before .before .before .before .before .before .before .before .before .before .before .before .loop .inv .2) (c .before .before .before .before .before .before .before .before .before .before .before .before .mark-some .ensures .1), c .before .before .before .before .before .before .before .mark-some2 .ensures .0 ∙ c .before .before .before .before .before .before .before .before .before .before .before .before .before .before .before .before .loop .inv .3, namers-more (marked Count) (c .before .before .before .before .before .before .before .before .before .before .before .before .before .before .before .before .before .before .before .before .before .before .args .complements .now) (c .before .before .before .before .before .before .before .before .before .before .before .before .before .before .before .before .loop .complements) (c .before .before .before .before .before .before .before .mark-some2 .last .1 .1 .1 .1 .1 .0) (c .before .before .before .before .before .before .before .mark-some2 .ensures .0) (λ j x. timesBy (sheetOf (c .before .before .before .before .before .before .before .before .before .before .before .before .before .before .before .before .before .before .before .before .before .before .args .s .now)) Complements j x) (c .before .before .before .before .before .before .before .before .before .before .before .before .before .before .before .before .loop .q) (c .before .before .before .before .before .before .before .before .before .before .before .before .before .before .before .before .loop .inv .4) (c .before .before .before .before .before .before .before .mark-some2 .ensures .1), c .before .before .mark-some3 .ensures .0 ∙ c .before .before .before .before .before .before .before .before .before .before .before .before .before .before .before .before .loop .inv .5, namers-more (marked Count) (c .before .before .before .before .before .before .before .before .before .before .before .before .before .before .before .before .before .before .before .before .before .before .args .spanned .now) (c .before .before .before .before .before .before .before .before .before .before .before .before .before .before .before .before .loop .spanned) (c .before .before .mark-some3 .last .1 .1 .1 .1 .1 .0) (c .before .before .mark-some3 .ensures .0) (λ j x. timesBy (sheetOf (c .before .before .before .before .before .before .before .before .before .before .before .before .before .before .before .before .before .before .before .before .before .before .args .s .now)) SetSpans j x) (c .before .before .before .before .before .before .before .before .before .before .before .before .before .before .before .before .loop .q) (c .before .before .before .before .before .before .before .before .before .before .before .before .before .before .before .before .loop .inv .6) (c .before .before .mark-some3 .ensures .1))
 
 same-length : tie.Need-same-length Inv-loop μ-loop
 same-length c = c .before .loop .inv .1
@@ -69,9 +78,12 @@ count-lists-spec =
     μ-loop
     count-requires
     loop-holds
-    mark-any-requires
-    mark-any-requires-2
-    mark-any-requires-3
+    number-requires
+    mark-some-requires
+    number-requires-2
+    mark-some-requires-2
+    number-requires-3
+    mark-some-requires-3
     add-q
     loop-less
     loop-again

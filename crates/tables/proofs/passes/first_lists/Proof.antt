@@ -30,17 +30,29 @@ loop-holds : tie.Need-loop-holds Inv-loop μ-loop
 unfolding firstFrom
 loop-holds c = let e : count (sheetOf (c .before .before .before .before .args .s .now)) objects - c .count .result ≡ 0 = omega (arith, c .count .ensures) in (omega (arith, c .count .ensures), refl, λ x l. ap (λ (n : ℕ). firstFrom (λ j. namesBy (sheetOf (c .before .before .before .before .args .s .now)) Complements j x) (getD (c .before .before .before .before .args .leaders .now) x 0) (c .count .result) n) (sym e), refl, λ x l. ap (λ (n : ℕ). firstFrom (λ j. namesBy (sheetOf (c .before .before .before .before .args .s .now)) SetSpans j x) (getD (c .before .before .before .before .args .owners .now) x 0) (c .count .result) n) (sym e))
 
-sub-mark-any : tie.Need-sub-mark-any Inv-loop μ-loop
-sub-mark-any c = search needs
+sub-mark-some : tie.Need-sub-mark-some Inv-loop μ-loop
+sub-mark-some c = search needs
 
-mark-any-requires : tie.Need-mark-any-requires Inv-loop μ-loop
-mark-any-requires c κs = search needs
+sub-number : tie.Need-sub-number Inv-loop μ-loop
+sub-number c = search needs
 
-sub-mark-any-2 : tie.Need-sub-mark-any-2 Inv-loop μ-loop
-sub-mark-any-2 c = search needs
+number-requires : tie.Need-number-requires Inv-loop μ-loop
+number-requires c κs = search needs
 
-mark-any-requires-2 : tie.Need-mark-any-requires-2 Inv-loop μ-loop
-mark-any-requires-2 c κs = search needs
+mark-some-requires : tie.Need-mark-some-requires Inv-loop μ-loop
+mark-some-requires c κs = c .before .number .ensures
+
+sub-mark-some-2 : tie.Need-sub-mark-some-2 Inv-loop μ-loop
+sub-mark-some-2 c = search needs
+
+sub-number-2 : tie.Need-sub-number-2 Inv-loop μ-loop
+sub-number-2 c = search needs
+
+number-requires-2 : tie.Need-number-requires-2 Inv-loop μ-loop
+number-requires-2 c κs = search needs
+
+mark-some-requires-2 : tie.Need-mark-some-requires-2 Inv-loop μ-loop
+mark-some-requires-2 c κs = c .before .number2 .ensures
 
 sub-q : tie.Need-sub-q Inv-loop μ-loop
 sub-q c = search needs
@@ -49,7 +61,7 @@ loop-less : tie.Need-loop-less Inv-loop μ-loop
 loop-less c = search needs
 
 loop-again : tie.Need-loop-again Inv-loop μ-loop
-loop-again c = let q = c .before .before .before .before .before .before .before .before .before .loop .q - 1 in let e : suc q ≡ c .before .before .before .before .before .before .before .before .before .loop .q = omega (arith, c .before .before .before .before .before .before .before .before .loop-test .taken) in let f : count (sheetOf (c .before .before .before .before .before .before .before .before .before .before .before .before .before .before .args .s .now)) objects - q ≡ suc (count (sheetOf (c .before .before .before .before .before .before .before .before .before .before .before .before .before .before .args .s .now)) objects - c .before .before .before .before .before .before .before .before .before .loop .q) = omega (arith, c .before .before .before .before .before .before .before .before .before .loop .inv .0, c .before .before .before .before .before .before .before .before .loop-test .taken) in (omega (arith, c .before .before .before .before .before .before .before .before .before .loop .inv .0), c .before .before .before .before .before .before .mark-any .ensures .0 ∙ c .before .before .before .before .before .before .before .before .before .loop .inv .1, rw f (first-more (sheetOf (c .before .before .before .before .before .before .before .before .before .before .before .before .before .before .args .s .now)) Complements (c .before .before .before .before .before .before .before .before .before .before .before .before .before .before .args .leaders .now) (c .before .before .before .before .before .before .before .before .before .loop .leaders) (c .before .before .before .before .before .before .mark-any .last .1 .1 .1 .1 .0) q (count (sheetOf (c .before .before .before .before .before .before .before .before .before .before .before .before .before .before .args .s .now)) objects - c .before .before .before .before .before .before .before .before .before .loop .q) (c .before .before .before .before .before .before .mark-any .ensures .0) (rw e (c .before .before .before .before .before .before .before .before .before .loop .inv .2)) (λ x l. c .before .before .before .before .before .before .mark-any .ensures .1 x l ∙ ap (λ (v : ℕ). repeat (marked (Store v)) (timesBy (sheetOf (c .before .before .before .before .before .before .before .before .before .before .before .before .before .before .args .s .now)) Complements q x) (getD (c .before .before .before .before .before .before .before .before .before .loop .leaders) x 0)) (sym e))), c .before .before .mark-any2 .ensures .0 ∙ c .before .before .before .before .before .before .before .before .before .loop .inv .3, rw f (first-more (sheetOf (c .before .before .before .before .before .before .before .before .before .before .before .before .before .before .args .s .now)) SetSpans (c .before .before .before .before .before .before .before .before .before .before .before .before .before .before .args .owners .now) (c .before .before .before .before .before .before .before .before .before .loop .owners) (c .before .before .mark-any2 .last .1 .1 .1 .1 .0) q (count (sheetOf (c .before .before .before .before .before .before .before .before .before .before .before .before .before .before .args .s .now)) objects - c .before .before .before .before .before .before .before .before .before .loop .q) (c .before .before .mark-any2 .ensures .0) (rw e (c .before .before .before .before .before .before .before .before .before .loop .inv .4)) (λ x l. c .before .before .mark-any2 .ensures .1 x l ∙ ap (λ (v : ℕ). repeat (marked (Store v)) (timesBy (sheetOf (c .before .before .before .before .before .before .before .before .before .before .before .before .before .before .args .s .now)) SetSpans q x) (getD (c .before .before .before .before .before .before .before .before .before .loop .owners) x 0)) (sym e))))
+loop-again c = let q = c .before .before .before .before .before .before .before .before .before .before .before .loop .q - 1 in let e : suc q ≡ c .before .before .before .before .before .before .before .before .before .before .before .loop .q = omega (arith, c .before .before .before .before .before .before .before .before .before .before .loop-test .taken) in let f : count (sheetOf (c .before .before .before .before .before .before .before .before .before .before .before .before .before .before .before .before .args .s .now)) objects - q ≡ suc (count (sheetOf (c .before .before .before .before .before .before .before .before .before .before .before .before .before .before .before .before .args .s .now)) objects - c .before .before .before .before .before .before .before .before .before .before .before .loop .q) = omega (arith, c .before .before .before .before .before .before .before .before .before .before .before .loop .inv .0, c .before .before .before .before .before .before .before .before .before .before .loop-test .taken) in (omega (arith, c .before .before .before .before .before .before .before .before .before .before .before .loop .inv .0), c .before .before .before .before .before .before .before .mark-some .ensures .0 ∙ c .before .before .before .before .before .before .before .before .before .before .before .loop .inv .1, rw f (first-more (sheetOf (c .before .before .before .before .before .before .before .before .before .before .before .before .before .before .before .before .args .s .now)) Complements (c .before .before .before .before .before .before .before .before .before .before .before .before .before .before .before .before .args .leaders .now) (c .before .before .before .before .before .before .before .before .before .before .before .loop .leaders) (c .before .before .before .before .before .before .before .mark-some .last .1 .1 .1 .1 .1 .0) q (count (sheetOf (c .before .before .before .before .before .before .before .before .before .before .before .before .before .before .before .before .args .s .now)) objects - c .before .before .before .before .before .before .before .before .before .before .before .loop .q) (c .before .before .before .before .before .before .before .mark-some .ensures .0) (rw e (c .before .before .before .before .before .before .before .before .before .before .before .loop .inv .2)) (λ x l. c .before .before .before .before .before .before .before .mark-some .ensures .1 x l ∙ ap (λ (v : ℕ). repeat (marked (Store v)) (timesBy (sheetOf (c .before .before .before .before .before .before .before .before .before .before .before .before .before .before .before .before .args .s .now)) Complements q x) (getD (c .before .before .before .before .before .before .before .before .before .before .before .loop .leaders) x 0)) (sym e))), c .before .before .mark-some2 .ensures .0 ∙ c .before .before .before .before .before .before .before .before .before .before .before .loop .inv .3, rw f (first-more (sheetOf (c .before .before .before .before .before .before .before .before .before .before .before .before .before .before .before .before .args .s .now)) SetSpans (c .before .before .before .before .before .before .before .before .before .before .before .before .before .before .before .before .args .owners .now) (c .before .before .before .before .before .before .before .before .before .before .before .loop .owners) (c .before .before .mark-some2 .last .1 .1 .1 .1 .1 .0) q (count (sheetOf (c .before .before .before .before .before .before .before .before .before .before .before .before .before .before .before .before .args .s .now)) objects - c .before .before .before .before .before .before .before .before .before .before .before .loop .q) (c .before .before .mark-some2 .ensures .0) (rw e (c .before .before .before .before .before .before .before .before .before .before .before .loop .inv .4)) (λ x l. c .before .before .mark-some2 .ensures .1 x l ∙ ap (λ (v : ℕ). repeat (marked (Store v)) (timesBy (sheetOf (c .before .before .before .before .before .before .before .before .before .before .before .before .before .before .before .before .args .s .now)) SetSpans q x) (getD (c .before .before .before .before .before .before .before .before .before .before .before .loop .owners) x 0)) (sym e))))
 
 same-length : tie.Need-same-length Inv-loop μ-loop
 same-length c = c .before .loop .inv .1
@@ -69,10 +81,14 @@ first-lists-spec =
     μ-loop
     count-requires
     loop-holds
-    sub-mark-any
-    mark-any-requires
-    sub-mark-any-2
-    mark-any-requires-2
+    sub-mark-some
+    sub-number
+    number-requires
+    mark-some-requires
+    sub-mark-some-2
+    sub-number-2
+    number-requires-2
+    mark-some-requires-2
     sub-q
     loop-less
     loop-again
