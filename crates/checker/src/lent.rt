@@ -8,6 +8,7 @@ use runs::fill::fill_repeats;
 use sheet::fields::OBJECTS;
 use sheet::fields::PROGRAMMES;
 use tables::Naming;
+use tables::coverage::count_covered;
 use tables::marks::count_namings;
 use tables::marks::first_namers;
 ghost use lib.ListN.{length};
@@ -67,12 +68,12 @@ pub fn fill_table(s: &[u8], which: Table, table: &mut [u16])
         Table::Nothing => {}
         Table::Named => {
             count_namings(s, Naming::ContentObjects, table);
-            count_namings(s, Naming::Children, table);
+            count_covered(s, Naming::Children, table);
         }
-        Table::Spanned => count_namings(s, Naming::SetSpans, table),
-        Table::Listed => count_namings(s, Naming::ContentLists, table),
+        Table::Spanned => count_covered(s, Naming::SetSpans, table),
+        Table::Listed => count_covered(s, Naming::ContentLists, table),
         Table::Tops => count_namings(s, Naming::ContentObjects, table),
-        Table::Complements => count_namings(s, Naming::Complements, table),
+        Table::Complements => count_covered(s, Naming::Complements, table),
         Table::Owners => first_namers(s, Naming::SetSpans, table),
         Table::Leaders => first_namers(s, Naming::Complements, table),
         Table::Lacking(target) => fill_next(s, EntryTest::Lacks(target), table),

@@ -1,2 +1,3 @@
 pub mod MarkLaws
 pub mod TableLaws
+pub mod CoverLaws

@@ -14,7 +14,6 @@ use Rattle.sheet.specs.Words.{Sheet}
 use Rattle.profile.specs.Counting.{any, howMany, sum}
 use Rattle.profile.proofs.CountingLaws.{any-howMany}
 use Rattle.tables.specs.declared.Naming.{Naming}
-use Rattle.tables.specs.declared.Mark.{Mark}
 use Rattle.tables.specs.declared.Mark.the-variants.{Count, Store}
 use Rattle.tables.specs.Namings.{items, item}
 use Rattle.tables.specs.Marks.{Standing, marked, repeat, timesBy, namesBy, firstFrom}
@@ -51,24 +50,24 @@ set-standing t y v g h x l =
       | false ↦ λ e. getD-set-other t y x v 0 (λ q. eqb-false y x e (sym q)) ∙ sym (ap (λ (b : Bool). cond b v (getD t x 0)) e) ∙ h x l
     ]) refl
 
--- a place is marked
-pub mark-standing : (t : List ℕ) (y : ℕ) (m : Mark) (v : ℕ) → y < length t → v ≡ marked m (getD t y 0)
-    → Standing (λ z. cond (eqb y z) (marked m (getD t z 0)) (getD t z 0)) (set t y v)
-mark-standing t y m v l e x h =
-    set-standing t y v (λ z. cond (eqb y z) (marked m (getD t z 0)) (getD t z 0))
+-- one place has what f makes of it
+pub mark-standing : (t : List ℕ) (y : ℕ) (f : ℕ → ℕ) (v : ℕ) → y < length t → v ≡ f (getD t y 0)
+    → Standing (λ z. cond (eqb y z) (f (getD t z 0)) (getD t z 0)) (set t y v)
+mark-standing t y f v l e x h =
+    set-standing t y v (λ z. cond (eqb y z) (f (getD t z 0)) (getD t z 0))
     (λ z k. ap (λ (w : ℕ). cond (eqb y z) w (getD t z 0)) e ∙ same z)
     x (rw (length-set t y v) at h)
   where
-    same : (z : ℕ) → cond (eqb y z) (marked m (getD t y 0)) (getD t z 0) ≡ cond (eqb y z) (marked m (getD t z 0)) (getD t z 0)
+    same : (z : ℕ) → cond (eqb y z) (f (getD t y 0)) (getD t z 0) ≡ cond (eqb y z) (f (getD t z 0)) (getD t z 0)
     same z =
-        (elim (eqb y z) as (λ b. eqb y z ≡ b → cond b (marked m (getD t y 0)) (getD t z 0) ≡ cond b (marked m (getD t z 0)) (getD t z 0)) [
-          | true ↦ λ e. ap (λ (w : ℕ). marked m (getD t w 0)) (eqb-true y z e)
+        (elim (eqb y z) as (λ b. eqb y z ≡ b → cond b (f (getD t y 0)) (getD t z 0) ≡ cond b (f (getD t z 0)) (getD t z 0)) [
+          | true ↦ λ e. ap (λ (w : ℕ). f (getD t w 0)) (eqb-true y z e)
           | false ↦ λ e. refl
         ]) refl
 
 -- one past the end is passed over
-pub past-standing : (t : List ℕ) (y : ℕ) (m : Mark) → length t ≤ y → Standing (λ z. cond (eqb y z) (marked m (getD t z 0)) (getD t z 0)) t
-past-standing t y m l x h = rw (ne-eqb y x (λ q. let z : y ≡ x = q in omega arith)) refl
+pub past-standing : (t : List ℕ) (y : ℕ) (f : ℕ → ℕ) → length t ≤ y → Standing (λ z. cond (eqb y z) (f (getD t z 0)) (getD t z 0)) t
+past-standing t y f l x h = rw (ne-eqb y x (λ q. let z : y ≡ x = q in omega arith)) refl
 
 module _ (f : ℕ → ℕ) (t₀ t t′ : List ℕ) (long : length t′ ≡ length t) where
   -- one item more

@@ -62,7 +62,7 @@ any-sum p m (suc n) =
     both (suc a) b = rw (ne-eqb (suc a) 0 (λ q. let z : suc a ≡ 0 = q in omega arith), ne-eqb (suc a + b) 0 (λ q. let z : suc a + b ≡ 0 = q in omega arith)) refl
 
 -- a run names each of its numbers once
-run-times : (f v n : ℕ) → howMany (λ i. eqb (f + i) v) n ≡ cond (leb f v && ltb v (f + n)) 1 0
+pub run-times : (f v n : ℕ) → howMany (λ i. eqb (f + i) v) n ≡ cond (leb f v && ltb v (f + n)) 1 0
 unfolding howMany
 run-times f v zero =
     (elim (leb f v) as (λ b. leb f v ≡ b → _≡_ {A = ℕ} 0 (cond (leb f v && ltb v (f + 0)) 1 0)) [

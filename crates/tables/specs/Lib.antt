@@ -1,3 +1,4 @@
 pub mod Namings
 pub mod Marks
 pub mod Right
+pub mod Coverage

@@ -32,7 +32,7 @@ ghost use Rattle.tables.specs.declared.Mark.the-variants.{Count};
 ghost use Rattle.tables.specs.declared.Naming.the-variants.{Included as IncludedObjects};
 
 // What a place has after a mark.
-fn after(mark: Mark, c: u16) -> u16
+pub fn after(mark: Mark, c: u16) -> u16
     ensures { λ r. ⌜ r ≡ marked mark c ⌝ }
 {
     match mark {

@@ -16,32 +16,32 @@ enum-told-2 c = search needs
 count-namings-requires : tie.Need-count-namings-requires
 count-namings-requires c κs = search needs
 
-count-namings-requires-2 : tie.Need-count-namings-requires-2
-count-namings-requires-2 c κs = search needs
+count-covered-requires : tie.Need-count-covered-requires
+count-covered-requires c κs = search needs
 
 enum-told-3 : tie.Need-enum-told-3
 enum-told-3 c = search needs
 
-count-namings-requires-3 : tie.Need-count-namings-requires-3
-count-namings-requires-3 c κs = search needs
+count-covered-requires-2 : tie.Need-count-covered-requires-2
+count-covered-requires-2 c κs = search needs
 
 enum-told-4 : tie.Need-enum-told-4
 enum-told-4 c = search needs
 
-count-namings-requires-4 : tie.Need-count-namings-requires-4
-count-namings-requires-4 c κs = search needs
+count-covered-requires-3 : tie.Need-count-covered-requires-3
+count-covered-requires-3 c κs = search needs
 
 enum-told-5 : tie.Need-enum-told-5
 enum-told-5 c = search needs
 
-count-namings-requires-5 : tie.Need-count-namings-requires-5
-count-namings-requires-5 c κs = search needs
+count-namings-requires-2 : tie.Need-count-namings-requires-2
+count-namings-requires-2 c κs = search needs
 
 enum-told-6 : tie.Need-enum-told-6
 enum-told-6 c = search needs
 
-count-namings-requires-6 : tie.Need-count-namings-requires-6
-count-namings-requires-6 c κs = search needs
+count-covered-requires-4 : tie.Need-count-covered-requires-4
+count-covered-requires-4 c κs = search needs
 
 enum-told-7 : tie.Need-enum-told-7
 enum-told-7 c = search needs
@@ -80,31 +80,31 @@ same-length : tie.Need-same-length
 same-length c = search needs
 
 returns-2 : tie.Need-returns-2
-returns-2 c = (c .before .before .count-namings2 .ensures .0 ∙ c .before .before .before .before .before .before .count-namings .ensures .0, λ noughts. rw (c .before .before .before .before .before .before .before .before .enum-told2 .given .1) (named-made (sheetOf (c .before .before .before .before .before .before .before .before .before .before .before .before .args .s .now)) (c .before .before .before .before .before .before .before .before .before .before .before .before .args .table .now) noughts (c .before .before .before .before .before .before .count-namings .last .1 .1 .0) (c .before .before .count-namings2 .last .1 .1 .0) (c .before .before .before .before .before .before .count-namings .ensures .0) (c .before .before .count-namings2 .ensures .0) (c .before .before .before .before .before .before .count-namings .ensures .1) (c .before .before .count-namings2 .ensures .1)))
+returns-2 c = (c .before .before .count-covered .ensures .0 ∙ c .before .before .before .before .before .before .count-namings .ensures .0, λ noughts. rw (c .before .before .before .before .before .before .before .before .enum-told2 .given .1) (named-made (sheetOf (c .before .before .before .before .before .before .before .before .before .before .before .before .args .s .now)) (c .before .before .before .before .before .before .before .before .before .before .before .before .args .table .now) noughts (c .before .before .before .before .before .before .count-namings .last .1 .1 .0) (c .before .before .count-covered .last .1 .1 .0) (c .before .before .before .before .before .before .count-namings .ensures .0) (c .before .before .count-covered .ensures .0) (c .before .before .before .before .before .before .count-namings .ensures .1) (c .before .before .count-covered .ensures .1)))
 
 same-length-2 : tie.Need-same-length-2
 same-length-2 c = search needs
 
 returns-3 : tie.Need-returns-3
-returns-3 c = (c .before .before .count-namings3 .ensures .0, λ noughts. rw (c .before .before .before .before .enum-told3 .given .1) (spans-made (sheetOf (c .before .before .before .before .before .before .before .before .args .s .now)) (c .before .before .before .before .before .before .before .before .args .table .now) noughts (c .before .before .count-namings3 .last .1 .1 .0) (c .before .before .count-namings3 .ensures .0) (c .before .before .count-namings3 .ensures .1)))
+returns-3 c = (c .before .before .count-covered2 .ensures .0, λ noughts. rw (c .before .before .before .before .enum-told3 .given .1) (spans-made (sheetOf (c .before .before .before .before .before .before .before .before .args .s .now)) (c .before .before .before .before .before .before .before .before .args .table .now) noughts (c .before .before .count-covered2 .last .1 .1 .0) (c .before .before .count-covered2 .ensures .0) (c .before .before .count-covered2 .ensures .1)))
 
 same-length-3 : tie.Need-same-length-3
 same-length-3 c = search needs
 
 returns-4 : tie.Need-returns-4
-returns-4 c = (c .before .before .count-namings4 .ensures .0, λ noughts. rw (c .before .before .before .before .enum-told4 .given .1) (counts-made (sheetOf (c .before .before .before .before .before .before .before .before .args .s .now)) (c .before .before .before .before .before .before .before .before .args .table .now) noughts ContentLists (c .before .before .count-namings4 .last .1 .1 .0) (c .before .before .count-namings4 .ensures .0) (c .before .before .count-namings4 .ensures .1)))
+returns-4 c = (c .before .before .count-covered3 .ensures .0, λ noughts. rw (c .before .before .before .before .enum-told4 .given .1) (counts-made (sheetOf (c .before .before .before .before .before .before .before .before .args .s .now)) (c .before .before .before .before .before .before .before .before .args .table .now) noughts ContentLists (c .before .before .count-covered3 .last .1 .1 .0) (c .before .before .count-covered3 .ensures .0) (c .before .before .count-covered3 .ensures .1)))
 
 same-length-4 : tie.Need-same-length-4
 same-length-4 c = search needs
 
 returns-5 : tie.Need-returns-5
-returns-5 c = (c .before .before .count-namings5 .ensures .0, λ noughts. rw (c .before .before .before .before .enum-told5 .given .1) (counts-made (sheetOf (c .before .before .before .before .before .before .before .before .args .s .now)) (c .before .before .before .before .before .before .before .before .args .table .now) noughts ContentObjects (c .before .before .count-namings5 .last .1 .1 .0) (c .before .before .count-namings5 .ensures .0) (c .before .before .count-namings5 .ensures .1)))
+returns-5 c = (c .before .before .count-namings2 .ensures .0, λ noughts. rw (c .before .before .before .before .enum-told5 .given .1) (counts-made (sheetOf (c .before .before .before .before .before .before .before .before .args .s .now)) (c .before .before .before .before .before .before .before .before .args .table .now) noughts ContentObjects (c .before .before .count-namings2 .last .1 .1 .0) (c .before .before .count-namings2 .ensures .0) (c .before .before .count-namings2 .ensures .1)))
 
 same-length-5 : tie.Need-same-length-5
 same-length-5 c = search needs
 
 returns-6 : tie.Need-returns-6
-returns-6 c = (c .before .before .count-namings6 .ensures .0, λ noughts. rw (c .before .before .before .before .enum-told6 .given .1) (counts-made (sheetOf (c .before .before .before .before .before .before .before .before .args .s .now)) (c .before .before .before .before .before .before .before .before .args .table .now) noughts Complements (c .before .before .count-namings6 .last .1 .1 .0) (c .before .before .count-namings6 .ensures .0) (c .before .before .count-namings6 .ensures .1)))
+returns-6 c = (c .before .before .count-covered4 .ensures .0, λ noughts. rw (c .before .before .before .before .enum-told6 .given .1) (counts-made (sheetOf (c .before .before .before .before .before .before .before .before .args .s .now)) (c .before .before .before .before .before .before .before .before .args .table .now) noughts Complements (c .before .before .count-covered4 .last .1 .1 .0) (c .before .before .count-covered4 .ensures .0) (c .before .before .count-covered4 .ensures .1)))
 
 same-length-6 : tie.Need-same-length-6
 same-length-6 c = search needs
@@ -143,15 +143,15 @@ fill-table-spec =
     enum-told
     enum-told-2
     count-namings-requires
-    count-namings-requires-2
+    count-covered-requires
     enum-told-3
-    count-namings-requires-3
+    count-covered-requires-2
     enum-told-4
-    count-namings-requires-4
+    count-covered-requires-3
     enum-told-5
-    count-namings-requires-5
+    count-namings-requires-2
     enum-told-6
-    count-namings-requires-6
+    count-covered-requires-4
     enum-told-7
     first-namers-requires
     enum-told-8

@@ -1,6 +1,7 @@
 -- The place is marked, or past the end. Assumes nothing.
 use mathlib.Core.Path.{refl}
 use lib.ListN.{length, length-set}
+use Rattle.tables.specs.Marks.{marked}
 use Rattle.tables.proofs.MarkLaws.{mark-standing, past-standing}
 use borrow.Author.Needs.{needs}
 use Rattle.tables.proofs.marks.mark_at.Statement.{statement}
@@ -25,10 +26,10 @@ same-length : tie.Need-same-length
 same-length c = search needs
 
 returns : tie.Need-returns
-returns c = (length-set (c .before .before .before .before .args .table .now) (c .before .before .before .before .args .x) (c .after .result), mark-standing (c .before .before .before .before .args .table .now) (c .before .before .before .before .args .x) (c .before .before .before .before .args .mark) _ (c .before .before .if1 .taken) (c .after .ensures))
+returns c = (length-set (c .before .before .before .before .args .table .now) (c .before .before .before .before .args .x) (c .after .result), mark-standing (c .before .before .before .before .args .table .now) (c .before .before .before .before .args .x) (marked (c .before .before .before .before .args .mark)) _ (c .before .before .if1 .taken) (c .after .ensures))
 
 returns-2 : tie.Need-returns-2
-returns-2 c = (refl, past-standing (c .before .before .args .table .now) (c .before .before .args .x) (c .before .before .args .mark) (c .if1 .left))
+returns-2 c = (refl, past-standing (c .before .before .args .table .now) (c .before .before .args .x) (marked (c .before .before .args .mark)) (c .if1 .left))
 
 pub mark-at-spec : {M : Type 1} → statement M
 mark-at-spec =

@@ -1,0 +1,55 @@
+-- The records passed reach no further. Assumes nothing.
+use Prim.Native.Nat.{ℕ, _-_, _<_, _≤_}
+use native.Mathlib.Omega.{arith}
+use Rattle.sheet.specs.Words.{sheetOf}
+use Rattle.tables.specs.Namings.{namers}
+use Rattle.tables.specs.Coverage.{behind}
+use borrow.Author.Count.{below-none, below-more}
+use borrow.Author.Needs.{needs}
+use Rattle.tables.proofs.coverage.reach.Statement.{statement}
+use Rattle.tables.proofs.coverage.reach.Tie as tie
+
+abbrev Inv-loop : tie.InvT-loop
+Inv-loop s kind n most₀ q₀ most q = (q ≤ n) × ((j : ℕ) → j < q → behind (sheetOf s) kind j ≤ most)
+
+abbrev μ-loop : tie.MeasureT-loop
+μ-loop s kind n most₀ q₀ most q = n - q
+
+namers-requires : tie.Need-namers-requires Inv-loop μ-loop
+namers-requires c κs = search needs
+
+loop-holds : tie.Need-loop-holds Inv-loop μ-loop
+loop-holds c = (search needs, below-none _)
+
+behind-requires : tie.Need-behind-requires Inv-loop μ-loop
+behind-requires c κs = search needs
+
+larger-requires : tie.Need-larger-requires Inv-loop μ-loop
+larger-requires c κs = search needs
+
+add-q : tie.Need-add-q Inv-loop μ-loop
+add-q c = search needs
+
+loop-less : tie.Need-loop-less Inv-loop μ-loop
+loop-less c = search needs
+
+loop-again : tie.Need-loop-again Inv-loop μ-loop
+loop-again c = (search needs, below-more (λ j. behind (sheetOf (c .before .before .before .before .before .before .args .s .now)) (c .before .before .before .before .before .before .args .kind) j ≤ c .larger .result) (c .before .before .before .loop .q) (λ j l. omega (arith, c .before .before .before .loop .inv .1 j l, c .larger .ensures .0)) (omega (arith, c .before .behind .ensures, c .larger .ensures .1)))
+
+returns : tie.Need-returns Inv-loop μ-loop
+returns c = λ j l. c .before .loop .inv .1 j (omega (arith, l, c .before .before .namers .ensures, c .loop-test .left))
+
+pub reach-spec : {M : Type 1} → statement M
+reach-spec =
+    tie.close
+    (tie.spec
+    Inv-loop
+    μ-loop
+    namers-requires
+    loop-holds
+    behind-requires
+    larger-requires
+    add-q
+    loop-less
+    loop-again
+    returns)

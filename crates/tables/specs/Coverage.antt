@@ -1,0 +1,48 @@
+-- Each way to name as runs of indices, one run for each record that names: the indices of section 6 that its list has, or the value sets
+-- of its span. How many runs cover an index. Assumes nothing.
+use Prim.Native.Nat.{ℕ, _+_, _<_, _≤_}
+use mathlib.Core.Bool.{Bool, cond, _&&_}
+use lib.Dec.{leb, ltb}
+use Rattle.sheet.specs.Words.{Sheet}
+use Rattle.sheet.specs.Layout.{field, first, reference}
+use Rattle.sheet.specs.Fields.{programmes, contents, objects, contentList, setList, contentObject, childList, complementList, setSpan}
+use Rattle.profile.specs.Counting.{howMany}
+use Rattle.tables.specs.declared.Naming.{Naming}
+use Rattle.tables.specs.declared.Naming.the-variants.{ContentObjects, Children, Complements, ContentLists, Included, SetLists, SetSpans}
+use Rattle.tables.specs.Namings.{namers, items}
+
+-- the index at which a record's run begins
+abbrev pub begin : Sheet → Naming → ℕ → ℕ
+begin s ContentObjects q = field s contents q contentObject
+begin s Children q = first s objects q childList
+begin s Complements q = first s objects q complementList
+begin s ContentLists q = first s programmes q contentList
+begin s Included q = first s programmes q contentList
+begin s SetLists q = first s programmes q setList
+begin s SetSpans q = first s objects q setSpan
+
+-- the record that an index names
+abbrev pub namedAt : Sheet → Naming → ℕ → ℕ
+namedAt s ContentObjects y = y
+namedAt s Children y = reference s y
+namedAt s Complements y = reference s y
+namedAt s ContentLists y = reference s y
+namedAt s Included y = field s contents (reference s y) contentObject
+namedAt s SetLists y = reference s y
+namedAt s SetSpans y = y
+
+-- the index behind a record's run
+unfoldable pub behind : Sheet → Naming → ℕ → ℕ
+behind s kind q = begin s kind q + items s kind q
+
+-- one edge of the run
+abbrev pub edge : Sheet → Naming → Bool → ℕ → ℕ
+edge s kind last q = cond last (behind s kind q) (begin s kind q)
+
+-- all runs end at m or before
+abbrev pub Reaching : Sheet → Naming → ℕ → Type 0
+Reaching s kind m = (q : ℕ) → q < namers s kind → behind s kind q ≤ m
+
+-- how many runs have an index
+unfoldable pub cover : Sheet → Naming → ℕ → ℕ
+cover s kind y = howMany (λ q. leb (begin s kind q) y && ltb y (behind s kind q)) (namers s kind)
