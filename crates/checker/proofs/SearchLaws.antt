@@ -23,7 +23,7 @@ use Rattle.tables.specs.Right as tables
 use Rattle.tables.specs.Right.{counted}
 use Rattle.tables.proofs.TableLaws.{namings-added, span-namings}
 use Rattle.checker.specs.declared.Table.{Table}
-use Rattle.checker.specs.declared.Table.the-variants.{Nothing, Named, Spanned, Listed, Tops, Complements, Owners, Leaders, Lacking, Languages, Repeats}
+use Rattle.checker.specs.declared.Table.the-variants.{Nothing, Named, Spanned, Listed, Tops, Complements, Owners, Leaders, Lacking, Languages, Repeats, Strays, Ordinals}
 use Rattle.checker.specs.Checked.{ruleVerdict}
 use Rattle.checker.specs.Tables.{Right}
 use Rattle.checker.proofs.SubjectLaws.{Rest, rest-ended}
@@ -111,6 +111,8 @@ module _ (s : Sheet) where
   empty-right (Lacking target) = λ x l. absurd (omega arith)
   empty-right Languages = λ x l. absurd (omega arith)
   empty-right Repeats = λ x l. absurd (omega arith)
+  empty-right Strays = λ x l. absurd (omega arith)
+  empty-right Ordinals = λ x l. absurd (omega arith)
 
   module _ (t₀ : List ℕ) (noughts : Standing (λ x. 0) t₀) where
     pub counts-made : (kind : Naming) (t : List ℕ) → length t ≡ length t₀ → Standing (λ x. repeat (marked Count) (namedBy s kind x) (getD t₀ x 0)) t

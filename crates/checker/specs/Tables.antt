@@ -7,10 +7,10 @@ use Rattle.sheet.specs.Words.{Sheet}
 use Rattle.sheet.specs.Fields.{programmes, objects}
 use Rattle.relations.specs.declared.EntryTest.the-variants.{Lacks, NoLanguage}
 use Rattle.tables.specs.Right as tables
-use Rattle.runs.specs.Runs.{NextRight, RepeatRight}
+use Rattle.runs.specs.Runs.{NextRight, OrdinalRight, RepeatRight, StrayRight}
 use Rattle.rules.specs.Loops.{firstTarget, secondTarget}
 use Rattle.checker.specs.declared.Table.{Table}
-use Rattle.checker.specs.declared.Table.the-variants.{Nothing, Named, Spanned, Listed, Tops, Complements, Owners, Leaders, Lacking, Languages, Repeats}
+use Rattle.checker.specs.declared.Table.the-variants.{Nothing, Named, Spanned, Listed, Tops, Complements, Owners, Leaders, Lacking, Languages, Repeats, Strays, Ordinals}
 
 -- the table is what it is to be
 abbrev pub Right : Sheet → Table → List ℕ → Type 0
@@ -25,6 +25,8 @@ Right s Leaders t = tables.Leaders s t
 Right s (Lacking target) t = NextRight s (Lacks target) t
 Right s Languages t = NextRight s NoLanguage t
 Right s Repeats t = RepeatRight s t
+Right s Strays t = StrayRight s t
+Right s Ordinals t = OrdinalRight s t
 
 -- the first table that a rule is lent for the records of a section
 unfoldable pub firstTable : ℕ → ℕ → Table
@@ -34,19 +36,21 @@ firstTable rule section =
     (cond (eqb rule 9) Repeats
     (cond (eqb rule 11) (cond (eqb section objects) Named Spanned)
     (cond (eqb rule 12) (cond (eqb section programmes) Repeats Listed)
+    (cond (eqb rule 14) Strays
     (cond (eqb rule 15) Tops
     (cond (eqb rule 17) Owners
     (cond (eqb rule 18) Owners
     (cond (eqb rule 19) Tops
     (cond (eqb rule 22) Owners
     (cond (eqb rule 23) Tops
-    (cond (eqb rule 24) Tops Nothing)))))))))))
+    (cond (eqb rule 24) Tops Nothing))))))))))))
 
 -- the second one
 unfoldable pub secondTable : ℕ → ℕ → Table
 secondTable rule section =
     cond (eqb rule 5) (Lacking (secondTarget section))
+    (cond (eqb rule 14) Ordinals
     (cond (eqb rule 19) Complements
     (cond (eqb rule 22) Leaders
     (cond (eqb rule 23) Complements
-    (cond (eqb rule 24) Complements Nothing))))
+    (cond (eqb rule 24) Complements Nothing)))))

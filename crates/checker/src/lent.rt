@@ -3,6 +3,8 @@ use crate::Table;
 use relations::EntryTest;
 use rules::lists::first_target;
 use rules::lists::second_target;
+use runs::ReferenceKey;
+use runs::ReferenceTest;
 use runs::fill::fill_next;
 use runs::fill::fill_repeats;
 use sheet::fields::OBJECTS;
@@ -35,6 +37,7 @@ pub fn first_table(rule: u8, section: u8) -> Table
         } else {
             Table::Listed
         },
+        14 => Table::Strays,
         15 => Table::Tops,
         17 => Table::Owners,
         18 => Table::Owners,
@@ -52,6 +55,7 @@ pub fn second_table(rule: u8, section: u8) -> Table
 {
     match rule {
         5 => Table::Lacking(second_target(section)),
+        14 => Table::Ordinals,
         19 => Table::Complements,
         22 => Table::Leaders,
         23 => Table::Complements,
@@ -76,8 +80,14 @@ pub fn fill_table(s: &[u8], which: Table, table: &mut [u16])
         Table::Complements => count_covered(s, Naming::Complements, table),
         Table::Owners => first_namers(s, Naming::SetSpans, table),
         Table::Leaders => first_namers(s, Naming::Complements, table),
-        Table::Lacking(target) => fill_next(s, EntryTest::Lacks(target), table),
-        Table::Languages => fill_next(s, EntryTest::NoLanguage, table),
-        Table::Repeats => fill_repeats(s, table),
+        Table::Lacking(target) => fill_next(
+            s,
+            ReferenceTest::Passes(EntryTest::Lacks(target)),
+            table,
+        ),
+        Table::Languages => fill_next(s, ReferenceTest::Passes(EntryTest::NoLanguage), table),
+        Table::Repeats => fill_repeats(s, ReferenceKey::Itself, table),
+        Table::Strays => fill_next(s, ReferenceTest::Stray, table),
+        Table::Ordinals => fill_repeats(s, ReferenceKey::Ordinal, table),
     }
 }

@@ -27,4 +27,8 @@ pub enum Table {
     Languages,
     // the next reference that repeats one before it
     Repeats,
+    // the next reference after which one names a track of another pack, or one with an ordinal past its pack's channels
+    Strays,
+    // the next reference that names a track with the ordinal of one before it
+    Ordinals,
 }

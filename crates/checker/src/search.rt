@@ -131,7 +131,7 @@ fn lowest_broken(s: &[u8], rule: u8, section: u8, n: u16) -> u16
         return plainly(s, rule, section, n);
     }
     match rule {
-        5 | 6 | 9 => by_lists(s, rule, section, n),
+        5 | 6 | 9 | 14 => by_lists(s, rule, section, n),
         11 | 12 => {
             if (rule == 12) & (section == PROGRAMMES) {
                 return by_lists(s, rule, section, n);

@@ -103,7 +103,7 @@ pub fn breaks(
         11 => rule11(s, first, section, k),
         12 => rule12(s, first, section, k),
         13 => rule13(s, section, k),
-        14 => rule14(s, section, k),
+        14 => rule14(s, first, second, section, k),
         15 => rule15(s, first, section, k),
         16 => rule16(s, section, k),
         17 => rule17(s, first, section, k),

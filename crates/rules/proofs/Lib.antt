@@ -1,4 +1,3 @@
 mod GroupTestLaws
 mod SeenLaws
-mod OrdinalLaws
 mod DifferLaws

@@ -9,6 +9,8 @@ use relations::objects::has_children;
 use relations::objects::has_pack;
 use relations::objects::leader;
 use relations::objects::pack_of;
+use runs::reads::inside;
+use runs::reads::odd_tracks;
 use sheet::fields::CHILD_LIST;
 use sheet::fields::INTERACT;
 use sheet::fields::OBJECT_GAIN;
@@ -23,6 +25,7 @@ use values::Sort;
 use values::values::is_absent;
 ghost use mathlib.Core.Path.{_≡_};
 ghost use Rattle.profile.specs.Rules.{rule13, rule14, rule15, rule16};
+ghost use Rattle.runs.specs.Runs.{OrdinalRight, StrayRight};
 ghost use Rattle.sheet.specs.Words.{sheetOf};
 ghost use Rattle.tables.specs.Right.{Tops};
 
@@ -36,11 +39,17 @@ pub fn rule13(s: &[u8], section: u8, o: u16) -> bool
         | any_entry(s, OBJECTS, o, CHILD_LIST, EntryTest::NoObjectsPack)
 }
 
-pub fn rule14(s: &[u8], section: u8, o: u16) -> bool
-    ensures { λ r. ⌜ r ≡ rule14 (sheetOf (now (s .entry))) section o ⌝ }
+// It is lent a table of the tracks that don't go on with the pack, and one of the ordinals that repeat.
+pub fn rule14(s: &[u8], next: &[u16], again: &[u16], section: u8, o: u16) -> bool
+    ensures { λ r. ⌜ (StrayRight (sheetOf (now (s .entry))) (now (next .entry)) → OrdinalRight (sheetOf (now (s .entry))) (now (again .entry)) → r ≡ rule14 (sheetOf (now (s .entry))) section o) ⌝ }
 {
-    if number(s, OBJECTS, o, TRACK_LIST) != channels(s, o) {
+    let n = number(s, OBJECTS, o, TRACK_LIST);
+    if n != channels(s, o) {
         return true;
+    }
+    let first = field(s, OBJECTS, o, TRACK_LIST);
+    if (0 < n) & inside(s, next, first, n) & inside(s, again, first, n) {
+        return odd_tracks(s, next, again, first, n, pack_of(s, o));
     }
     any_entry(
         s,

@@ -1,1 +1,3 @@
 pub mod RunLaws
+pub mod OrdinalLaws
+mod TrackLaws

@@ -2,18 +2,22 @@
 use relations::EntryTest;
 use relations::entries::any_entry;
 use sheet::fields::REFERENCES;
+use sheet::fields::TRACK_ORDINAL;
+use sheet::fields::TRACK_PACK;
+use sheet::fields::TRACKS;
 use sheet::layout::count;
 use sheet::layout::field;
 use sheet::layout::number;
-ghost use Prim.Native.Nat.{_+_, _<_};
+use sheet::layout::reference;
+ghost use Prim.Native.Nat.{_+_, _<_, _≤_};
 ghost use lib.Dec.{leb, ltb};
 ghost use lib.ListN.{getD, length};
 ghost use mathlib.Core.Bool.{_&&_};
 ghost use mathlib.Core.Path.{_≡_};
 ghost use Rattle.relations.specs.Tests.{anyEntry};
-ghost use Rattle.runs.specs.Runs.{NextRight};
-ghost use Rattle.sheet.specs.Fields.{references};
-ghost use Rattle.sheet.specs.Layout.{count};
+ghost use Rattle.runs.specs.Runs.{NextRight, OrdinalRight, StrayRight, oddTracks};
+ghost use Rattle.sheet.specs.Fields.{packChannels, packs, references};
+ghost use Rattle.sheet.specs.Layout.{count, field};
 ghost use Rattle.sheet.specs.Words.{sheetOf};
 
 // The table has the index, and the n references from it on are there.
@@ -40,6 +44,19 @@ pub fn among(table: &[u16], first: u16, n: u16) -> bool
     } else {
         false
     }
+}
+
+// Whether one of the n tracks from a reference on is not of this pack of n channels, or their ordinals aren't each channel once: the
+// first is tested, `next` tells of those that don't go on with it, `again` of ordinals that repeat.
+pub fn odd_tracks(s: &[u8], next: &[u16], again: &[u16], first: u16, n: u16, pack: u16) -> bool
+    requires { ⌜ 0 < n ⌝ }
+    ensures { λ r. ⌜ (StrayRight (sheetOf (now (s .entry))) (now (next .entry)) → OrdinalRight (sheetOf (now (s .entry))) (now (again .entry)) → first < length (now (next .entry)) → first < length (now (again .entry)) → first + n ≤ count (sheetOf (now (s .entry))) references → field (sheetOf (now (s .entry))) packs pack packChannels ≡ n → r ≡ oddTracks (sheetOf (now (s .entry))) first n pack) ⌝ }
+{
+    let e = reference(s, first as u32);
+    (field(s, TRACKS, e, TRACK_PACK) != pack)
+        | (n <= field(s, TRACKS, e, TRACK_ORDINAL))
+        | among(next, first, n - 1)
+        | among(again, first, n)
 }
 
 // Whether some entry of the list at a position of a record passes the test.

@@ -73,6 +73,18 @@ enum-told-10 c = search needs
 fill-repeats-requires : tie.Need-fill-repeats-requires
 fill-repeats-requires c κs = search needs
 
+enum-told-11 : tie.Need-enum-told-11
+enum-told-11 c = search needs
+
+fill-next-requires-3 : tie.Need-fill-next-requires-3
+fill-next-requires-3 c κs = search needs
+
+enum-told-12 : tie.Need-enum-told-12
+enum-told-12 c = search needs
+
+fill-repeats-requires-2 : tie.Need-fill-repeats-requires-2
+fill-repeats-requires-2 c κs = search needs
+
 returns : tie.Need-returns
 returns c = (refl, λ noughts. rw (c .enum-told .given .1) tt)
 
@@ -136,6 +148,18 @@ same-length-10 c = search needs
 returns-11 : tie.Need-returns-11
 returns-11 c = (c .before .before .fill-repeats .ensures .0, λ noughts. rw (c .before .before .before .before .enum-told10 .given .1) (c .before .before .fill-repeats .ensures .1))
 
+same-length-11 : tie.Need-same-length-11
+same-length-11 c = search needs
+
+returns-12 : tie.Need-returns-12
+returns-12 c = (c .before .before .fill-next3 .ensures .0, λ noughts. rw (c .before .before .before .before .enum-told11 .given .1) (c .before .before .fill-next3 .ensures .1))
+
+same-length-12 : tie.Need-same-length-12
+same-length-12 c = search needs
+
+returns-13 : tie.Need-returns-13
+returns-13 c = (c .before .before .fill-repeats2 .ensures .0, λ noughts. rw (c .before .before .before .before .enum-told12 .given .1) (c .before .before .fill-repeats2 .ensures .1))
+
 pub fill-table-spec : {M : Type 1} → statement M
 fill-table-spec =
     tie.close
@@ -162,6 +186,10 @@ fill-table-spec =
     fill-next-requires-2
     enum-told-10
     fill-repeats-requires
+    enum-told-11
+    fill-next-requires-3
+    enum-told-12
+    fill-repeats-requires-2
     returns
     same-length
     returns-2
@@ -182,4 +210,8 @@ fill-table-spec =
     same-length-9
     returns-10
     same-length-10
-    returns-11)
+    returns-11
+    same-length-11
+    returns-12
+    same-length-12
+    returns-13)

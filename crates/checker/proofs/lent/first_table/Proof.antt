@@ -66,7 +66,11 @@ returns-14 c = simp (c .match .keys12)
 
 returns-15 : tie.Need-returns-15
 unfolding firstTable
-returns-15 c = simp (ne-eqb _ 5 (c .match .rest .0 .0 .0 .0 .0 .0 .0 .0 .0 .0 .0 .1), ne-eqb _ 6 (c .match .rest .0 .0 .0 .0 .0 .0 .0 .0 .0 .0 .1), ne-eqb _ 9 (c .match .rest .0 .0 .0 .0 .0 .0 .0 .0 .0 .1), ne-eqb _ 11 (c .match .rest .0 .0 .0 .0 .0 .0 .0 .0 .1), ne-eqb _ 12 (c .match .rest .0 .0 .0 .0 .0 .0 .0 .1), ne-eqb _ 15 (c .match .rest .0 .0 .0 .0 .0 .0 .1), ne-eqb _ 17 (c .match .rest .0 .0 .0 .0 .0 .1), ne-eqb _ 18 (c .match .rest .0 .0 .0 .0 .1), ne-eqb _ 19 (c .match .rest .0 .0 .0 .1), ne-eqb _ 22 (c .match .rest .0 .0 .1), ne-eqb _ 23 (c .match .rest .0 .1), ne-eqb _ 24 (c .match .rest .1))
+returns-15 c = simp (c .match .keys13)
+
+returns-16 : tie.Need-returns-16
+unfolding firstTable
+returns-16 c = simp (ne-eqb _ 5 (c .match .rest .0 .0 .0 .0 .0 .0 .0 .0 .0 .0 .0 .0 .1), ne-eqb _ 6 (c .match .rest .0 .0 .0 .0 .0 .0 .0 .0 .0 .0 .0 .1), ne-eqb _ 9 (c .match .rest .0 .0 .0 .0 .0 .0 .0 .0 .0 .0 .1), ne-eqb _ 11 (c .match .rest .0 .0 .0 .0 .0 .0 .0 .0 .0 .1), ne-eqb _ 12 (c .match .rest .0 .0 .0 .0 .0 .0 .0 .0 .1), ne-eqb _ 14 (c .match .rest .0 .0 .0 .0 .0 .0 .0 .1), ne-eqb _ 15 (c .match .rest .0 .0 .0 .0 .0 .0 .1), ne-eqb _ 17 (c .match .rest .0 .0 .0 .0 .0 .1), ne-eqb _ 18 (c .match .rest .0 .0 .0 .0 .1), ne-eqb _ 19 (c .match .rest .0 .0 .0 .1), ne-eqb _ 22 (c .match .rest .0 .0 .1), ne-eqb _ 23 (c .match .rest .0 .1), ne-eqb _ 24 (c .match .rest .1))
 
 pub first-table-spec : {M : Type 1} → statement M
 first-table-spec =
@@ -87,4 +91,5 @@ first-table-spec =
     returns-12
     returns-13
     returns-14
-    returns-15)
+    returns-15
+    returns-16)

@@ -30,9 +30,13 @@ returns-5 c = simp (c .match .keys5)
 
 returns-6 : tie.Need-returns-6
 unfolding secondTable
-returns-6 c = simp (ne-eqb _ 5 (c .match .rest .0 .0 .0 .0 .1), ne-eqb _ 19 (c .match .rest .0 .0 .0 .1), ne-eqb _ 22 (c .match .rest .0 .0 .1), ne-eqb _ 23 (c .match .rest .0 .1), ne-eqb _ 24 (c .match .rest .1))
+returns-6 c = simp (c .match .keys6)
+
+returns-7 : tie.Need-returns-7
+unfolding secondTable
+returns-7 c = simp (ne-eqb _ 5 (c .match .rest .0 .0 .0 .0 .0 .1), ne-eqb _ 14 (c .match .rest .0 .0 .0 .0 .1), ne-eqb _ 19 (c .match .rest .0 .0 .0 .1), ne-eqb _ 22 (c .match .rest .0 .0 .1), ne-eqb _ 23 (c .match .rest .0 .1), ne-eqb _ 24 (c .match .rest .1))
 
 pub second-table-spec : {M : Type 1} → statement M
 second-table-spec =
     tie.close
-    (tie.spec second-target-requires returns returns-2 returns-3 returns-4 returns-5 returns-6)
+    (tie.spec second-target-requires returns returns-2 returns-3 returns-4 returns-5 returns-6 returns-7)

@@ -139,8 +139,8 @@ unfolding breaks rules
 returns-13 c = (refl, λ first second. simp (c .rule13 .ensures, c .before .match .keys13))
 
 returns-14 : tie.Need-returns-14
-unfolding breaks rules
-returns-14 c = (refl, λ first second. simp (c .rule14 .ensures, c .before .match .keys14))
+unfolding breaks rules firstTable secondTable
+returns-14 c = (refl, λ first second. let f : Right (sheetOf (c .before .before .before .before .before .before .args .s .now)) (firstTable 14 (c .before .before .before .before .before .before .args .section)) (c .before .before .before .before .before .before .args .first .now) = rw (c .before .match .keys14) at first in let g : Right (sheetOf (c .before .before .before .before .before .before .args .s .now)) (secondTable 14 (c .before .before .before .before .before .before .args .section)) (c .before .before .before .before .before .before .args .second .now) = rw (c .before .match .keys14) at second in simp (c .rule14 .ensures f g, c .before .match .keys14))
 
 returns-15 : tie.Need-returns-15
 unfolding breaks rules firstTable secondTable

@@ -1,13 +1,28 @@
 -- As many as its channels, of its pack, each ordinal once. Assumes nothing.
-use mathlib.Core.Path.{_≡_, sym, _∙_}
-use borrow.Author.Tests.{eq-eqb, ne-eqb}
+use Prim.Native.Nat.{ℕ, zero, suc, _+_, _<_}
+use mathlib.Core.Path.{_≡_, refl, sym, ap, ap₂, _∙_}
+use mathlib.Core.Bool.{Bool, true, false, cond, not, _||_}
+use native.Mathlib.Omega.{arith}
+use borrow.Author.Tests.{eq-eqb, ne-eqb, ltb-true, leb-true}
+use lib.Dec.{eqb}
+use Rattle.sheet.specs.Words.{sheetOf}
+use Rattle.sheet.specs.Layout.{field, number, entry}
+use Rattle.sheet.specs.Fields.{objects, packs, trackList, packChannels}
+use Rattle.profile.specs.Counting.{any, howMany}
 use Rattle.profile.specs.Rules.{rule14}
-use Rattle.profile.specs.Relations.{trackAt}
+use Rattle.profile.specs.Relations.{hasChildren, packOf, channels, trackAt}
 use Rattle.relations.specs.Tests.{anyEntry}
+use Rattle.runs.specs.Runs.{packAt, ordinalAt, oddTracks}
+use Rattle.runs.proofs.RunLaws.{all-three}
 use Rattle.rules.specs.Loops.{badChannel}
 use borrow.Author.Needs.{needs}
 use Rattle.rules.proofs.objects.rule14.Statement.{statement}
 use Rattle.rules.proofs.objects.rule14.Tie as tie
+
+-- an object with tracks has no children
+with-pack : (b : Bool) (n x : ℕ) → n ≡ cond b 0 x → 0 < n → x ≡ n
+with-pack true n x e l = absurd (omega (arith, e, l))
+with-pack false n x e l = sym e
 
 number-requires : tie.Need-number-requires
 number-requires c κs = search needs
@@ -17,10 +32,36 @@ channels-requires c κs = search needs
 
 returns : tie.Need-returns
 unfolding rule14
-returns c = simp (ne-eqb _ _ (λ q. c .if1 .taken (c .before .before .number .ensures ∙ q ∙ sym (c .before .channels .ensures))))
+returns c = λ next again. simp (ne-eqb _ _ (λ q. c .if1 .taken (c .before .before .number .ensures ∙ q ∙ sym (c .before .channels .ensures))))
+
+field-requires : tie.Need-field-requires
+field-requires c κs = search needs
+
+inside-requires : tie.Need-inside-requires
+inside-requires c κs = search needs
+
+inside-requires-2 : tie.Need-inside-requires-2
+inside-requires-2 c κs = search needs
 
 pack-of-requires : tie.Need-pack-of-requires
 pack-of-requires c κs = search needs
+
+odd-tracks-requires : tie.Need-odd-tracks-requires
+odd-tracks-requires c κs = ltb-true _ _ (all-three _ _ _ (c .before .if2 .taken) .0)
+
+returns-2 : tie.Need-returns-2
+unfolding rule14 oddTracks trackAt entry channels
+returns-2 c = λ next again.
+    let t = all-three _ _ _ (c .before .before .if2 .taken) in
+    let f = all-three _ _ _ (sym (c .before .before .before .before .inside .ensures) ∙ t .1) in
+    let g = all-three _ _ _ (sym (c .before .before .before .inside2 .ensures) ∙ t .2) in
+    let e : (number (sheetOf (c .before .before .before .before .before .before .before .before .before .before .before .before .args .s .now)) objects (c .before .before .before .before .before .before .before .before .before .before .before .before .args .o) trackList) ≡ channels (sheetOf (c .before .before .before .before .before .before .before .before .before .before .before .before .args .s .now)) (c .before .before .before .before .before .before .before .before .before .before .before .before .args .o) = (sym (c .before .before .before .before .before .before .before .before .number .ensures) ∙ c .before .before .before .before .before .before .if1 .left ∙ c .before .before .before .before .before .before .before .channels .ensures) in
+    let full : field (sheetOf (c .before .before .before .before .before .before .before .before .before .before .before .before .args .s .now)) packs (c .before .pack-of .result) packChannels ≡ c .before .before .before .before .before .before .before .before .number .result = ap (λ (p : ℕ). field (sheetOf (c .before .before .before .before .before .before .before .before .before .before .before .before .args .s .now)) packs p packChannels) (c .before .pack-of .ensures) ∙ with-pack (hasChildren (sheetOf (c .before .before .before .before .before .before .before .before .before .before .before .before .args .s .now)) (c .before .before .before .before .before .before .before .before .before .before .before .before .args .o)) (c .before .before .before .before .before .before .before .before .number .result) (field (sheetOf (c .before .before .before .before .before .before .before .before .before .before .before .before .args .s .now)) packs (packOf (sheetOf (c .before .before .before .before .before .before .before .before .before .before .before .before .args .s .now)) (c .before .before .before .before .before .before .before .before .before .before .before .before .args .o)) packChannels) (c .before .before .before .before .before .before .before .before .number .ensures ∙ e) (ltb-true _ _ (t .0)) in
+    let r = c .odd-tracks .ensures next again (ltb-true _ _ (f .0)) (ltb-true _ _ (g .0)) (leb-true _ _ (f .2)) full in
+    rw (eq-eqb _ _ e) (r ∙ ap₂ (λ (a n : ℕ). oddTracks (sheetOf (c .before .before .before .before .before .before .before .before .before .before .before .before .args .s .now)) a n (c .before .pack-of .result)) (c .before .before .before .before .before .field .ensures) (c .before .before .before .before .before .before .before .before .number .ensures) ∙ ap (oddTracks (sheetOf (c .before .before .before .before .before .before .before .before .before .before .before .before .args .s .now)) (field (sheetOf (c .before .before .before .before .before .before .before .before .before .before .before .before .args .s .now)) objects (c .before .before .before .before .before .before .before .before .before .before .before .before .args .o) trackList) (number (sheetOf (c .before .before .before .before .before .before .before .before .before .before .before .before .args .s .now)) objects (c .before .before .before .before .before .before .before .before .before .before .before .before .args .o) trackList)) (c .before .pack-of .ensures) ∙ ap (λ (m : ℕ). any (λ i. not (eqb (packAt (sheetOf (c .before .before .before .before .before .before .before .before .before .before .before .before .args .s .now)) ((field (sheetOf (c .before .before .before .before .before .before .before .before .before .before .before .before .args .s .now)) objects (c .before .before .before .before .before .before .before .before .before .before .before .before .args .o) trackList) + i)) (packOf (sheetOf (c .before .before .before .before .before .before .before .before .before .before .before .before .args .s .now)) (c .before .before .before .before .before .before .before .before .before .before .before .before .args .o)))) (number (sheetOf (c .before .before .before .before .before .before .before .before .before .before .before .before .args .s .now)) objects (c .before .before .before .before .before .before .before .before .before .before .before .before .args .o) trackList) || any (λ k. not (eqb (howMany (λ i. eqb (ordinalAt (sheetOf (c .before .before .before .before .before .before .before .before .before .before .before .before .args .s .now)) ((field (sheetOf (c .before .before .before .before .before .before .before .before .before .before .before .before .args .s .now)) objects (c .before .before .before .before .before .before .before .before .before .before .before .before .args .o) trackList) + i)) k) (number (sheetOf (c .before .before .before .before .before .before .before .before .before .before .before .before .args .s .now)) objects (c .before .before .before .before .before .before .before .before .before .before .before .before .args .o) trackList)) 1)) m) e)
+
+pack-of-requires-2 : tie.Need-pack-of-requires-2
+pack-of-requires-2 c κs = search needs
 
 any-entry-requires : tie.Need-any-entry-requires
 any-entry-requires c κs = search needs
@@ -28,9 +69,9 @@ any-entry-requires c κs = search needs
 bad-ordinals-requires : tie.Need-bad-ordinals-requires
 bad-ordinals-requires c κs = search needs
 
-returns-2 : tie.Need-returns-2
+returns-3 : tie.Need-returns-3
 unfolding rule14 anyEntry badChannel trackAt
-returns-2 c = let e = sym (c .before .before .before .before .before .number .ensures) ∙ c .before .before .before .if1 .left ∙ c .before .before .before .before .channels .ensures in simp (eq-eqb _ _ e, c .before .any-entry .ensures, c .before .before .pack-of .ensures, c .bad-ordinals .ensures e)
+returns-3 c = λ next again. let e = (sym (c .before .before .before .before .before .before .before .before .before .number .ensures) ∙ c .before .before .before .before .before .before .before .if1 .left ∙ c .before .before .before .before .before .before .before .before .channels .ensures) in simp (eq-eqb _ _ e, c .before .any-entry .ensures, c .before .before .pack-of2 .ensures, c .bad-ordinals .ensures e)
 
 pub rule14-spec : {M : Type 1} → statement M
 rule14-spec =
@@ -39,7 +80,13 @@ rule14-spec =
     number-requires
     channels-requires
     returns
+    field-requires
+    inside-requires
+    inside-requires-2
     pack-of-requires
+    odd-tracks-requires
+    returns-2
+    pack-of-requires-2
     any-entry-requires
     bad-ordinals-requires
-    returns-2)
+    returns-3)

@@ -10,7 +10,7 @@ use Rattle.sheet.specs.Fields.{objects, tracks, trackList, trackOrdinal}
 use Rattle.sheet.specs.Layout.{field, number}
 use Rattle.sheet.specs.Words.{sheetOf}
 use Rattle.rules.specs.Loops.{badChannel, keysAlike}
-use Rattle.rules.proofs.OrdinalLaws.{once-each}
+use Rattle.runs.proofs.OrdinalLaws.{once-each}
 use borrow.Author.Needs.{needs}
 use Rattle.rules.proofs.repeats.bad_ordinals.Statement.{statement}
 use Rattle.rules.proofs.repeats.bad_ordinals.Tie as tie

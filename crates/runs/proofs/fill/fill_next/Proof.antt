@@ -5,17 +5,16 @@ use mathlib.Core.Bool.{Bool, cond}
 use native.Mathlib.Omega.{arith}
 use lib.ListN.{length}
 use Rattle.sheet.specs.Words.{sheetOf}
-use Rattle.sheet.specs.Layout.{count, reference}
+use Rattle.sheet.specs.Layout.{count}
 use Rattle.sheet.specs.Fields.{references}
-use Rattle.runs.specs.Runs.{Next}
+use Rattle.runs.specs.Runs.{Next, referenceTest}
 use Rattle.runs.proofs.RunLaws.{next-start, next-more, Filled, filled-start, filled-more}
-use Rattle.relations.specs.Tests.{entryTest}
 use borrow.Author.Needs.{needs}
 use Rattle.runs.proofs.fill.fill_next.Statement.{statement}
 use Rattle.runs.proofs.fill.fill_next.Tie as tie
 
 abbrev Inv-loop : tie.InvT-loop
-Inv-loop s test table₀ x₀ next₀ table x next = (x ≤ (count (sheetOf s) references)) × (length table ≡ length table₀) × Next (λ y. entryTest (sheetOf s) test (reference (sheetOf s) y)) (count (sheetOf s) references) x next × Filled (Next (λ y. entryTest (sheetOf s) test (reference (sheetOf s) y)) (count (sheetOf s) references)) (count (sheetOf s) references) x table
+Inv-loop s test table₀ x₀ next₀ table x next = (x ≤ (count (sheetOf s) references)) × (length table ≡ length table₀) × Next (referenceTest (sheetOf s) test) (count (sheetOf s) references) x next × Filled (Next (referenceTest (sheetOf s) test) (count (sheetOf s) references)) (count (sheetOf s) references) x table
 
 abbrev μ-loop : tie.MeasureT-loop
 μ-loop s test table₀ x₀ next₀ table x next = x
@@ -24,19 +23,13 @@ count-requires : tie.Need-count-requires Inv-loop μ-loop
 count-requires c κs = search needs
 
 loop-holds : tie.Need-loop-holds Inv-loop μ-loop
-loop-holds c = (omega (arith, c .count .ensures), refl, rw (c .count .ensures) (next-start (count (sheetOf (c .before .before .before .args .s .now)) references) (λ y. entryTest (sheetOf (c .before .before .before .args .s .now)) (c .before .before .before .args .test) (reference (sheetOf (c .before .before .before .args .s .now)) y)) (count (sheetOf (c .before .before .before .args .s .now)) references) (omega arith)), rw (c .count .ensures) (filled-start (Next (λ y. entryTest (sheetOf (c .before .before .before .args .s .now)) (c .before .before .before .args .test) (reference (sheetOf (c .before .before .before .args .s .now)) y)) (count (sheetOf (c .before .before .before .args .s .now)) references)) (count (sheetOf (c .before .before .before .args .s .now)) references) (c .before .before .before .args .table .now)))
+loop-holds c = (omega (arith, c .count .ensures), refl, rw (c .count .ensures) (next-start (count (sheetOf (c .before .before .before .args .s .now)) references) (referenceTest (sheetOf (c .before .before .before .args .s .now)) (c .before .before .before .args .test)) (count (sheetOf (c .before .before .before .args .s .now)) references) (omega arith)), rw (c .count .ensures) (filled-start (Next (referenceTest (sheetOf (c .before .before .before .args .s .now)) (c .before .before .before .args .test)) (count (sheetOf (c .before .before .before .args .s .now)) references)) (count (sheetOf (c .before .before .before .args .s .now)) references) (c .before .before .before .args .table .now)))
 
 sub-y : tie.Need-sub-y Inv-loop μ-loop
 sub-y c = search needs
 
-cast-reference : tie.Need-cast-reference Inv-loop μ-loop
-cast-reference c = search needs
-
-reference-requires : tie.Need-reference-requires Inv-loop μ-loop
-reference-requires c κs = search needs
-
-entry-test-requires : tie.Need-entry-test-requires Inv-loop μ-loop
-entry-test-requires c κs = search needs
+reference-test-requires : tie.Need-reference-test-requires Inv-loop μ-loop
+reference-test-requires c κs = search needs
 
 here-or-requires : tie.Need-here-or-requires Inv-loop μ-loop
 here-or-requires c κs = search needs
@@ -51,11 +44,11 @@ loop-less : tie.Need-loop-less Inv-loop μ-loop
 loop-less c = search needs
 
 loop-again : tie.Need-loop-again Inv-loop μ-loop
-loop-again c = let x = c .before .before .before .before .before .before .before .before .loop .x - 1 in
-    let e : suc x ≡ c .before .before .before .before .before .before .before .before .loop .x = omega (arith, c .before .before .before .before .before .before .before .loop-test .taken) in
-    let v : c .before .before .before .before .here-or .result ≡ cond (entryTest (sheetOf (c .before .before .before .before .before .before .before .before .before .before .before .before .args .s .now)) (c .before .before .before .before .before .before .before .before .before .before .before .before .args .test) (reference (sheetOf (c .before .before .before .before .before .before .before .before .before .before .before .before .args .s .now)) x)) x (c .before .before .before .before .before .before .before .before .loop .next) = c .before .before .before .before .here-or .ensures ∙ ap (λ (b : Bool). cond b x (c .before .before .before .before .before .before .before .before .loop .next)) (c .before .before .before .before .before .entry-test .ensures ∙ ap (entryTest (sheetOf (c .before .before .before .before .before .before .before .before .before .before .before .before .args .s .now)) (c .before .before .before .before .before .before .before .before .before .before .before .before .args .test)) (c .before .before .before .before .before .before .reference .ensures)) in
-    let n : Next (λ y. entryTest (sheetOf (c .before .before .before .before .before .before .before .before .before .before .before .before .args .s .now)) (c .before .before .before .before .before .before .before .before .before .before .before .before .args .test) (reference (sheetOf (c .before .before .before .before .before .before .before .before .before .before .before .before .args .s .now)) y)) (count (sheetOf (c .before .before .before .before .before .before .before .before .before .before .before .before .args .s .now)) references) x (c .before .before .before .before .here-or .result) = rw v (next-more (count (sheetOf (c .before .before .before .before .before .before .before .before .before .before .before .before .args .s .now)) references) x (omega (arith, c .before .before .before .before .before .before .before .before .loop .inv .0)) (λ y. entryTest (sheetOf (c .before .before .before .before .before .before .before .before .before .before .before .before .args .s .now)) (c .before .before .before .before .before .before .before .before .before .before .before .before .args .test) (reference (sheetOf (c .before .before .before .before .before .before .before .before .before .before .before .before .args .s .now)) y)) (c .before .before .before .before .before .before .before .before .loop .next) (rw e (c .before .before .before .before .before .before .before .before .loop .inv .2))) in
-    (omega (arith, c .before .before .before .before .before .before .before .before .loop .inv .0), c .before .before .mark-at .ensures .0 ∙ c .before .before .before .before .before .before .before .before .loop .inv .1, n, filled-more (Next (λ y. entryTest (sheetOf (c .before .before .before .before .before .before .before .before .before .before .before .before .args .s .now)) (c .before .before .before .before .before .before .before .before .before .before .before .before .args .test) (reference (sheetOf (c .before .before .before .before .before .before .before .before .before .before .before .before .args .s .now)) y)) (count (sheetOf (c .before .before .before .before .before .before .before .before .before .before .before .before .args .s .now)) references)) (count (sheetOf (c .before .before .before .before .before .before .before .before .before .before .before .before .args .s .now)) references) x (c .before .before .before .before .here-or .result) (c .before .before .before .before .before .before .before .before .loop .table) (c .before .before .mark-at .last .0) (c .before .before .mark-at .ensures .0) (rw e (c .before .before .before .before .before .before .before .before .loop .inv .3)) n (c .before .before .mark-at .ensures .1))
+loop-again c = let x = c .before .before .before .before .before .before .before .loop .x - 1 in
+    let e : suc x ≡ c .before .before .before .before .before .before .before .loop .x = omega (arith, c .before .before .before .before .before .before .loop-test .taken) in
+    let v : c .before .before .before .before .here-or .result ≡ cond ((referenceTest (sheetOf (c .before .before .before .before .before .before .before .before .before .before .before .args .s .now)) (c .before .before .before .before .before .before .before .before .before .before .before .args .test)) x) x (c .before .before .before .before .before .before .before .loop .next) = c .before .before .before .before .here-or .ensures ∙ ap (λ (b : Bool). cond b x (c .before .before .before .before .before .before .before .loop .next)) (c .before .before .before .before .before .reference-test .ensures) in
+    let n : Next (referenceTest (sheetOf (c .before .before .before .before .before .before .before .before .before .before .before .args .s .now)) (c .before .before .before .before .before .before .before .before .before .before .before .args .test)) (count (sheetOf (c .before .before .before .before .before .before .before .before .before .before .before .args .s .now)) references) x (c .before .before .before .before .here-or .result) = rw v (next-more (count (sheetOf (c .before .before .before .before .before .before .before .before .before .before .before .args .s .now)) references) x (omega (arith, c .before .before .before .before .before .before .before .loop .inv .0)) (referenceTest (sheetOf (c .before .before .before .before .before .before .before .before .before .before .before .args .s .now)) (c .before .before .before .before .before .before .before .before .before .before .before .args .test)) (c .before .before .before .before .before .before .before .loop .next) (rw e (c .before .before .before .before .before .before .before .loop .inv .2))) in
+    (omega (arith, c .before .before .before .before .before .before .before .loop .inv .0), c .before .before .mark-at .ensures .0 ∙ c .before .before .before .before .before .before .before .loop .inv .1, n, filled-more (Next (referenceTest (sheetOf (c .before .before .before .before .before .before .before .before .before .before .before .args .s .now)) (c .before .before .before .before .before .before .before .before .before .before .before .args .test)) (count (sheetOf (c .before .before .before .before .before .before .before .before .before .before .before .args .s .now)) references)) (count (sheetOf (c .before .before .before .before .before .before .before .before .before .before .before .args .s .now)) references) x (c .before .before .before .before .here-or .result) (c .before .before .before .before .before .before .before .loop .table) (c .before .before .mark-at .last .0) (c .before .before .mark-at .ensures .0) (rw e (c .before .before .before .before .before .before .before .loop .inv .3)) n (c .before .before .mark-at .ensures .1))
 
 same-length : tie.Need-same-length Inv-loop μ-loop
 same-length c = c .before .loop .inv .1
@@ -72,9 +65,7 @@ fill-next-spec =
     count-requires
     loop-holds
     sub-y
-    cast-reference
-    reference-requires
-    entry-test-requires
+    reference-test-requires
     here-or-requires
     cast-mark-at
     mark-at-requires
