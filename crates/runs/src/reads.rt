@@ -49,9 +49,11 @@ pub fn among(table: &[u16], first: u16, n: u16) -> bool
 // Whether one of the n tracks from a reference on is not of this pack of n channels, or their ordinals aren't each channel once: the
 // first is tested, `next` tells of those that don't go on with it, `again` of ordinals that repeat.
 pub fn odd_tracks(s: &[u8], next: &[u16], again: &[u16], first: u16, n: u16, pack: u16) -> bool
-    requires { ⌜ 0 < n ⌝ }
     ensures { λ r. ⌜ (StrayRight (sheetOf (now (s .entry))) (now (next .entry)) → OrdinalRight (sheetOf (now (s .entry))) (now (again .entry)) → first < length (now (next .entry)) → first < length (now (again .entry)) → first + n ≤ count (sheetOf (now (s .entry))) references → field (sheetOf (now (s .entry))) packs pack packChannels ≡ n → r ≡ oddTracks (sheetOf (now (s .entry))) first n pack) ⌝ }
 {
+    if n == 0 {
+        return false;
+    }
     let e = reference(s, first as u32);
     (field(s, TRACKS, e, TRACK_PACK) != pack)
         | (n <= field(s, TRACKS, e, TRACK_ORDINAL))

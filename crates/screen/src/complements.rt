@@ -67,11 +67,11 @@ fn any_complement_breaks(
     found
 }
 
-// Whether an object, whose words begin at an index, may break rule 19 or 20, or rule 5 by a complement.
-pub fn complements_break(s: &[u8], tops: &[u16], complements: &[u16], at: usize, o: u16) -> bool
-    requires { ⌜ (at ≡ start (sheetOf (now s)) objects o) × (at < 2199023255552) ⌝ }
+// Whether an object may break rule 19 or 20, or rule 5 by a complement.
+pub fn complements_break(s: &[u8], tops: &[u16], complements: &[u16], o: u16) -> bool
     ensures { λ r. ⌜ (r ≡ false → Tops (sheetOf (now (s .entry))) (now (tops .entry)) → Complemented (sheetOf (now (s .entry))) (now (complements .entry)) → complementsKept (sheetOf (now (s .entry))) o) ⌝ }
 {
+    let at = start(s, OBJECTS, o as u32);
     let n = word(s, at + 6);
     if n == 0 {
         return false;

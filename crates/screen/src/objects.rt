@@ -231,7 +231,7 @@ fn values_or_complements_break(
     let values = object_values(s, at, o, pack);
     values_break(values)
         | any_set_breaks(s, word(s, at + 14), word(s, at + 15), values)
-        | complements_break(s, tops, complements, at, o)
+        | complements_break(s, tops, complements, o)
         | child_breaks(s, tops, o)
 }
 

@@ -47,7 +47,7 @@ pack-of-requires : tie.Need-pack-of-requires
 pack-of-requires c κs = search needs
 
 odd-tracks-requires : tie.Need-odd-tracks-requires
-odd-tracks-requires c κs = ltb-true _ _ (all-three _ _ _ (c .before .if2 .taken) .0)
+odd-tracks-requires c κs = search needs
 
 returns-2 : tie.Need-returns-2
 unfolding rule14 oddTracks trackAt entry channels

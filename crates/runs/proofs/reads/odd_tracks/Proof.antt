@@ -1,15 +1,20 @@
--- The first track, and what the tables tell of the others. Assumes nothing.
-use Prim.Native.Nat.{ℕ, _-_}
-use mathlib.Core.Path.{_∙_}
+-- No track, or the first one and what the tables tell of the others. Assumes nothing.
+use Prim.Native.Nat.{ℕ, _-_, _<_}
+use mathlib.Core.Path.{_≡_, refl, _∙_}
 use native.Mathlib.Omega.{arith}
 use Rattle.sheet.specs.Words.{sheetOf}
 use Rattle.sheet.specs.Layout.{field}
 use Rattle.sheet.specs.Fields.{packs, packChannels}
 use Rattle.runs.specs.Runs.{packAt, ordinalAt, oddTracks}
 use Rattle.runs.proofs.TrackLaws.{tracks-run}
+use Rattle.profile.specs.Counting.{any}
 use borrow.Author.Needs.{needs}
 use Rattle.runs.proofs.reads.odd_tracks.Statement.{statement}
 use Rattle.runs.proofs.reads.odd_tracks.Tie as tie
+
+returns : tie.Need-returns
+unfolding oddTracks any
+returns c = λ strays ordinals a b l full. rw (c .if1 .taken) refl
 
 reference-requires : tie.Need-reference-requires
 reference-requires c κs = search needs
@@ -29,18 +34,19 @@ among-requires c κs = search needs
 among-requires-2 : tie.Need-among-requires-2
 among-requires-2 c κs = search needs
 
-returns : tie.Need-returns
+returns-2 : tie.Need-returns-2
 unfolding oddTracks
-returns c = λ strays ordinals a b l full. rw (c .before .before .before .field .ensures, c .before .before .field2 .ensures, c .before .before .before .before .reference .ensures) (tracks-run (packAt (sheetOf (c .before .before .before .before .before .before .before .before .args .s .now))) (ordinalAt (sheetOf (c .before .before .before .before .before .before .before .before .args .s .now))) (λ q. field (sheetOf (c .before .before .before .before .before .before .before .before .args .s .now)) packs q packChannels) (c .before .before .before .before .before .before .before .before .args .first) (c .before .before .before .before .before .before .before .before .args .pack) (c .before .before .before .before .before .before .before .before .args .n) (c .before .before .before .before .before .before .before .before .args .n - 1) (omega (arith, c .before .before .before .before .before .before .before .before .pre)) full (c .before .among .result) (c .among2 .result) (c .before .among .ensures a ∙ strays (c .before .before .before .before .before .before .before .before .args .first) a (omega (arith, c .before .before .before .before .before .before .before .before .pre, l)) (c .before .before .before .before .before .before .before .before .args .n - 1) (omega (arith, l))) (c .among2 .ensures b ∙ ordinals (c .before .before .before .before .before .before .before .before .args .first) b (omega (arith, c .before .before .before .before .before .before .before .before .pre, l)) (c .before .before .before .before .before .before .before .before .args .n) l))
+returns-2 c = λ strays ordinals a b l full. let some : 0 < c .before .before .before .before .before .before .before .before .before .args .n = omega (arith, c .before .before .before .before .before .if1 .left) in rw (c .before .before .before .field .ensures, c .before .before .field2 .ensures, c .before .before .before .before .reference .ensures) (tracks-run (packAt (sheetOf (c .before .before .before .before .before .before .before .before .before .args .s .now))) (ordinalAt (sheetOf (c .before .before .before .before .before .before .before .before .before .args .s .now))) (λ q. field (sheetOf (c .before .before .before .before .before .before .before .before .before .args .s .now)) packs q packChannels) (c .before .before .before .before .before .before .before .before .before .args .first) (c .before .before .before .before .before .before .before .before .before .args .pack) (c .before .before .before .before .before .before .before .before .before .args .n) (c .before .before .before .before .before .before .before .before .before .args .n - 1) (omega (arith, some)) full (c .before .among .result) (c .among2 .result) (c .before .among .ensures a ∙ strays (c .before .before .before .before .before .before .before .before .before .args .first) a (omega (arith, some, l)) (c .before .before .before .before .before .before .before .before .before .args .n - 1) (omega (arith, l))) (c .among2 .ensures b ∙ ordinals (c .before .before .before .before .before .before .before .before .before .args .first) b (omega (arith, some, l)) (c .before .before .before .before .before .before .before .before .before .args .n) l))
 
 pub odd-tracks-spec : {M : Type 1} → statement M
 odd-tracks-spec =
     tie.close
     (tie.spec
+    returns
     reference-requires
     field-requires
     field-requires-2
     sub-among
     among-requires
     among-requires-2
-    returns)
+    returns-2)

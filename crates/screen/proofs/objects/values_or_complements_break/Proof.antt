@@ -32,7 +32,7 @@ any-set-breaks-requires : tie.Need-any-set-breaks-requires
 any-set-breaks-requires c κs = search needs
 
 complements-break-requires : tie.Need-complements-break-requires
-complements-break-requires c κs = (c .before .before .before .before .before .before .before .before .pre .0, c .before .before .before .before .before .before .before .before .pre .1)
+complements-break-requires c κs = search needs
 
 child-breaks-requires : tie.Need-child-breaks-requires
 child-breaks-requires c κs = search needs
