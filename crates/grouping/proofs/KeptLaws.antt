@@ -136,8 +136,8 @@ module _ (s : Sheet) (p : ℕ) (t₀ t₁ t₂ : List ℕ) (noughts : Standing (
       small true = refl
       small false = refl
 
-  module _ (full : length t₀ ≡ count s objects) (ground : GroupsGround s) (here : p < count s programmes) (list : List ℕ) (g : ℕ)
-      (all : LeadersIn s list g) (each : (i : ℕ) → i < g → GroupKept s t₂ (getD list i 0)) where
+  module _ (full : length t₀ ≡ count s objects) (ground : GroupsGround s) (here : p < count s programmes) (list partners : List ℕ) (g : ℕ)
+      (all : LeadersIn s list partners g) (each : (i : ℕ) → i < g → GroupKept s t₂ (getD list i 0)) where
     -- contents of different objects are different
     no-repeat : Apart (objectAt s p) n → repeats s programmes p contentList ≡ false
     unfolding repeats twoOf objectAt
@@ -206,7 +206,7 @@ module _ (s : Sheet) (p : ℕ) (t₀ t₁ t₂ : List ℕ) (noughts : Standing (
     -- every group is kept
     kept : (l : ℕ) → l < count s objects → leader s l ≡ true → GroupKept s t₂ l
     kept l k h =
-        let w = any-witness (λ i. eqb (getD list i 0) l) g (all l k h) in
+        let w = any-witness (λ i. eqb (getD list i 0) l) g (all .0 l k h) in
         subst (λ (x : ℕ). GroupKept s t₂ x) (eqb-true _ _ (w .2)) (each (w .0) (w .1))
 
     keeps-21 : rule21 s programmes p ≡ false

@@ -1,13 +1,14 @@
 -- What the steps of the pass leave in the tables. Assumes nothing.
 use Prim.Native.Nat.{ℕ, zero, suc, _+_, _-_, _*_, _/_, _<_, _≤_}
-use mathlib.Core.Path.{_≡_, refl, sym, ap, ap₂, _∙_}
+use mathlib.Core.Path.{_≡_, refl, sym, ap, ap₂, subst, _∙_}
 use mathlib.Core.Bool.{Bool, true, false, true≢false, cond, not, _||_}
 use mathlib.Core.List.{List, [], _∷_}
+use mathlib.Core.Logic.{⊎-elim}
 use native.Mathlib.Omega.{arith}
-use native.Mathlib.Nat.{add-zero, le-of-suc-le-suc}
+use native.Mathlib.Nat.{zero-add, le-of-suc-le-suc}
 use native.Mathlib.Numerals.{add-one}
 use borrow.Author.Count.{below-more}
-use borrow.Author.Tests.{eqb-true, eqb-false, eq-eqb, ne-eqb, ltb-true, ltb-false, not-false}
+use borrow.Author.Tests.{eqb-true, eqb-false, eq-eqb, ne-eqb, ltb-true, ltb-false, lt-ltb, not-false}
 use lib.Dec.{eqb, ltb}
 use lib.ListN.{length, getD, set, length-set}
 use Rattle.sheet.specs.Words.{Sheet, sheetOf, word}
@@ -17,7 +18,7 @@ use Rattle.sheet.proofs.WordLaws.{at as words-at}
 use Rattle.profile.specs.Counting.{any, howMany}
 use Rattle.profile.specs.Relations.{leader, member, members, namedSet, owner}
 use Rattle.profile.specs.Rules.{setsDiffer}
-use Rattle.profile.proofs.BoolLaws.{or-none, or-true}
+use Rattle.profile.proofs.BoolLaws.{or-none, or-either}
 use Rattle.profile.proofs.CountingLaws.{any-none}
 use Rattle.profile.proofs.GroupLaws.{any-witness}
 use Rattle.profile.proofs.SumLaws.{any-nowhere, any-one, howMany-shift}
@@ -26,7 +27,7 @@ use Rattle.tables.specs.Marks.{Standing, firstBy}
 use Rattle.tables.specs.Right.{Owners, told}
 use Rattle.tables.proofs.MarkLaws.{set-standing}
 use Rattle.tables.proofs.TableLaws.{owner-told}
-use Rattle.grouping.specs.Groups.{Changed, Listed, Noted, groupWhole, manyIn, objectAt, objectFrom, setsIn}
+use Rattle.grouping.specs.Groups.{Changed, GroupKept, Listed, Noted, PairKept, Partner, groupWhole, manyIn, objectAt, objectFrom, setsIn}
 
 -- one place is written
 pub written : (t : List ℕ) (y v : ℕ) → Standing (λ z. cond (eqb y z) v (getD t z 0)) (set t y v)
@@ -211,19 +212,91 @@ module _ (s : Sheet) (t : List ℕ) (base first n e l : ℕ) (a : base ≡ offse
   group-agrees h k zero m r = sets-own s (getD t l 0 - 2)
   group-agrees h k (suc i) m r = rw (sym d) (rw (sym a, sym b) (h (rw d k) i (rw c (le-of-suc-le-suc m)) (rw (a, b) r)))
 
--- one more is listed
-pub listed-more : (s : Sheet) (t t′ : List ℕ) (g l : ℕ) → g < length t → length t′ ≡ length t → Standing (λ z. cond (eqb g z) l (getD t z 0)) t′ → Listed s t g l → Listed s t′ (g + 1) (l + 1)
-listed-more s t t′ g l inside long now before =
-    below-more (λ k. leader s k ≡ true → any (λ i. eqb (getD t′ i 0) k) (g + 1) ≡ true) l
-    (λ k m h.
-    let w = any-witness (λ i. eqb (getD t i 0) k) g (before k m h) in
-    let other : eqb g (w .0) ≡ false = ne-eqb g (w .0) (λ q. let z : g ≡ w .0 = q in absurd (omega (arith, w .1))) in
-    let same : getD t′ (w .0) 0 ≡ getD t (w .0) 0 = now (w .0) (rw long (omega (arith, w .1))) ∙ ap (λ (b : Bool). cond b l (getD t (w .0) 0)) other in
-    any-one (λ i. eqb (getD t′ i 0) k) (g + 1) (w .0) (omega (arith, w .1)) (ap (λ (x : ℕ). eqb x k) same ∙ w .2))
-    (λ h.
-    let last : getD t′ g 0 ≡ l = now g (rw long inside) ∙ ap (λ (b : Bool). cond b l (getD t g 0)) (eq-eqb g g refl) in
-    any-one (λ i. eqb (getD t′ i 0) l) (g + 1) g (omega arith) (eq-eqb (getD t′ g 0) l last))
+-- a group of two: where both are included, sets are named for both or none
+pair-whole : (a b p q : Bool) → (a ≡ true → b ≡ true → p ≡ q) → groupWhole 2 (cond a 1 0 + cond b 1 0) (cond p 1 0 + cond q 1 0) ≡ true
+unfolding groupWhole
+pair-whole false false p q h = refl
+pair-whole false true p q h = refl
+pair-whole true false p q h = refl
+pair-whole true true false false h = refl
+pair-whole true true false true h = absurd (true≢false (sym (h refl refl)))
+pair-whole true true true false h = absurd (true≢false (h refl refl))
+pair-whole true true true true h = refl
+
+module _ (s : Sheet) (e c : ℕ) where
+  -- one is not included
+  pub pair-none : (eqb e 0 || eqb c 0) ≡ true → PairKept s e c
+  pair-none h =
+      ⊎-elim
+      (λ q. let z : e ≡ 0 = eqb-true e 0 q in (pair-whole (not (eqb e 0)) (not (eqb c 0)) (ltb 1 e) (ltb 1 c) (λ a b. absurd (true≢false (sym a ∙ ap not q))), λ l m. absurd (omega arith)))
+      (λ q. let z : c ≡ 0 = eqb-true c 0 q in (pair-whole (not (eqb e 0)) (not (eqb c 0)) (ltb 1 e) (ltb 1 c) (λ a b. absurd (true≢false (sym b ∙ ap not q))), λ l m. absurd (omega arith)))
+      (or-either (eqb e 0) (eqb c 0) h)
+
+  -- no set is named
+  pub pair-plain : (eqb e 1 || eqb c 1) ≡ true → e ≡ c → PairKept s e c
+  pair-plain h z = (
+    pair-whole (not (eqb e 0)) (not (eqb c 0)) (ltb 1 e) (ltb 1 c) (λ a b. ap (ltb 1) z),
+    λ l m. ⊎-elim (λ q. let y : e ≡ 1 = eqb-true e 1 q in absurd (omega arith)) (λ q. let y : c ≡ 1 = eqb-true c 1 q in absurd (omega arith)) (or-either (eqb e 1) (eqb c 1) h),
+  )
+
+  -- both are named
+  pub pair-sets : 1 < e → 1 < c → (1 < c → setsDiffer s (e - 2) (c - 2) ≡ false) → PairKept s e c
+  pair-sets l m h = (pair-whole (not (eqb e 0)) (not (eqb c 0)) (ltb 1 e) (ltb 1 c) (λ a b. lt-ltb 1 e l ∙ sym (lt-ltb 1 c m)), λ a b. h b)
+
+  pub above-one : (eqb e 0 || eqb c 0) ≡ false → (eqb e 1 || eqb c 1) ≡ false → (1 < e) × (1 < c)
+  above-one a b =
+      let x = or-none (eqb e 0) (eqb c 0) a in
+      let y = or-none (eqb e 1) (eqb c 1) b in
+      (more e (eqb-false e 0 (x .0)) (eqb-false e 1 (y .0)), more c (eqb-false c 0 (x .1)) (eqb-false c 1 (y .1)))
+    where
+      more : (k : ℕ) → (k ≡ 0 → ⊥) → (k ≡ 1 → ⊥) → 1 < k
+      more zero p q = absurd (p refl)
+      more (suc zero) p q = absurd (q refl)
+      more (suc (suc k)) p q = omega arith
+
+-- a group of two, by its members
+module _ (s : Sheet) (t : List ℕ) (l m : ℕ) (e : member s l 1 ≡ m) where
+  two-members : (p : ℕ → Bool) → howMany (λ i. p (member s l i)) 2 ≡ cond (p l) 1 0 + cond (p m) 1 0
+  unfolding howMany member
+  two-members p = howMany-shift (λ i. p (member s l i)) 1 ∙ ap (λ (x : ℕ). cond (p l) 1 0 + (0 + cond (p x) 1 0)) e ∙ ap (λ (x : ℕ). cond (p l) 1 0 + x) (zero-add (cond (p m) 1 0))
+
+  pub pair-group : members s l ≡ 2 → PairKept s (getD t l 0) (getD t m 0) → GroupKept s t l
+  unfolding manyIn setsIn member
+  pair-group two kept = (
+    rw (two, two-members (λ x. not (eqb (getD t x 0) 0)), two-members (λ x. ltb 1 (getD t x 0))) (kept .0),
+    λ k i h r. each i (rw two at h) k r,
+  )
+    where
+      each : (i : ℕ) → i < 2 → 1 < getD t l 0 → 1 < getD t (member s l i) 0 → setsDiffer s (getD t l 0 - 2) (getD t (member s l i) 0 - 2) ≡ false
+      each zero h k r = sets-own s (getD t l 0 - 2)
+      each (suc zero) h k r = ap (λ (x : ℕ). setsDiffer s (getD t l 0 - 2) (getD t x 0 - 2)) e ∙ kept .1 k (subst (λ (x : ℕ). 1 < getD t x 0) e r)
+      each (suc (suc i)) h k r = absurd (omega arith)
+
+-- one more is listed, with its partner
+pub listed-more : (s : Sheet) (t t′ u u′ : List ℕ) (g l m : ℕ) → g < length t → g < length u → length t′ ≡ length t → length u′ ≡ length u
+    → Standing (λ z. cond (eqb g z) l (getD t z 0)) t′ → Standing (λ z. cond (eqb g z) m (getD u z 0)) u′ → Partner s l m → Listed s t u g l → Listed s t′ u′ (g + 1) (l + 1)
+listed-more s t t′ u u′ g l m inside inside-u long long-u now now-u two before = (
+  below-more (λ k. leader s k ≡ true → any (λ i. eqb (getD t′ i 0) k) (g + 1) ≡ true) l
+      (λ k r h.
+      let w = any-witness (λ i. eqb (getD t i 0) k) g (before .0 k r h) in
+      any-one (λ i. eqb (getD t′ i 0) k) (g + 1) (w .0) (omega (arith, w .1)) (ap (λ (x : ℕ). eqb x k) (same t t′ l long now inside (w .0) (w .1)) ∙ w .2))
+      (λ h. any-one (λ i. eqb (getD t′ i 0) l) (g + 1) g (omega arith) (eq-eqb (getD t′ g 0) l (last t t′ l long now inside))),
+  below-more (λ i. Partner s (getD t′ i 0) (getD u′ i 0)) g
+      (λ i k. rw (same t t′ l long now inside i k, same u u′ m long-u now-u inside-u i k) (before .1 i k))
+      (rw (last t t′ l long now inside, last u u′ m long-u now-u inside-u) two),
+)
+  where
+    same : (t t′ : List ℕ) (v : ℕ) → length t′ ≡ length t → Standing (λ z. cond (eqb g z) v (getD t z 0)) t′ → g < length t → (i : ℕ) → i < g → getD t′ i 0 ≡ getD t i 0
+    same t t′ v long now inside i k = now i (rw long (omega arith)) ∙ ap (λ (b : Bool). cond b v (getD t i 0)) (ne-eqb g i (λ q. let z : g ≡ i = q in absurd (omega arith)))
+
+    last : (t t′ : List ℕ) (v : ℕ) → length t′ ≡ length t → Standing (λ z. cond (eqb g z) v (getD t z 0)) t′ → g < length t → getD t′ g 0 ≡ v
+    last t t′ v long now inside = now g (rw long inside) ∙ ap (λ (b : Bool). cond b v (getD t g 0)) (eq-eqb g g refl)
 
 -- or it is none
-pub listed-same : (s : Sheet) (t : List ℕ) (g l : ℕ) → leader s l ≡ false → Listed s t g l → Listed s t g (l + 1)
-listed-same s t g l none before = below-more (λ k. leader s k ≡ true → any (λ i. eqb (getD t i 0) k) g ≡ true) l before (λ h. absurd (true≢false (sym h ∙ none)))
+pub listed-same : (s : Sheet) (t u : List ℕ) (g l : ℕ) → leader s l ≡ false → Listed s t u g l → Listed s t u g (l + 1)
+listed-same s t u g l none before = (below-more (λ k. leader s k ≡ true → any (λ i. eqb (getD t i 0) k) g ≡ true) l (before .0) (λ h. absurd (true≢false (sym h ∙ none))), before .1)
+
+-- the partner of a leader
+pub one-partner : (s : Sheet) (l m : ℕ) → number s objects l complementList ≡ 1 → m ≡ entry s objects l complementList 0 → Partner s l m
+unfolding members member
+one-partner s l m one e some = (ap suc one, sym e)

@@ -73,10 +73,22 @@ GroupKept s t l =
     (groupWhole (members s l) (manyIn s t l) (setsIn s t l) ≡ true)
     × (1 < getD t l 0 → (i : ℕ) → i < members s l → 1 < getD t (member s l i) 0 → setsDiffer s (getD t l 0 - 2) (getD t (member s l i) 0 - 2) ≡ false)
 
--- the leaders below l are among the first g of a list
-abbrev pub Listed : Sheet → List ℕ → ℕ → ℕ → Type 0
-Listed s t g l = (k : ℕ) → k < l → leader s k ≡ true → any (λ i. eqb (getD t i 0) k) g ≡ true
+-- the same of a group of two, by what stands for both
+abbrev pub PairKept : Sheet → ℕ → ℕ → Type 0
+PairKept s e c =
+    (groupWhole 2 (cond (not (eqb e 0)) 1 0 + cond (not (eqb c 0)) 1 0) (cond (ltb 1 e) 1 0 + cond (ltb 1 c) 1 0) ≡ true)
+    × (1 < e → 1 < c → setsDiffer s (e - 2) (c - 2) ≡ false)
+
+-- a leader has this one complement, where it is not 65535
+abbrev pub Partner : Sheet → ℕ → ℕ → Type 0
+Partner s l m = (m ≡ 65535 → ⊥) → (members s l ≡ 2) × (member s l 1 ≡ m)
+
+-- the leaders below l are among the first g of a list, and another list has their partners
+abbrev pub Listed : Sheet → List ℕ → List ℕ → ℕ → ℕ → Type 0
+Listed s t u g l =
+    ((k : ℕ) → k < l → leader s k ≡ true → any (λ i. eqb (getD t i 0) k) g ≡ true)
+    × ((i : ℕ) → i < g → Partner s (getD t i 0) (getD u i 0))
 
 -- every leader is
-abbrev pub LeadersIn : Sheet → List ℕ → ℕ → Type 0
-LeadersIn s t g = Listed s t g (count s objects)
+abbrev pub LeadersIn : Sheet → List ℕ → List ℕ → ℕ → Type 0
+LeadersIn s t u g = Listed s t u g (count s objects)

@@ -7,6 +7,7 @@ use relations::objects::leader;
 use sheet::fields::COMPLEMENT_LIST;
 use sheet::fields::OBJECTS;
 use sheet::layout::count;
+use sheet::layout::entry;
 use sheet::layout::field;
 use sheet::layout::number;
 use sheet::words::word;
@@ -17,7 +18,7 @@ ghost use lib.Dec.{eqb, ltb};
 ghost use lib.ListN.{getD, length};
 ghost use mathlib.Core.Bool.{cond, false, not, true};
 ghost use mathlib.Core.Path.{_≡_};
-ghost use Rattle.grouping.specs.Groups.{GroupKept, LeadersIn, Listed, groupWhole};
+ghost use Rattle.grouping.specs.Groups.{GroupKept, LeadersIn, Listed, PairKept, Partner, groupWhole};
 ghost use Rattle.profile.specs.Counting.{howMany};
 ghost use Rattle.profile.specs.Rules.{setsDiffer};
 ghost use Rattle.sheet.specs.Fields.{objects, references, valueSets};
@@ -90,13 +91,44 @@ fn group_kept(s: &[u8], base: u16, sets: u16, included: &[u16], l: u16) -> bool
     sets_agree(s, base, sets, first, n, included, e)
 }
 
-// And for the groups of the first g leaders of a list.
-pub fn groups_kept(s: &[u8], base: u16, sets: u16, list: &[u16], g: u16, included: &[u16]) -> bool
-    ensures { λ r. ⌜ (r ≡ true → base ≡ offset (sheetOf (now (s .entry))) references → sets ≡ offset (sheetOf (now (s .entry))) valueSets → (i : ℕ) → i < g → GroupKept (sheetOf (now (s .entry))) (now (included .entry)) (getD (now (list .entry)) i 0)) ⌝ }
+// A group of two, by what the table has for both.
+fn pair_kept(s: &[u8], sets: u16, e: u16, c: u16) -> bool
+    ensures { λ r. ⌜ (r ≡ true → sets ≡ offset (sheetOf (now (s .entry))) valueSets → PairKept (sheetOf (now (s .entry))) e c) ⌝ }
+{
+    if (e == 0) | (c == 0) {
+        return true;
+    }
+    if (e == 1) | (c == 1) {
+        return e == c;
+    }
+    !noted_differ(s, sets, e, c)
+}
+
+// The group of a leader, which has one complement m, or any where m is 65535.
+fn led_kept(s: &[u8], base: u16, sets: u16, included: &[u16], l: u16, m: u16) -> bool
+    ensures { λ r. ⌜ (r ≡ true → base ≡ offset (sheetOf (now (s .entry))) references → sets ≡ offset (sheetOf (now (s .entry))) valueSets → Partner (sheetOf (now (s .entry))) l m → GroupKept (sheetOf (now (s .entry))) (now (included .entry)) l) ⌝ }
+{
+    if m == 65535 {
+        return group_kept(s, base, sets, included, l);
+    }
+    pair_kept(s, sets, at(included, l), at(included, m))
+}
+
+// The groups of the first g leaders of a list, with their partners.
+pub fn groups_kept(
+    s: &[u8],
+    base: u16,
+    sets: u16,
+    list: &[u16],
+    partners: &[u16],
+    g: u16,
+    included: &[u16],
+) -> bool
+    ensures { λ r. ⌜ (r ≡ true → base ≡ offset (sheetOf (now (s .entry))) references → sets ≡ offset (sheetOf (now (s .entry))) valueSets → LeadersIn (sheetOf (now (s .entry))) (now (list .entry)) (now (partners .entry)) g → (i : ℕ) → i < g → GroupKept (sheetOf (now (s .entry))) (now (included .entry)) (getD (now (list .entry)) i 0)) ⌝ }
 {
     let mut i: u16 = 0;
     while i < g {
-        if !group_kept(s, base, sets, included, at(list, i)) {
+        if !led_kept(s, base, sets, included, at(list, i), at(partners, i)) {
             return false;
         }
         i += 1;
@@ -104,27 +136,40 @@ pub fn groups_kept(s: &[u8], base: u16, sets: u16, list: &[u16], g: u16, include
     true
 }
 
+// The one complement of a leader, 65535 where it has more.
+fn partner(s: &[u8], l: u16) -> u16
+    ensures { λ r. ⌜ Partner (sheetOf (now (s .entry))) l r ⌝ }
+{
+    if number(s, OBJECTS, l, COMPLEMENT_LIST) == 1 {
+        entry(s, OBJECTS, l, COMPLEMENT_LIST, 0)
+    } else {
+        65535
+    }
+}
+
 // Adds an object to a list of g leaders where it is one, and tells how many there are.
-fn add_leader(s: &[u8], list: &mut [u16], g: u16, l: u16) -> u16
+fn add_leader(s: &[u8], list: &mut [u16], partners: &mut [u16], g: u16, l: u16) -> u16
     requires { ⌜ g < 65535 ⌝ }
-    ensures { λ r. ⌜ (length (now (list .exit)) ≡ length (now (list .entry))) × (r ≤ g + 1) × (g < length (now (list .entry)) → Listed (sheetOf (now (s .entry))) (now (list .entry)) g l → Listed (sheetOf (now (s .entry))) (now (list .exit)) r (l + 1)) ⌝ }
+    ensures { λ r. ⌜ (length (now (list .exit)) ≡ length (now (list .entry))) × (length (now (partners .exit)) ≡ length (now (partners .entry))) × (r ≤ g + 1) × (g < length (now (list .entry)) → g < length (now (partners .entry)) → Listed (sheetOf (now (s .entry))) (now (list .entry)) (now (partners .entry)) g l → Listed (sheetOf (now (s .entry))) (now (list .exit)) (now (partners .exit)) r (l + 1)) ⌝ }
 {
     if !leader(s, l) {
         return g;
     }
+    let m = partner(s, l);
     mark_at(list, g as u32, Mark::Store(l));
+    mark_at(partners, g as u32, Mark::Store(m));
     g + 1
 }
 
-// Lists the leaders, and tells how many there are.
-pub fn list_leaders(s: &[u8], list: &mut [u16]) -> u16
-    ensures { λ r. ⌜ (length (now (list .exit)) ≡ length (now (list .entry))) × (count (sheetOf (now (s .entry))) objects ≤ length (now (list .entry)) → LeadersIn (sheetOf (now (s .entry))) (now (list .exit)) r) ⌝ }
+// Lists the leaders and their partners, and tells how many there are.
+pub fn list_leaders(s: &[u8], list: &mut [u16], partners: &mut [u16]) -> u16
+    ensures { λ r. ⌜ (length (now (list .exit)) ≡ length (now (list .entry))) × (length (now (partners .exit)) ≡ length (now (partners .entry))) × (count (sheetOf (now (s .entry))) objects ≤ length (now (list .entry)) → count (sheetOf (now (s .entry))) objects ≤ length (now (partners .entry)) → LeadersIn (sheetOf (now (s .entry))) (now (list .exit)) (now (partners .exit)) r) ⌝ }
 {
     let n = count(s, OBJECTS);
     let mut g: u16 = 0;
     let mut l: u16 = 0;
     while l < n {
-        g = add_leader(s, list, g, l);
+        g = add_leader(s, list, partners, g, l);
         l += 1;
     }
     g

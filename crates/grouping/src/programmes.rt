@@ -76,7 +76,7 @@ fn enter_sets(s: &[u8], base: u16, owners: &[u16], p: u16, included: &mut [u16])
     true
 }
 
-// One programme, with the list of the leaders. What stands in the table at the start does not matter.
+// One programme, with the lists of the leaders and their partners. What stands in the table at the start does not matter.
 fn programme_passes(
     s: &[u8],
     base: u16,
@@ -84,11 +84,12 @@ fn programme_passes(
     sets: u16,
     owners: &[u16],
     list: &[u16],
+    partners: &[u16],
     g: u16,
     p: u16,
     included: &mut [u16],
 ) -> bool
-    ensures { λ r. ⌜ (length (now (included .exit)) ≡ length (now (included .entry))) × (r ≡ true → base ≡ offset (sheetOf (now (s .entry))) references → records ≡ offset (sheetOf (now (s .entry))) contents → sets ≡ offset (sheetOf (now (s .entry))) valueSets → Owners (sheetOf (now (s .entry))) (now (owners .entry)) → LeadersIn (sheetOf (now (s .entry))) (now (list .entry)) g → length (now (included .entry)) ≡ count (sheetOf (now (s .entry))) objects → GroupsGround (sheetOf (now (s .entry))) → p < count (sheetOf (now (s .entry))) programmes → ProgrammeKept (sheetOf (now (s .entry))) p) ⌝ }
+    ensures { λ r. ⌜ (length (now (included .exit)) ≡ length (now (included .entry))) × (r ≡ true → base ≡ offset (sheetOf (now (s .entry))) references → records ≡ offset (sheetOf (now (s .entry))) contents → sets ≡ offset (sheetOf (now (s .entry))) valueSets → Owners (sheetOf (now (s .entry))) (now (owners .entry)) → LeadersIn (sheetOf (now (s .entry))) (now (list .entry)) (now (partners .entry)) g → length (now (included .entry)) ≡ count (sheetOf (now (s .entry))) objects → GroupsGround (sheetOf (now (s .entry))) → p < count (sheetOf (now (s .entry))) programmes → ProgrammeKept (sheetOf (now (s .entry))) p) ⌝ }
 {
     clear(included);
     if !enter_objects(s, base, records, p, included) {
@@ -97,21 +98,38 @@ fn programme_passes(
     if !enter_sets(s, base, owners, p, included) {
         return false;
     }
-    groups_kept(s, base, sets, list, g, included)
+    groups_kept(s, base, sets, list, partners, g, included)
 }
 
 // How many programmes from the first on can be seen to keep the rules, in tables with a place for each object.
-fn kept_below(s: &[u8], owners: &[u16], list: &mut [u16], included: &mut [u16]) -> u16
-    ensures { λ r. ⌜ (length (now (list .exit)) ≡ length (now (list .entry))) × (length (now (included .exit)) ≡ length (now (included .entry))) × (Owners (sheetOf (now (s .entry))) (now (owners .entry)) → length (now (list .entry)) ≡ count (sheetOf (now (s .entry))) objects → length (now (included .entry)) ≡ count (sheetOf (now (s .entry))) objects → GroupsGround (sheetOf (now (s .entry))) → (p : ℕ) → p < r → ProgrammeKept (sheetOf (now (s .entry))) p) ⌝ }
+fn kept_below(
+    s: &[u8],
+    owners: &[u16],
+    list: &mut [u16],
+    partners: &mut [u16],
+    included: &mut [u16],
+) -> u16
+    ensures { λ r. ⌜ (length (now (list .exit)) ≡ length (now (list .entry))) × (length (now (partners .exit)) ≡ length (now (partners .entry))) × (length (now (included .exit)) ≡ length (now (included .entry))) × (Owners (sheetOf (now (s .entry))) (now (owners .entry)) → length (now (list .entry)) ≡ count (sheetOf (now (s .entry))) objects → length (now (partners .entry)) ≡ count (sheetOf (now (s .entry))) objects → length (now (included .entry)) ≡ count (sheetOf (now (s .entry))) objects → GroupsGround (sheetOf (now (s .entry))) → (p : ℕ) → p < r → ProgrammeKept (sheetOf (now (s .entry))) p) ⌝ }
 {
     let base = offset(s, REFERENCES);
     let records = offset(s, CONTENTS);
     let sets = offset(s, VALUE_SETS);
-    let g = list_leaders(s, list);
+    let g = list_leaders(s, list, partners);
     let n = count(s, PROGRAMMES);
     let mut p: u16 = 0;
     while p < n {
-        if !programme_passes(s, base, records, sets, owners, list, g, p, included) {
+        if !programme_passes(
+            s,
+            base,
+            records,
+            sets,
+            owners,
+            list,
+            partners,
+            g,
+            p,
+            included,
+        ) {
             return p;
         }
         p += 1;
@@ -139,5 +157,15 @@ pub fn programmes_pass(
     if members.len() < n {
         return false;
     }
-    kept_below(s, owners, &mut members[..n], &mut included[..n]) == count(s, PROGRAMMES)
+    if sets.len() < n {
+        return false;
+    }
+    kept_below(
+        s,
+        owners,
+        &mut members[..n],
+        &mut sets[..n],
+        &mut included[..n],
+    )
+        == count(s, PROGRAMMES)
 }
