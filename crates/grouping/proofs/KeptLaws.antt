@@ -1,34 +1,28 @@
--- What the tables show of a programme. Assumes nothing.
-use Prim.Native.Nat.{ℕ, zero, suc, _+_, _<_, _≤_}
+-- What the table shows of a programme. Assumes nothing.
+use Prim.Native.Nat.{ℕ, zero, suc, _+_, _-_, _<_, _≤_}
 use mathlib.Core.Path.{_≡_, refl, sym, ap, ap₂, subst, _∙_}
 use mathlib.Core.Bool.{Bool, true, false, true≢false, cond, not, _&&_, _||_}
 use mathlib.Core.List.{List}
 use mathlib.Core.Logic.{⊎-elim}
 use native.Mathlib.Omega.{arith}
-use native.Mathlib.Nat.{zero-add}
-use borrow.Author.Tests.{eqb-true, eq-eqb, ne-eqb, leb-true, leb-false, lt-leb, ltb-true, not-false}
+use borrow.Author.Tests.{eqb-true, eq-eqb, ne-eqb, leb-true, leb-false, lt-leb, ltb-true, ltb-false, lt-ltb, le-ltb, not-false}
 use lib.Dec.{eqb, leb, ltb}
 use lib.ListN.{length, getD}
 use Rattle.sheet.specs.Words.{Sheet}
 use Rattle.sheet.specs.Layout.{count, field, number, entry}
 use Rattle.sheet.specs.Fields.{programmes, contents, objects, valueSets, contentList, setList, contentObject, complementList}
 use Rattle.profile.specs.Counting.{any, howMany, twoOf}
-use Rattle.profile.specs.Relations.{leader, member, members, leaderOf, includes, included, whollyIncluded, hasSet, owner, namedSet, namesSet}
+use Rattle.profile.specs.Relations.{leader, complement, member, members, leaderOf, includes, included, whollyIncluded, hasSet, owner, namedSet, namesSet}
 use Rattle.profile.specs.Rules.{lacks, listLacks, repeats, rule5, rule11, rule21, rule22, ownerAt, setsNamed, setsDiffer}
 use Rattle.profile.proofs.BoolLaws.{or-false, or-none, or-either, and-both}
-use Rattle.profile.proofs.CountingLaws.{any-none, any-howMany}
-use Rattle.profile.proofs.GroupLaws.{any-witness}
-use Rattle.profile.proofs.SumLaws.{any-nowhere, howMany-eq, howMany-all}
+use Rattle.profile.proofs.CountingLaws.{any-none}
+use Rattle.profile.proofs.GroupLaws.{any-witness, own-leader, leader-lists, member-zero, member-at, no-leader}
+use Rattle.profile.proofs.SumLaws.{any-nowhere, any-one, howMany-eq, howMany-all}
 use Rattle.tables.specs.Marks.{Standing}
-use Rattle.grouping.specs.Groups.{Changed, Counted, Emptied, GroupsGround, Noughts, ProgrammeKept, Whole, groupAt, groupWhole, objectAt, setGroupAt}
-use Rattle.grouping.proofs.CountLaws.{Apart, any-eq}
-use Rattle.grouping.proofs.MemberLaws.{group-count, one-owner}
-use Rattle.grouping.proofs.PassLaws.{Agreeing, agreeing-all}
-
--- counted from noughts
-pub from-noughts : (g : ℕ → ℕ) (n : ℕ) (t₀ t : List ℕ) → Standing (λ x. 0) t₀ → length t ≡ length t₀ → Counted g n t₀ t → Standing (λ x. howMany (λ i. eqb (g i) x) n) t
-from-noughts g n t₀ t noughts long counted x l =
-    counted x l ∙ ap (λ (c : ℕ). c + howMany (λ i. eqb (g i) x) n) (noughts x (rw long at l)) ∙ zero-add (howMany (λ i. eqb (g i) x) n)
+use Rattle.grouping.specs.Groups.{Changed, GroupKept, GroupsGround, LeadersIn, Noted, ProgrammeKept, groupWhole, manyIn, objectAt, setsIn}
+use Rattle.grouping.proofs.CountLaws.{Apart, any-eq, two-counted}
+use Rattle.grouping.proofs.MemberLaws.{one-owner}
+use Rattle.grouping.proofs.PassLaws.{past, sets-alike}
 
 -- one at most, or all
 one-or-all : (c n : ℕ) (b : Bool) → (leb c 1 || eqb c n && b) ≡ true → (true && not (eqb c 0) && not (eqb c 1) && not (eqb c n)) ≡ false
@@ -55,15 +49,26 @@ none-or-all c n t l e =
     either false true h = refl
     either false false h = absurd (true≢false (sym h))
 
+-- two or more are included and some have sets: all have
+all-set : (c n t : ℕ) → 1 < c → 0 < t → (leb c 1 || eqb c n && (eqb t 0 || eqb t n)) ≡ true → t ≡ n
+all-set c n t l k e =
+    let rest : (eqb c n && (eqb t 0 || eqb t n)) ≡ true = ap (λ (b : Bool). b || eqb c n && (eqb t 0 || eqb t n)) (sym (lt-leb c 1 l)) ∙ e in
+    ⊎-elim (λ h. let z : t ≡ 0 = eqb-true t 0 h in absurd (omega arith)) (λ h. eqb-true t n h) (or-either (eqb t 0) (eqb t n) (and-both (eqb c n) (eqb t 0 || eqb t n) rest .1))
+
 all-none : (a b c d : Bool) → a ≡ false → b ≡ false → c ≡ false → d ≡ false → (a || b || c || d) ≡ false
 all-none a b c d p q r t = rw (p, q, r, t) refl
 
--- a test that none has is counted 0 times
-none-counted : (p : ℕ → Bool) (n : ℕ) → any p n ≡ false → howMany p n ≡ 0
-none-counted p n e = eqb-true _ _ (not-false _ (sym (any-howMany p n) ∙ e))
+-- the leader of an object of the sheet is one too
+leader-inside : (s : Sheet) (o : ℕ) → o < count s objects → leaderOf s o < count s objects
+leader-inside s o m =
+    (elim (complement s o) as (λ b. complement s o ≡ b → leaderOf s o < count s objects) [
+      | true ↦ λ e. leader-lists s o e .0
+      | false ↦ λ e. rw (own-leader s o e) m
+    ]) refl
 
-module _ (s : Sheet) (p : ℕ) (t₀ t₁ t₂ : List ℕ) (noughts : Noughts t₀) (long : length t₁ ≡ length t₀) (entered : Changed (objectAt s p) (number s programmes p contentList) 0 1 t₀ t₁)
-    (named : Changed (ownerAt s p) (number s programmes p setList) 1 2 t₁ t₂) where
+module _ (s : Sheet) (p : ℕ) (t₀ t₁ t₂ : List ℕ) (noughts : Standing (λ x. 0) t₀) (long : length t₁ ≡ length t₀) (long₂ : length t₂ ≡ length t₁)
+    (entered : Changed (objectAt s p) (number s programmes p contentList) 0 1 t₀ t₁)
+    (named : Noted (ownerAt s p) (namedSet s p) (number s programmes p setList) t₁ t₂) where
   abbrev n : ℕ
   n = number s programmes p contentList
 
@@ -82,59 +87,57 @@ module _ (s : Sheet) (p : ℕ) (t₀ t₁ t₂ : List ℕ) (noughts : Noughts t�
             absurd (omega arith)
       ]) refl
 
-  -- so no set is of an object that is none of them
-  set-object : (x : ℕ) → any (λ i. eqb (objectAt s p i) x) n ≡ false → (j : ℕ) → j < m → eqb (ownerAt s p j) x ≡ false
-  set-object x h j k =
-      (elim (eqb (ownerAt s p j) x) as (λ b. eqb (ownerAt s p j) x ≡ b → b ≡ false) [
-        | true ↦ λ q. absurd (true≢false (sym (owner-object j k) ∙ ap (λ (w : ℕ). any (λ i. eqb (objectAt s p i) w) n) (eqb-true _ _ q) ∙ h))
-        | false ↦ λ q. refl
+  -- what a place has where no set is noted
+  unnamed : (x : ℕ) → any (λ j. eqb (ownerAt s p j) x) m ≡ false → getD t₂ x 0 ≡ cond (any (λ i. eqb (objectAt s p i) x) n) 1 0
+  unnamed x none =
+      (elim (ltb x (length t₁)) as (λ b. ltb x (length t₁) ≡ b → getD t₂ x 0 ≡ cond (any (λ i. eqb (objectAt s p i) x) n) 1 0) [
+        | true ↦ λ e.
+            let l : x < length t₁ = ltb-true x (length t₁) e in
+            named .4 x l none ∙ entered .3 x l ∙ ap (λ (c : ℕ). cond (any (λ i. eqb (objectAt s p i) x) n) 1 c) (noughts x (rw long at l))
+        | false ↦ λ e.
+            let l : length t₁ ≤ x = ltb-false x (length t₁) e in
+            sym (past t₂ x (omega arith)) ∙ ap (λ (b : Bool). cond b 1 0) (sym (outside l))
       ]) refl
+    where
+      outside : length t₁ ≤ x → any (λ i. eqb (objectAt s p i) x) n ≡ false
+      outside l = any-nowhere (λ i. eqb (objectAt s p i) x) n (λ i k. ne-eqb (objectAt s p i) x (λ q. let z : objectAt s p i ≡ x = q in absurd (omega (arith, entered .0 i k))))
 
-  -- nor of a group that is none of theirs
-  set-group : (x : ℕ) → any (λ i. eqb (groupAt s p i) x) n ≡ false → (j : ℕ) → j < m → eqb (setGroupAt s p j) x ≡ false
-  unfolding groupAt setGroupAt
-  set-group x none j l =
-      (elim (eqb (leaderOf s (ownerAt s p j)) x) as (λ b. eqb (leaderOf s (ownerAt s p j)) x ≡ b → b ≡ false) [
-        | true ↦ λ h.
-            let w = any-witness (λ i. eqb (objectAt s p i) (ownerAt s p j)) n (owner-object j l) in
-            let z : leaderOf s (objectAt s p (w .0)) ≡ x = ap (leaderOf s) (eqb-true _ _ (w .2)) ∙ eqb-true _ _ h in
-            absurd (true≢false (sym (eq-eqb (leaderOf s (objectAt s p (w .0))) x z) ∙ any-none (λ i. eqb (leaderOf s (objectAt s p i)) x) n none (w .0) (w .1)))
-        | false ↦ λ h. refl
+  -- and where one is
+  noted : (x : ℕ) → any (λ j. eqb (ownerAt s p j) x) m ≡ true → 1 < getD t₂ x 0
+  noted x some =
+      let w = any-witness (λ j. eqb (ownerAt s p j) x) m some in
+      let z : getD t₂ x 0 ≡ namedSet s p (w .0) + 2 = ap (λ (y : ℕ). getD t₂ y 0) (sym (eqb-true _ _ (w .2))) ∙ named .3 (w .0) (w .1) in
+      omega (arith, z)
+
+  -- so the table tells what the programme includes
+  tells-included : (x : ℕ) → includes s p x ≡ not (eqb (getD t₂ x 0) 0)
+  unfolding includes objectAt
+  tells-included x =
+      (elim (any (λ j. eqb (ownerAt s p j) x) m) as (λ b. any (λ j. eqb (ownerAt s p j) x) m ≡ b → any (λ i. eqb (objectAt s p i) x) n ≡ not (eqb (getD t₂ x 0) 0)) [
+        | true ↦ λ e.
+            let w = any-witness (λ j. eqb (ownerAt s p j) x) m e in
+            ap (λ (y : ℕ). any (λ i. eqb (objectAt s p i) y) n) (sym (eqb-true _ _ (w .2))) ∙ owner-object (w .0) (w .1) ∙ ap not (sym (ne-eqb (getD t₂ x 0) 0 (λ q. let z : getD t₂ x 0 ≡ 0 = q in absurd (omega (arith, noted x e)))))
+        | false ↦ λ e. rw (unnamed x e) (flagged (any (λ i. eqb (objectAt s p i) x) n))
       ]) refl
+    where
+      flagged : (b : Bool) → b ≡ not (eqb (cond b 1 0) 0)
+      flagged true = refl
+      flagged false = refl
 
-  -- the tables have 0 everywhere again
-  pub included-noughts : (t₃ : List ℕ) → length t₂ ≡ length t₁ → length t₃ ≡ length t₂ → Emptied (objectAt s p) n t₂ t₃ → Noughts t₃
-  included-noughts t₃ long-2 long-3 emptied x l =
-      emptied x l
-      ∙ (elim (any (λ i. eqb (objectAt s p i) x) n) as (λ b. any (λ i. eqb (objectAt s p i) x) n ≡ b → cond b 0 (getD t₂ x 0) ≡ 0) [
-        | true ↦ λ h. refl
-        | false ↦ λ h.
-            let l₂ : x < length t₂ = rw long-3 at l in
-            let l₁ : x < length t₁ = rw long-2 at l₂ in
-            named .3 x l₂
-            ∙ ap (λ (b : Bool). cond b 2 (getD t₁ x 0)) (any-nowhere (λ j. eqb (ownerAt s p j) x) m (set-object x h))
-            ∙ entered .3 x l₁
-            ∙ ap (λ (b : Bool). cond b 1 (getD t₀ x 0)) h
-            ∙ noughts x (rw long at l₁)
+  -- and for what it names sets
+  tells-named : (x : ℕ) → any (λ j. eqb (ownerAt s p j) x) m ≡ ltb 1 (getD t₂ x 0)
+  tells-named x =
+      (elim (any (λ j. eqb (ownerAt s p j) x) m) as (λ b. any (λ j. eqb (ownerAt s p j) x) m ≡ b → b ≡ ltb 1 (getD t₂ x 0)) [
+        | true ↦ λ e. sym (lt-ltb 1 (getD t₂ x 0) (noted x e))
+        | false ↦ λ e. rw (unnamed x e) (small (any (λ i. eqb (objectAt s p i) x) n))
       ]) refl
+    where
+      small : (b : Bool) → false ≡ ltb 1 (cond b 1 0)
+      small true = refl
+      small false = refl
 
-  pub members-noughts : (many t : List ℕ) → length t ≡ length many → Standing (λ l. howMany (λ i. eqb (groupAt s p i) l) n) many → Emptied (groupAt s p) n many t → Noughts t
-  members-noughts many t long-t counted emptied x l =
-      emptied x l
-      ∙ (elim (any (λ i. eqb (groupAt s p i) x) n) as (λ b. any (λ i. eqb (groupAt s p i) x) n ≡ b → cond b 0 (getD many x 0) ≡ 0) [
-        | true ↦ λ h. refl
-        | false ↦ λ h. counted x (rw long-t at l) ∙ none-counted (λ i. eqb (groupAt s p i) x) n h
-      ]) refl
-
-  pub sets-noughts : (sets t : List ℕ) → length t ≡ length sets → Standing (λ l. howMany (λ j. eqb (setGroupAt s p j) l) m) sets → Emptied (groupAt s p) n sets t → Noughts t
-  sets-noughts sets t long-t counted emptied x l =
-      emptied x l
-      ∙ (elim (any (λ i. eqb (groupAt s p i) x) n) as (λ b. any (λ i. eqb (groupAt s p i) x) n ≡ b → cond b 0 (getD sets x 0) ≡ 0) [
-        | true ↦ λ h. refl
-        | false ↦ λ h. counted x (rw long-t at l) ∙ none-counted (λ j. eqb (setGroupAt s p j) x) m (any-nowhere (λ j. eqb (setGroupAt s p j) x) m (set-group x h))
-      ]) refl
-
-  module _ (full : length t₀ ≡ count s objects) (ground : GroupsGround s) (here : p < count s programmes) where
+  module _ (full : length t₀ ≡ count s objects) (ground : GroupsGround s) (here : p < count s programmes) (list partners : List ℕ) (g : ℕ)
+      (all : LeadersIn s list partners g) (each : (i : ℕ) → i < g → GroupKept s t₂ (getD list i 0)) where
     -- contents of different objects are different
     no-repeat : Apart (objectAt s p) n → repeats s programmes p contentList ≡ false
     unfolding repeats twoOf objectAt
@@ -151,9 +154,9 @@ module _ (s : Sheet) (p : ℕ) (t₀ t₁ t₂ : List ℕ) (noughts : Noughts t�
               | false ↦ λ q. refl
             ]) refl
 
-    included-counted : Apart (objectAt s p) n → (l : ℕ) → l < count s objects → leader s l ≡ true → included s p l ≡ howMany (λ i. eqb (groupAt s p i) l) n
-    unfolding included includes groupAt objectAt
-    included-counted apart l k h = group-count s (ground .2) (objectAt s p) n l apart k h
+    included-counted : (l : ℕ) → included s p l ≡ manyIn s t₂ l
+    unfolding included manyIn
+    included-counted l = howMany-eq (λ i. includes s p (member s l i)) (λ i. not (eqb (getD t₂ (member s l i) 0) 0)) (members s l) (λ i k. tells-included (member s l i))
 
     -- every named set is in one span
     set-index : (j : ℕ) → j < m → namedSet s p j < count s valueSets
@@ -177,10 +180,13 @@ module _ (s : Sheet) (p : ℕ) (t₀ t₁ t₂ : List ℕ) (noughts : Noughts t�
     unfolding leader whollyIncluded members
     two l h w = omega (arith, ltb-true 0 (number s objects l complementList) h, eqb-true (included s p l) (suc (number s objects l complementList)) w)
 
-    -- the owners of the named sets are included
+    -- the owners of the named sets are included, and objects of the sheet
     owners-included : (j : ℕ) → j < m → includes s p (ownerAt s p j) ≡ true
     unfolding includes objectAt
     owners-included j l = owner-object j l
+
+    owner-inside : (j : ℕ) → j < m → ownerAt s p j < count s objects
+    owner-inside j l = rw (sym full, sym long) (named .0 j l)
 
     -- the members of a wholly included group are objects of the sheet
     member-inside : (l k : ℕ) → whollyIncluded s p l ≡ true → k < members s l → member s l k < count s objects
@@ -191,64 +197,110 @@ module _ (s : Sheet) (p : ℕ) (t₀ t₁ t₂ : List ℕ) (noughts : Noughts t�
         let z : objectAt s p (w .0) ≡ member s l k = eqb-true _ _ (w .2) in
         rw (sym z, sym full) (entered .0 (w .0) (w .1))
 
-    sets-counted : (l : ℕ) → l < count s objects → leader s l ≡ true → whollyIncluded s p l ≡ true → setsNamed s p l ≡ howMany (λ j. eqb (setGroupAt s p j) l) m
-    unfolding setsNamed setGroupAt
-    sets-counted l k h whole =
-        howMany-eq (λ i. namesSet s p (member s l i)) (λ i. any (λ j. eqb (ownerAt s p j) (member s l i)) m) (members s l) (λ i r. names-owner (member s l i) (member-inside l i whole r))
-        ∙ group-count s (ground .2) (ownerAt s p) m l (named .2) k h
+    sets-counted : (l : ℕ) → whollyIncluded s p l ≡ true → setsNamed s p l ≡ setsIn s t₂ l
+    unfolding setsNamed setsIn
+    sets-counted l whole =
+        howMany-eq (λ i. namesSet s p (member s l i)) (λ i. ltb 1 (getD t₂ (member s l i) 0)) (members s l)
+        (λ i r. names-owner (member s l i) (member-inside l i whole r) ∙ tells-named (member s l i))
 
-    module _ (many sets firsts : List ℕ) (included-many : Standing (λ l. howMany (λ i. eqb (groupAt s p i) l) n) many)
-        (set-many : Standing (λ l. howMany (λ j. eqb (setGroupAt s p j) l) m) sets) (agreeing : Agreeing s (namedSet s p) (setGroupAt s p) m firsts)
-        (all-many : length many ≡ count s objects) (all-sets : length sets ≡ count s objects) (whole : Whole s (groupAt s p) n many sets) where
-      -- a group by its counts; one of which no object is included is whole
-      by-counts : (l : ℕ) → l < count s objects → leader s l ≡ true → groupWhole s l (included s p l) (howMany (λ j. eqb (setGroupAt s p j) l) m) ≡ true
-      unfolding groupWhole
-      by-counts l k h =
-          (elim (any (λ i. eqb (groupAt s p i) l) n) as (λ b. any (λ i. eqb (groupAt s p i) l) n ≡ b → groupWhole s l (included s p l) (howMany (λ j. eqb (setGroupAt s p j) l) m) ≡ true) [
-            | true ↦ λ e.
-                let w = any-witness (λ i. eqb (groupAt s p i) l) n e in
-                let z : groupAt s p (w .0) ≡ l = eqb-true _ _ (w .2) in
-                let a : getD many l 0 ≡ included s p l = included-many l (rw all-many k) ∙ sym (included-counted (entered .2) l k h) in
-                let b : getD sets l 0 ≡ howMany (λ j. eqb (setGroupAt s p j) l) m = set-many l (rw all-sets k) in
-                ap₂ (groupWhole s l) (sym a) (sym b) ∙ subst (λ (g : ℕ). groupWhole s g (getD many g 0) (getD sets g 0) ≡ true) z (whole (w .0) (w .1) (rw (z, all-many) k) (rw (z, all-sets) k))
-            | false ↦ λ e. rw (included-counted (entered .2) l k h ∙ none-counted (λ i. eqb (groupAt s p i) l) n e) refl
-          ]) refl
+    -- every group is kept
+    kept : (l : ℕ) → l < count s objects → leader s l ≡ true → GroupKept s t₂ l
+    kept l k h =
+        let w = any-witness (λ i. eqb (getD list i 0) l) g (all .0 l k h) in
+        subst (λ (x : ℕ). GroupKept s t₂ x) (eqb-true _ _ (w .2)) (each (w .0) (w .1))
 
-      keeps-21 : rule21 s programmes p ≡ false
-      unfolding rule21 whollyIncluded groupWhole
-      keeps-21 = any-nowhere (λ l. leader s l && not (eqb (included s p l) 0) && not (eqb (included s p l) 1) && not (eqb (included s p l) (members s l))) (count s objects) each
-        where
-          each : (l : ℕ) → l < count s objects → (leader s l && not (eqb (included s p l) 0) && not (eqb (included s p l) 1) && not (eqb (included s p l) (members s l))) ≡ false
-          each l k =
-              (elim (leader s l) as (λ b. leader s l ≡ b → (b && not (eqb (included s p l) 0) && not (eqb (included s p l) 1) && not (eqb (included s p l) (members s l))) ≡ false) [
-                | true ↦ λ h. one-or-all (included s p l) (members s l) (eqb (howMany (λ j. eqb (setGroupAt s p j) l) m) 0 || eqb (howMany (λ j. eqb (setGroupAt s p j) l) m) (members s l)) (by-counts l k h)
-                | false ↦ λ h. refl
-              ]) refl
-
-      -- sets for all or none of a wholly included group
-      abbrev partly : ℕ → Bool
-      partly l = leader s l && whollyIncluded s p l && not (eqb (setsNamed s p l) 0) && not (eqb (setsNamed s p l) (members s l))
-
-      none-partly : (l : ℕ) → l < count s objects → partly l ≡ false
-      unfolding groupWhole
-      none-partly l k =
-          (elim (leader s l) as (λ b. leader s l ≡ b → (b && whollyIncluded s p l && not (eqb (setsNamed s p l) 0) && not (eqb (setsNamed s p l) (members s l))) ≡ false) [
-            | true ↦ λ h. (elim (whollyIncluded s p l) as (λ b. whollyIncluded s p l ≡ b → (true && b && not (eqb (setsNamed s p l) 0) && not (eqb (setsNamed s p l) (members s l))) ≡ false) [
-              | true ↦ λ w. none-or-all (included s p l) (members s l) (setsNamed s p l) (two l h w) (rw (sets-counted l k h w) (by-counts l k h))
-              | false ↦ λ w. refl
+    keeps-21 : rule21 s programmes p ≡ false
+    unfolding rule21 whollyIncluded groupWhole
+    keeps-21 = any-nowhere (λ l. leader s l && not (eqb (included s p l) 0) && not (eqb (included s p l) 1) && not (eqb (included s p l) (members s l))) (count s objects) alone
+      where
+        alone : (l : ℕ) → l < count s objects → (leader s l && not (eqb (included s p l) 0) && not (eqb (included s p l) 1) && not (eqb (included s p l) (members s l))) ≡ false
+        alone l k =
+            (elim (leader s l) as (λ b. leader s l ≡ b → (b && not (eqb (included s p l) 0) && not (eqb (included s p l) 1) && not (eqb (included s p l) (members s l))) ≡ false) [
+              | true ↦ λ h. one-or-all (included s p l) (members s l) (eqb (setsIn s t₂ l) 0 || eqb (setsIn s t₂ l) (members s l)) (rw (included-counted l) (kept l k h .0))
+              | false ↦ λ h. refl
             ]) refl
-            | false ↦ λ h. refl
+
+    -- sets for all or none of a wholly included group
+    abbrev partly : ℕ → Bool
+    partly l = leader s l && whollyIncluded s p l && not (eqb (setsNamed s p l) 0) && not (eqb (setsNamed s p l) (members s l))
+
+    none-partly : (l : ℕ) → l < count s objects → partly l ≡ false
+    unfolding groupWhole
+    none-partly l k =
+        (elim (leader s l) as (λ b. leader s l ≡ b → (b && whollyIncluded s p l && not (eqb (setsNamed s p l) 0) && not (eqb (setsNamed s p l) (members s l))) ≡ false) [
+          | true ↦ λ h. (elim (whollyIncluded s p l) as (λ b. whollyIncluded s p l ≡ b → (true && b && not (eqb (setsNamed s p l) 0) && not (eqb (setsNamed s p l) (members s l))) ≡ false) [
+            | true ↦ λ w. none-or-all (included s p l) (members s l) (setsNamed s p l) (two l h w) (rw (sets-counted l w, included-counted l) (kept l k h .0))
+            | false ↦ λ w. refl
+          ]) refl
+          | false ↦ λ h. refl
+        ]) refl
+
+    -- two named sets in one group
+    module _ (i j : ℕ) (k : i < j) (l : j < m) (z : leaderOf s (ownerAt s p i) ≡ leaderOf s (ownerAt s p j)) where
+      abbrev u : ℕ
+      u = leaderOf s (ownerAt s p j)
+
+      -- they are of two objects
+      apart : ownerAt s p i ≡ ownerAt s p j → ⊥
+      apart q = true≢false (sym (eq-eqb (ownerAt s p i) (ownerAt s p j) q) ∙ any-none (λ x. eqb (ownerAt s p x) (ownerAt s p j)) j (named .2 j l) i k)
+
+      -- so the group has a leader
+      led : leader s u ≡ true
+      led =
+          (elim (leader s u) as (λ b. leader s u ≡ b → b ≡ true) [
+            | true ↦ λ e. refl
+            | false ↦ λ e. absurd (apart (sym (no-leader s (ownerAt s p i) (ap (leader s) z ∙ e)) ∙ z ∙ no-leader s (ownerAt s p j) e))
           ]) refl
 
-      keeps-22 : rule22 s programmes p ≡ false
-      unfolding rule22 twoOf setGroupAt
-      keeps-22 =
-          all-none (any (λ i. not (includes s p (ownerAt s p i))) m) (any (λ j. any (λ i. eqb (ownerAt s p i) (ownerAt s p j)) j) m) (any partly (count s objects))
-          (any (λ j. any (λ i. eqb (leaderOf s (ownerAt s p i)) (leaderOf s (ownerAt s p j)) && setsDiffer s (namedSet s p i) (namedSet s p j)) j) m)
-          (any-nowhere (λ i. not (includes s p (ownerAt s p i))) m (λ j l. ap not (owners-included j l)))
-          (any-nowhere (λ j. any (λ i. eqb (ownerAt s p i) (ownerAt s p j)) j) m (named .2))
-          (any-nowhere partly (count s objects) none-partly)
-          (agreeing-all s (namedSet s p) (setGroupAt s p) m firsts agreeing)
+      -- the member that a named set is of
+      has : (x : ℕ) → x < m → (k : ℕ) → member s u k ≡ ownerAt s p x → getD t₂ (member s u k) 0 ≡ namedSet s p x + 2
+      has x h k e = ap (λ (y : ℕ). getD t₂ y 0) e ∙ named .3 x h
 
-      pub programme-kept : ProgrammeKept s p
-      programme-kept = (no-repeat (entered .2), keeps-21, keeps-22)
+      pub alike : setsDiffer s (namedSet s p i) (namedSet s p j) ≡ false
+      unfolding groupWhole manyIn setsIn
+      alike =
+          let a = member-at s (ownerAt s p i) u z led in
+          let b = member-at s (ownerAt s p j) u refl led in
+          let va : getD t₂ (member s u (a .0)) 0 ≡ namedSet s p i + 2 = has i (omega arith) (a .0) (a .2) in
+          let vb : getD t₂ (member s u (b .0)) 0 ≡ namedSet s p j + 2 = has j l (b .0) (b .2) in
+          let whole = kept u (leader-inside s (ownerAt s p j) (owner-inside j l)) led in
+          let other : a .0 ≡ b .0 → ⊥ = λ q. apart (sym (a .2) ∙ ap (member s u) q ∙ b .2) in
+          let ia : not (eqb (getD t₂ (member s u (a .0)) 0) 0) ≡ true = ap not (ne-eqb (getD t₂ (member s u (a .0)) 0) 0 (λ q. let y : getD t₂ (member s u (a .0)) 0 ≡ 0 = q in absurd (omega (arith, va)))) in
+          let ib : not (eqb (getD t₂ (member s u (b .0)) 0) 0) ≡ true = ap not (ne-eqb (getD t₂ (member s u (b .0)) 0) 0 (λ q. let y : getD t₂ (member s u (b .0)) 0 ≡ 0 = q in absurd (omega (arith, vb)))) in
+          let many : 1 < howMany (λ x. not (eqb (getD t₂ (member s u x) 0) 0)) (members s u) = two-counted (λ x. not (eqb (getD t₂ (member s u x) 0) 0)) (members s u) (a .0) (b .0) other (a .1) (b .1) ia ib in
+          let sa : ltb 1 (getD t₂ (member s u (a .0)) 0) ≡ true = lt-ltb 1 (getD t₂ (member s u (a .0)) 0) (omega (arith, va)) in
+          let sb : ltb 1 (getD t₂ (member s u (b .0)) 0) ≡ true = lt-ltb 1 (getD t₂ (member s u (b .0)) 0) (omega (arith, vb)) in
+          let some : 1 < howMany (λ x. ltb 1 (getD t₂ (member s u x) 0)) (members s u) = two-counted (λ x. ltb 1 (getD t₂ (member s u x) 0)) (members s u) (a .0) (b .0) other (a .1) (b .1) sa sb in
+          let full : howMany (λ x. ltb 1 (getD t₂ (member s u x) 0)) (members s u) ≡ members s u = all-set (howMany (λ x. not (eqb (getD t₂ (member s u x) 0) 0)) (members s u)) (members s u) (howMany (λ x. ltb 1 (getD t₂ (member s u x) 0)) (members s u)) many (omega (arith, some)) (whole .0) in
+          let first : 1 < getD t₂ u 0 = subst (λ (y : ℕ). 1 < getD t₂ y 0) (member-zero s u) (ltb-true 1 (getD t₂ (member s u 0) 0) (howMany-all (λ x. ltb 1 (getD t₂ (member s u x) 0)) (members s u) full 0 (omega (arith, a .1)))) in
+          let da : getD t₂ (member s u (a .0)) 0 - 2 ≡ namedSet s p i = omega (arith, va) in
+          let db : getD t₂ (member s u (b .0)) 0 - 2 ≡ namedSet s p j = omega (arith, vb) in
+          sets-alike s (getD t₂ u 0 - 2) (namedSet s p i) (namedSet s p j)
+          (ap (setsDiffer s (getD t₂ u 0 - 2)) (sym da) ∙ whole .1 first (a .0) (a .1) (omega (arith, va)))
+          (ap (setsDiffer s (getD t₂ u 0 - 2)) (sym db) ∙ whole .1 first (b .0) (b .1) (omega (arith, vb)))
+
+    none-differ : twoOf (λ i j. eqb (leaderOf s (ownerAt s p i)) (leaderOf s (ownerAt s p j)) && setsDiffer s (namedSet s p i) (namedSet s p j)) m ≡ false
+    unfolding twoOf
+    none-differ =
+        any-nowhere (λ j. any (λ i. eqb (leaderOf s (ownerAt s p i)) (leaderOf s (ownerAt s p j)) && setsDiffer s (namedSet s p i) (namedSet s p j)) j) m
+        (λ j l. any-nowhere (λ i. eqb (leaderOf s (ownerAt s p i)) (leaderOf s (ownerAt s p j)) && setsDiffer s (namedSet s p i) (namedSet s p j)) j (pair j l))
+      where
+        pair : (j : ℕ) → j < m → (i : ℕ) → i < j → (eqb (leaderOf s (ownerAt s p i)) (leaderOf s (ownerAt s p j)) && setsDiffer s (namedSet s p i) (namedSet s p j)) ≡ false
+        pair j l i k =
+            (elim (eqb (leaderOf s (ownerAt s p i)) (leaderOf s (ownerAt s p j))) as (λ b. eqb (leaderOf s (ownerAt s p i)) (leaderOf s (ownerAt s p j)) ≡ b → (b && setsDiffer s (namedSet s p i) (namedSet s p j)) ≡ false) [
+              | true ↦ λ q. alike i j k l (eqb-true _ _ q)
+              | false ↦ λ q. refl
+            ]) refl
+
+    keeps-22 : rule22 s programmes p ≡ false
+    unfolding rule22 twoOf
+    keeps-22 =
+        all-none (any (λ i. not (includes s p (ownerAt s p i))) m) (any (λ j. any (λ i. eqb (ownerAt s p i) (ownerAt s p j)) j) m) (any partly (count s objects))
+        (any (λ j. any (λ i. eqb (leaderOf s (ownerAt s p i)) (leaderOf s (ownerAt s p j)) && setsDiffer s (namedSet s p i) (namedSet s p j)) j) m)
+        (any-nowhere (λ i. not (includes s p (ownerAt s p i))) m (λ j l. ap not (owners-included j l)))
+        (any-nowhere (λ j. any (λ i. eqb (ownerAt s p i) (ownerAt s p j)) j) m (named .2))
+        (any-nowhere partly (count s objects) none-partly)
+        none-differ
+
+    pub programme-kept : ProgrammeKept s p
+    programme-kept = (no-repeat (entered .2), keeps-21, keeps-22)

@@ -1,44 +1,37 @@
 -- What the steps of the pass leave in the tables. Assumes nothing.
-use Prim.Native.Nat.{ℕ, zero, suc, _+_, _<_, _≤_}
+use Prim.Native.Nat.{ℕ, zero, suc, _+_, _-_, _*_, _/_, _<_, _≤_}
 use mathlib.Core.Path.{_≡_, refl, sym, ap, ap₂, subst, _∙_}
-use mathlib.Core.Bool.{Bool, true, false, true≢false, cond, not, _&&_, _||_}
+use mathlib.Core.Bool.{Bool, true, false, true≢false, cond, not, _||_}
 use mathlib.Core.List.{List, [], _∷_}
+use mathlib.Core.Logic.{⊎-elim}
 use native.Mathlib.Omega.{arith}
-use native.Mathlib.Nat.{add-zero, le-of-suc-le-suc}
+use native.Mathlib.Nat.{zero-add, le-of-suc-le-suc}
 use native.Mathlib.Numerals.{add-one}
 use borrow.Author.Count.{below-more}
-use borrow.Author.Tests.{eqb-true, eqb-false, eq-eqb, ne-eqb, not-false}
-use lib.Dec.{eqb}
+use borrow.Author.Tests.{eqb-true, eqb-false, eq-eqb, ne-eqb, ltb-true, ltb-false, lt-ltb, not-false}
+use lib.Dec.{eqb, ltb}
 use lib.ListN.{length, getD, set, length-set}
-use lib.Seq.{getD-set-same, getD-set-other}
-use Rattle.sheet.specs.Words.{Sheet}
-use Rattle.sheet.specs.Layout.{field, reference, entry}
-use Rattle.sheet.specs.Fields.{programmes, contentList, setList, valueSets, setGain}
-use Rattle.profile.specs.Counting.{any, howMany, twoOf}
-use Rattle.profile.specs.Relations.{namedSet}
+use Rattle.sheet.specs.Words.{Sheet, sheetOf, word}
+use Rattle.sheet.specs.Layout.{count, offset, start, size, field, number, reference, entry}
+use Rattle.sheet.specs.Fields.{programmes, contents, objects, references, valueSets, contentList, setList, complementList, setGain}
+use Rattle.sheet.proofs.WordLaws.{at as words-at}
+use Rattle.profile.specs.Counting.{any, howMany}
+use Rattle.profile.specs.Relations.{leader, member, members, namedSet, owner}
 use Rattle.profile.specs.Rules.{setsDiffer}
+use Rattle.profile.proofs.BoolLaws.{or-none, or-either}
 use Rattle.profile.proofs.CountingLaws.{any-none}
-use Rattle.profile.proofs.GroupLaws.{any-count, any-witness}
-use Rattle.profile.proofs.SumLaws.{any-nowhere, any-one}
-use Rattle.tables.specs.Marks.{Standing}
+use Rattle.profile.proofs.GroupLaws.{any-witness}
+use Rattle.profile.proofs.SumLaws.{any-nowhere, any-one, howMany-shift}
+use Rattle.tables.specs.declared.Naming.the-variants.{SetSpans}
+use Rattle.tables.specs.Marks.{Standing, firstBy}
+use Rattle.tables.specs.Right.{Owners, told}
 use Rattle.tables.proofs.MarkLaws.{set-standing}
-use Rattle.grouping.specs.Groups.{Agreed, Changed, Counted, Emptied, Whole, groupWhole, objectFrom, objectAt}
+use Rattle.tables.proofs.TableLaws.{owner-told}
+use Rattle.grouping.specs.Groups.{Changed, GroupKept, Listed, Noted, PairKept, Partner, groupWhole, manyIn, objectAt, objectFrom, setsIn}
 
 -- one place is written
 pub written : (t : List ℕ) (y v : ℕ) → Standing (λ z. cond (eqb y z) v (getD t z 0)) (set t y v)
 written t y v x l = set-standing t y v (λ z. cond (eqb y z) v (getD t z 0)) (λ z k. refl) x (rw (length-set t y v) at l)
-
--- 1 is added at one place
-pub added : (t : List ℕ) (y : ℕ) → Standing (λ z. cond (eqb y z) (suc (getD t z 0)) (getD t z 0)) (set t y (getD t y 0 + 1))
-added t y x l =
-    set-standing t y (getD t y 0 + 1) (λ z. cond (eqb y z) (suc (getD t z 0)) (getD t z 0)) (λ z k. same z) x (rw (length-set t y (getD t y 0 + 1)) at l)
-  where
-    same : (z : ℕ) → cond (eqb y z) (getD t y 0 + 1) (getD t z 0) ≡ cond (eqb y z) (suc (getD t z 0)) (getD t z 0)
-    same z =
-        (elim (eqb y z) as (λ b. eqb y z ≡ b → cond b (getD t y 0 + 1) (getD t z 0) ≡ cond b (suc (getD t z 0)) (getD t z 0)) [
-          | true ↦ λ e. add-one (getD t y 0) ∙ ap (λ (w : ℕ). suc (getD t w 0)) (eqb-true y z e)
-          | false ↦ λ e. refl
-        ]) refl
 
 -- one place more has b
 marked-more : (f : ℕ → ℕ) (b : ℕ) (t₀ t t′ : List ℕ) (n y : ℕ) → y ≡ f n → length t′ ≡ length t
@@ -85,63 +78,58 @@ module _ (f : ℕ → ℕ) (a b : ℕ) (t₀ : List ℕ) where
       marked-more f b t₀ t t′ n y e long (before .3) now,
     )
 
-module _ (f : ℕ → ℕ) (t₀ : List ℕ) where
-  pub emptied-none : Emptied f 0 t₀ t₀
-  unfolding any
-  emptied-none x l = refl
-
-  -- one place more is emptied
-  pub emptied-more : (t t′ : List ℕ) (n y : ℕ) → y ≡ f n → length t′ ≡ length t → Emptied f n t₀ t → Standing (λ z. cond (eqb y z) 0 (getD t z 0)) t′ → Emptied f (n + 1) t₀ t′
-  emptied-more t t′ n y e long before now = marked-more f 0 t₀ t t′ n y e long before now
-
-  -- a place that was not emptied
-  emptied-other : (t : List ℕ) (n x : ℕ) → Emptied f n t₀ t → x < length t → any (λ i. eqb (f i) x) n ≡ false → getD t x 0 ≡ getD t₀ x 0
-  emptied-other t n x emptied l e = emptied x l ∙ ap (λ (b : Bool). cond b 0 (getD t₀ x 0)) e
-
 -- what is read past the end
 pub past : (t : List ℕ) (x : ℕ) → length t ≤ x → _≡_ {A = ℕ} 0 (getD t x 0)
 past [] x l = refl
 past (c ∷ t) zero l = absurd (omega arith)
 past (c ∷ t) (suc x) l = past t x (le-of-suc-le-suc l)
 
-pub past-empty : (t : List ℕ) (y : ℕ) → length t ≤ y → Standing (λ z. cond (eqb y z) 0 (getD t z 0)) t
-past-empty t y l x h = rw (ne-eqb y x (λ q. let z : y ≡ x = q in omega arith)) refl
+module _ (f e : ℕ → ℕ) (t₀ : List ℕ) where
+  pub noted-none : Noted f e 0 t₀ t₀
+  noted-none = (λ k l. absurd (omega arith), λ k l. absurd (omega arith), λ k l. absurd (omega arith), λ k l. absurd (omega arith), λ x l h. refl)
 
--- one group more is whole: it was passed before, or its places are as they were
-pub whole-more : (s : Sheet) (g : ℕ → ℕ) (m₀ m s₀ t : List ℕ) (n l : ℕ) → l ≡ g n → length m ≡ length m₀ → length t ≡ length s₀ → Emptied g n m₀ m → Emptied g n s₀ t
-    → groupWhole s l (getD m l 0) (getD t l 0) ≡ true → Whole s g n m₀ s₀ → Whole s g (n + 1) m₀ s₀
-whole-more s g m₀ m s₀ t n l e long-m long-t empty-m empty-t now before =
-    below-more (λ i. g i < length m₀ → g i < length s₀ → groupWhole s (g i) (getD m₀ (g i) 0) (getD s₀ (g i) 0) ≡ true) n before
-    (λ a b. (elim (any (λ i. eqb (g i) (g n)) n) as (λ t. any (λ i. eqb (g i) (g n)) n ≡ t → groupWhole s (g n) (getD m₀ (g n) 0) (getD s₀ (g n) 0) ≡ true) [
+  -- one place more
+  module _ (t t′ : List ℕ) (n y v : ℕ) (q : y ≡ f n) (r : v ≡ e n) (same : length t ≡ length t₀) (long : length t′ ≡ length t)
+      (before : Noted f e n t₀ t) (inside : y < length t) (stood : getD t y 0 ≡ 1) (now : Standing (λ z. cond (eqb y z) (v + 2) (getD t z 0)) t′) where
+    -- it was none of those before
+    new : any (λ i. eqb (f i) y) n ≡ false
+    new =
+        (elim (any (λ i. eqb (f i) y) n) as (λ b. any (λ i. eqb (f i) y) n ≡ b → b ≡ false) [
+          | true ↦ λ h.
+              let w = any-witness (λ i. eqb (f i) y) n h in
+              let z : getD t y 0 ≡ e (w .0) + 2 = ap (λ (x : ℕ). getD t x 0) (sym (eqb-true _ _ (w .2))) ∙ before .3 (w .0) (w .1) in
+              absurd (omega (arith, z, stood))
+          | false ↦ λ h. refl
+        ]) refl
+
+    -- the other places are as before
+    other : (x : ℕ) → x < length t → eqb y x ≡ false → getD t′ x 0 ≡ getD t x 0
+    other x l h = now x (rw long l) ∙ ap (λ (b : Bool). cond b (v + 2) (getD t x 0)) h
+
+    pub noted-more : Noted f e (n + 1) t₀ t′
+    unfolding any
+    noted-more = (
+      below-more (λ k. f k < length t₀) n (before .0) (rw (sym q, sym same) inside),
+      below-more (λ k. getD t₀ (f k) 0 ≡ 1) n (before .1) (rw (sym q) (sym (before .4 y (rw (sym same) inside) new) ∙ stood)),
+      below-more (λ k. any (λ i. eqb (f i) (f k)) k ≡ false) n (before .2) (ap (λ (w : ℕ). any (λ i. eqb (f i) w) n) (sym q) ∙ new),
+      below-more (λ k. getD t′ (f k) 0 ≡ e k + 2) n
+          (λ k l. other (f k) (rw same (before .0 k l)) (ne-eqb y (f k) (λ z. true≢false (sym (eq-eqb (f k) y (sym z)) ∙ any-none (λ i. eqb (f i) y) n new k l))) ∙ before .3 k l)
+          (rw (sym q, sym r) (now y (rw long inside) ∙ ap (λ (b : Bool). cond b (v + 2) (getD t y 0)) (eq-eqb y y refl))),
+      λ x l h.
+          let parts = or-none (any (λ i. eqb (f i) x) n) (eqb (f n) x) (sym (ap (any (λ i. eqb (f i) x)) (add-one n)) ∙ h) in
+          other x (rw same l) (ap (λ (w : ℕ). eqb w x) q ∙ parts .1) ∙ before .4 x l (parts .0),
+    )
+
+-- what stands for an owner
+pub owner-read : (s : Sheet) (owners : List ℕ) (v c : ℕ) → Owners s owners → c ≡ getD owners v 0 → (c ≡ 0 → ⊥) → c - 1 ≡ owner s v
+unfolding told
+owner-read s owners v c right e some =
+    (elim (ltb v (length owners)) as (λ b. ltb v (length owners) ≡ b → c - 1 ≡ owner s v) [
       | true ↦ λ h.
-          let w = any-witness (λ i. eqb (g i) (g n)) n h in
-          let z : g (w .0) ≡ g n = eqb-true _ _ (w .2) in
-          subst (λ (k : ℕ). groupWhole s k (getD m₀ k 0) (getD s₀ k 0) ≡ true) z (before (w .0) (w .1) (rw z a) (rw z b))
-      | false ↦ λ h.
-          let p : getD m (g n) 0 ≡ getD m₀ (g n) 0 = emptied-other g m₀ m n (g n) empty-m (rw long-m a) h in
-          let q : getD t (g n) 0 ≡ getD s₀ (g n) 0 = emptied-other g s₀ t n (g n) empty-t (rw long-t b) h in
-          ap₂ (groupWhole s (g n)) (sym p) (sym q) ∙ subst (λ (k : ℕ). groupWhole s k (getD m k 0) (getD t k 0) ≡ true) e now
-    ]) refl)
-
-module _ (g : ℕ → ℕ) (t₀ : List ℕ) where
-  pub counted-none : Counted g 0 t₀ t₀
-  unfolding howMany
-  counted-none x l = sym (add-zero (getD t₀ x 0))
-
-  -- one more is counted
-  pub counted-more : (t t′ : List ℕ) (n y : ℕ) → y ≡ g n → length t′ ≡ length t → Counted g n t₀ t
-      → Standing (λ z. cond (eqb y z) (suc (getD t z 0)) (getD t z 0)) t′ → Counted g (n + 1) t₀ t′
-  unfolding howMany
-  counted-more t t′ n y e long before now x l =
-      now x l
-      ∙ ap (λ (c : ℕ). cond (eqb y x) (suc c) c) (before x (rw long at l))
-      ∙ ap (λ (w : ℕ). cond (eqb w x) (suc (getD t₀ x 0 + howMany (λ i. eqb (g i) x) n)) (getD t₀ x 0 + howMany (λ i. eqb (g i) x) n)) e
-      ∙ more (eqb (g n) x) (getD t₀ x 0) (howMany (λ i. eqb (g i) x) n)
-      ∙ ap (λ (m : ℕ). getD t₀ x 0 + howMany (λ i. eqb (g i) x) m) (sym (add-one n))
-    where
-      more : (b : Bool) (c h : ℕ) → cond b (suc (c + h)) (c + h) ≡ c + (h + cond b 1 0)
-      more true c h = omega arith
-      more false c h = omega arith
+          let z : c ≡ firstBy s SetSpans v 0 = e ∙ right v (ltb-true v (length owners) h) in
+          ap (λ (b : Bool). cond b (count s objects) (c - 1)) (sym (ne-eqb c 0 some)) ∙ ap (told (count s objects)) z ∙ owner-told s v
+      | false ↦ λ h. absurd (some (e ∙ sym (past owners v (ltb-false v (length owners) h))))
+    ]) refl
 
 module _ (s : Sheet) where
   -- sets that do not differ have the same words
@@ -153,63 +141,162 @@ module _ (s : Sheet) where
   unfolding setsDiffer
   same-sets u v h = any-nowhere (λ g. not (eqb (field s valueSets u (setGain + g)) (field s valueSets v (setGain + g)))) 7 (λ f l. ap not (eq-eqb _ _ (h f l)))
 
-  -- the first set of a group is kept
-  pub agreed-first : (t : List ℕ) (l v many : ℕ) → l < length t → many ≡ 0 → Agreed s many l v t (set t l v)
-  agreed-first t l v many inside none = (
-    same-sets (getD (set t l v) l 0) v (λ f k. ap (λ (u : ℕ). field s valueSets u (setGain + f)) (getD-set-same t l v 0 inside)),
-    λ some. absurd (some none),
-    λ x other. getD-set-other t l x v 0 other,
-  )
+  -- sets with the words of one and the same
+  pub sets-alike : (w u v : ℕ) → setsDiffer s w u ≡ false → setsDiffer s w v ≡ false → setsDiffer s u v ≡ false
+  sets-alike w u v a b = same-sets u v (λ f l. sym (same-words w u f a l) ∙ same-words w v f b l)
 
-  -- another agrees with it
-  pub agreed-other : (t : List ℕ) (l v many : ℕ) → setsDiffer s (getD t l 0) v ≡ false → Agreed s many l v t t
-  agreed-other t l v many e = (e, λ some. refl, λ x other. refl)
-
-  module _ (e g : ℕ → ℕ) where
-    -- each of the first n agrees with the set kept for its group
-    abbrev pub Agreeing : ℕ → List ℕ → Type 0
-    Agreeing n t = (j : ℕ) → j < n → setsDiffer s (getD t (g j) 0) (e j) ≡ false
-
-    pub agreeing-more : (u₀ u t t′ : List ℕ) (n l v : ℕ) → l ≡ g n → v ≡ e n → Counted g n u₀ u → l < length u → Agreed s (getD u l 0) l v t t′
-        → Agreeing n t → Agreeing (n + 1) t′
-    agreeing-more u₀ u t t′ n l v p q counted inside agreed before =
-        below-more (λ j. setsDiffer s (getD t′ (g j) 0) (e j) ≡ false) n each (ap (λ (w : ℕ). setsDiffer s (getD t′ w 0) (e n)) (sym p) ∙ ap (setsDiffer s (getD t′ l 0)) (sym q) ∙ agreed .0)
-      where
-        some : (j : ℕ) → j < n → eqb (g j) l ≡ true → getD u l 0 ≡ 0 → ⊥
-        some j m h z =
-            let c : 1 ≤ howMany (λ i. eqb (g i) l) n = any-count (λ i. eqb (g i) l) n (any-one (λ i. eqb (g i) l) n j m h) in
-            let w : getD u₀ l 0 + howMany (λ i. eqb (g i) l) n ≡ 0 = sym (counted l inside) ∙ z in
-            omega arith
-
-        each : (j : ℕ) → j < n → setsDiffer s (getD t′ (g j) 0) (e j) ≡ false
-        each j m =
-            (elim (eqb (g j) l) as (λ b. eqb (g j) l ≡ b → setsDiffer s (getD t′ (g j) 0) (e j) ≡ false) [
-              | true ↦ λ h.
-                  let z : g j ≡ l = eqb-true (g j) l h in
-                  let kept : getD t′ (g j) 0 ≡ getD t (g j) 0 = rw z (agreed .1 (some j m h)) in
-                  ap (λ (w : ℕ). setsDiffer s w (e j)) kept ∙ before j m
-              | false ↦ λ h. ap (λ (w : ℕ). setsDiffer s w (e j)) (agreed .2 (g j) (eqb-false (g j) l h)) ∙ before j m
-            ]) refl
-
-    -- so no two of a group differ
-    pub agreeing-all : (n : ℕ) (t : List ℕ) → Agreeing n t → twoOf (λ i j. eqb (g i) (g j) && setsDiffer s (e i) (e j)) n ≡ false
-    unfolding twoOf
-    agreeing-all n t h = any-nowhere (λ j. any (λ i. eqb (g i) (g j) && setsDiffer s (e i) (e j)) j) n (λ j l. any-nowhere (λ i. eqb (g i) (g j) && setsDiffer s (e i) (e j)) j (pair j l))
-      where
-        pair : (j : ℕ) → j < n → (i : ℕ) → i < j → (eqb (g i) (g j) && setsDiffer s (e i) (e j)) ≡ false
-        pair j l i k =
-            (elim (eqb (g i) (g j)) as (λ b. eqb (g i) (g j) ≡ b → (b && setsDiffer s (e i) (e j)) ≡ false) [
-              | true ↦ λ q.
-                  let z : getD t (g i) 0 ≡ getD t (g j) 0 = ap (λ (w : ℕ). getD t w 0) (eqb-true (g i) (g j) q) in
-                  same-sets (e i) (e j) (λ f m. sym (same-words (getD t (g i) 0) (e i) f (h i (omega arith)) m) ∙ ap (λ (w : ℕ). field s valueSets w (setGain + f)) z ∙ same-words (getD t (g j) 0) (e j) f (h j l) m)
-              | false ↦ λ q. refl
-            ]) refl
+  pub sets-own : (u : ℕ) → setsDiffer s u u ≡ false
+  sets-own u = same-sets u u (λ f l. refl)
 
 -- an entry of the programme's content list, and of its set list
-pub object-entry : (s : Sheet) (p i : ℕ) → objectFrom s (field s programmes p contentList) i ≡ objectAt s p i
-unfolding objectFrom objectAt entry
-object-entry s p i = refl
+pub object-entry : (s : Sheet) (base records from p i : ℕ) → base ≡ offset s references → records ≡ offset s contents → from ≡ field s programmes p contentList → objectFrom s base records from i ≡ objectAt s p i
+unfolding objectFrom objectAt entry reference field start size
+object-entry s base records from p i a b c = rw (a, b, c) refl
 
-pub set-entry : (s : Sheet) (p j : ℕ) → reference s (field s programmes p setList + j) ≡ namedSet s p j
-unfolding namedSet entry
-set-entry s p j = refl
+pub set-entry : (s : Sheet) (base from p j : ℕ) → base ≡ offset s references → from ≡ field s programmes p setList → word s (base + (from + j)) ≡ namedSet s p j
+unfolding namedSet entry reference
+set-entry s base from p j a b = rw (a, b) refl
+
+-- a word of a value set
+set-word : (s : Sheet) (u f : ℕ) → field s valueSets u (setGain + f) ≡ word s (offset s valueSets + u * 7 + (setGain + f))
+unfolding field start size
+set-word s u f = refl
+
+-- bytes that are alike make words that are
+same-bytes : (t : List ℕ) (i j : ℕ) → i < length t / 2 → j < length t / 2 → getD t (2 * i) 0 ≡ getD t (2 * j) 0 → getD t (2 * i + 1) 0 ≡ getD t (2 * j + 1) 0 → word (sheetOf t) i ≡ word (sheetOf t) j
+unfolding sheetOf word
+same-bytes t i j l k a b = words-at t i l ∙ ap₂ (λ (x y : ℕ). 256 * x + y) a b ∙ sym (words-at t j k)
+
+pub bytes-alike : (t : List ℕ) (base u v : ℕ) → base ≡ offset (sheetOf t) valueSets → 2 * (base + 7 * u) + 14 ≤ length t → 2 * (base + 7 * v) + 14 ≤ length t
+    → any (λ f. not (eqb (getD t (2 * (base + 7 * u) + f) 0) (getD t (2 * (base + 7 * v) + f) 0))) 14 ≡ false → setsDiffer (sheetOf t) u v ≡ false
+bytes-alike t base u v at a b h = same-sets (sheetOf t) u v each
+  where
+    byte : (f : ℕ) → f < 14 → getD t (2 * (base + 7 * u) + f) 0 ≡ getD t (2 * (base + 7 * v) + f) 0
+    byte f l = eqb-true _ _ (not-false _ (any-none (λ f. not (eqb (getD t (2 * (base + 7 * u) + f) 0) (getD t (2 * (base + 7 * v) + f) 0))) 14 h f l))
+
+    each : (f : ℕ) → f < 7 → field (sheetOf t) valueSets u (setGain + f) ≡ field (sheetOf t) valueSets v (setGain + f)
+    each f l =
+        let i : offset (sheetOf t) valueSets + u * 7 + (setGain + f) ≡ base + 7 * u + f = omega (arith, at) in
+        let j : offset (sheetOf t) valueSets + v * 7 + (setGain + f) ≡ base + 7 * v + f = omega (arith, at) in
+        let e : 2 * (base + 7 * u + f) ≡ 2 * (base + 7 * u) + 2 * f = omega arith in
+        let g : 2 * (base + 7 * v + f) ≡ 2 * (base + 7 * v) + 2 * f = omega arith in
+        let e1 : 2 * (base + 7 * u + f) + 1 ≡ 2 * (base + 7 * u) + (2 * f + 1) = omega arith in
+        let g1 : 2 * (base + 7 * v + f) + 1 ≡ 2 * (base + 7 * v) + (2 * f + 1) = omega arith in
+        word-of u f ∙ ap (word (sheetOf t)) i
+        ∙ same-bytes t (base + 7 * u + f) (base + 7 * v + f) (omega arith) (omega arith)
+        (ap (λ (x : ℕ). getD t x 0) e ∙ byte (2 * f) (omega arith) ∙ ap (λ (x : ℕ). getD t x 0) (sym g))
+        (ap (λ (x : ℕ). getD t x 0) e1 ∙ byte (2 * f + 1) (omega arith) ∙ ap (λ (x : ℕ). getD t x 0) (sym g1))
+        ∙ ap (word (sheetOf t)) (sym j) ∙ sym (word-of v f)
+      where
+        word-of : (u f : ℕ) → field (sheetOf t) valueSets u (setGain + f) ≡ word (sheetOf t) (offset (sheetOf t) valueSets + u * 7 + (setGain + f))
+        word-of u f = set-word (sheetOf t) u f
+
+-- a group by its leader and its list
+module _ (s : Sheet) (t : List ℕ) (base first n e l : ℕ) (a : base ≡ offset s references) (b : first ≡ field s objects l complementList)
+    (c : n ≡ number s objects l complementList) (d : e ≡ getD t l 0) where
+  many-counted : cond (not (eqb e 0)) 1 0 + howMany (λ i. not (eqb (getD t (word s (base + (first + i))) 0) 0)) n ≡ manyIn s t l
+  unfolding manyIn members member entry reference
+  many-counted = rw (a, b, c, d) (sym (howMany-shift (λ i. not (eqb (getD t (member s l i) 0) 0)) (number s objects l complementList)))
+
+  sets-counted : cond (ltb 1 e) 1 0 + howMany (λ i. ltb 1 (getD t (word s (base + (first + i))) 0)) n ≡ setsIn s t l
+  unfolding setsIn members member entry reference
+  sets-counted = rw (a, b, c, d) (sym (howMany-shift (λ i. ltb 1 (getD t (member s l i) 0)) (number s objects l complementList)))
+
+  pub group-whole : groupWhole (suc n) (cond (not (eqb e 0)) 1 0 + howMany (λ i. not (eqb (getD t (word s (base + (first + i))) 0) 0)) n) (cond (ltb 1 e) 1 0 + howMany (λ i. ltb 1 (getD t (word s (base + (first + i))) 0)) n) ≡ groupWhole (members s l) (manyIn s t l) (setsIn s t l)
+  unfolding members
+  group-whole = rw (many-counted, sets-counted) (ap (λ (k : ℕ). groupWhole (suc k) (manyIn s t l) (setsIn s t l)) c)
+
+  pub group-agrees : (1 < e → (i : ℕ) → i < n → 1 < getD t (word s (base + (first + i))) 0 → setsDiffer s (e - 2) (getD t (word s (base + (first + i))) 0 - 2) ≡ false)
+      → 1 < getD t l 0 → (i : ℕ) → i < members s l → 1 < getD t (member s l i) 0 → setsDiffer s (getD t l 0 - 2) (getD t (member s l i) 0 - 2) ≡ false
+  unfolding members member entry reference
+  group-agrees h k zero m r = sets-own s (getD t l 0 - 2)
+  group-agrees h k (suc i) m r = rw (sym d) (rw (sym a, sym b) (h (rw d k) i (rw c (le-of-suc-le-suc m)) (rw (a, b) r)))
+
+-- a group of two: where both are included, sets are named for both or none
+pair-whole : (a b p q : Bool) → (a ≡ true → b ≡ true → p ≡ q) → groupWhole 2 (cond a 1 0 + cond b 1 0) (cond p 1 0 + cond q 1 0) ≡ true
+unfolding groupWhole
+pair-whole false false p q h = refl
+pair-whole false true p q h = refl
+pair-whole true false p q h = refl
+pair-whole true true false false h = refl
+pair-whole true true false true h = absurd (true≢false (sym (h refl refl)))
+pair-whole true true true false h = absurd (true≢false (h refl refl))
+pair-whole true true true true h = refl
+
+module _ (s : Sheet) (e c : ℕ) where
+  -- one is not included
+  pub pair-none : (eqb e 0 || eqb c 0) ≡ true → PairKept s e c
+  pair-none h =
+      ⊎-elim
+      (λ q. let z : e ≡ 0 = eqb-true e 0 q in (pair-whole (not (eqb e 0)) (not (eqb c 0)) (ltb 1 e) (ltb 1 c) (λ a b. absurd (true≢false (sym a ∙ ap not q))), λ l m. absurd (omega arith)))
+      (λ q. let z : c ≡ 0 = eqb-true c 0 q in (pair-whole (not (eqb e 0)) (not (eqb c 0)) (ltb 1 e) (ltb 1 c) (λ a b. absurd (true≢false (sym b ∙ ap not q))), λ l m. absurd (omega arith)))
+      (or-either (eqb e 0) (eqb c 0) h)
+
+  -- no set is named
+  pub pair-plain : (eqb e 1 || eqb c 1) ≡ true → e ≡ c → PairKept s e c
+  pair-plain h z = (
+    pair-whole (not (eqb e 0)) (not (eqb c 0)) (ltb 1 e) (ltb 1 c) (λ a b. ap (ltb 1) z),
+    λ l m. ⊎-elim (λ q. let y : e ≡ 1 = eqb-true e 1 q in absurd (omega arith)) (λ q. let y : c ≡ 1 = eqb-true c 1 q in absurd (omega arith)) (or-either (eqb e 1) (eqb c 1) h),
+  )
+
+  -- both are named
+  pub pair-sets : 1 < e → 1 < c → (1 < c → setsDiffer s (e - 2) (c - 2) ≡ false) → PairKept s e c
+  pair-sets l m h = (pair-whole (not (eqb e 0)) (not (eqb c 0)) (ltb 1 e) (ltb 1 c) (λ a b. lt-ltb 1 e l ∙ sym (lt-ltb 1 c m)), λ a b. h b)
+
+  pub above-one : (eqb e 0 || eqb c 0) ≡ false → (eqb e 1 || eqb c 1) ≡ false → (1 < e) × (1 < c)
+  above-one a b =
+      let x = or-none (eqb e 0) (eqb c 0) a in
+      let y = or-none (eqb e 1) (eqb c 1) b in
+      (more e (eqb-false e 0 (x .0)) (eqb-false e 1 (y .0)), more c (eqb-false c 0 (x .1)) (eqb-false c 1 (y .1)))
+    where
+      more : (k : ℕ) → (k ≡ 0 → ⊥) → (k ≡ 1 → ⊥) → 1 < k
+      more zero p q = absurd (p refl)
+      more (suc zero) p q = absurd (q refl)
+      more (suc (suc k)) p q = omega arith
+
+-- a group of two, by its members
+module _ (s : Sheet) (t : List ℕ) (l m : ℕ) (e : member s l 1 ≡ m) where
+  two-members : (p : ℕ → Bool) → howMany (λ i. p (member s l i)) 2 ≡ cond (p l) 1 0 + cond (p m) 1 0
+  unfolding howMany member
+  two-members p = howMany-shift (λ i. p (member s l i)) 1 ∙ ap (λ (x : ℕ). cond (p l) 1 0 + (0 + cond (p x) 1 0)) e ∙ ap (λ (x : ℕ). cond (p l) 1 0 + x) (zero-add (cond (p m) 1 0))
+
+  pub pair-group : members s l ≡ 2 → PairKept s (getD t l 0) (getD t m 0) → GroupKept s t l
+  unfolding manyIn setsIn member
+  pair-group two kept = (
+    rw (two, two-members (λ x. not (eqb (getD t x 0) 0)), two-members (λ x. ltb 1 (getD t x 0))) (kept .0),
+    λ k i h r. each i (rw two at h) k r,
+  )
+    where
+      each : (i : ℕ) → i < 2 → 1 < getD t l 0 → 1 < getD t (member s l i) 0 → setsDiffer s (getD t l 0 - 2) (getD t (member s l i) 0 - 2) ≡ false
+      each zero h k r = sets-own s (getD t l 0 - 2)
+      each (suc zero) h k r = ap (λ (x : ℕ). setsDiffer s (getD t l 0 - 2) (getD t x 0 - 2)) e ∙ kept .1 k (subst (λ (x : ℕ). 1 < getD t x 0) e r)
+      each (suc (suc i)) h k r = absurd (omega arith)
+
+-- one more is listed, with its partner
+pub listed-more : (s : Sheet) (t t′ u u′ : List ℕ) (g l m : ℕ) → g < length t → g < length u → length t′ ≡ length t → length u′ ≡ length u
+    → Standing (λ z. cond (eqb g z) l (getD t z 0)) t′ → Standing (λ z. cond (eqb g z) m (getD u z 0)) u′ → Partner s l m → Listed s t u g l → Listed s t′ u′ (g + 1) (l + 1)
+listed-more s t t′ u u′ g l m inside inside-u long long-u now now-u two before = (
+  below-more (λ k. leader s k ≡ true → any (λ i. eqb (getD t′ i 0) k) (g + 1) ≡ true) l
+      (λ k r h.
+      let w = any-witness (λ i. eqb (getD t i 0) k) g (before .0 k r h) in
+      any-one (λ i. eqb (getD t′ i 0) k) (g + 1) (w .0) (omega (arith, w .1)) (ap (λ (x : ℕ). eqb x k) (same t t′ l long now inside (w .0) (w .1)) ∙ w .2))
+      (λ h. any-one (λ i. eqb (getD t′ i 0) l) (g + 1) g (omega arith) (eq-eqb (getD t′ g 0) l (last t t′ l long now inside))),
+  below-more (λ i. Partner s (getD t′ i 0) (getD u′ i 0)) g
+      (λ i k. rw (same t t′ l long now inside i k, same u u′ m long-u now-u inside-u i k) (before .1 i k))
+      (rw (last t t′ l long now inside, last u u′ m long-u now-u inside-u) two),
+)
+  where
+    same : (t t′ : List ℕ) (v : ℕ) → length t′ ≡ length t → Standing (λ z. cond (eqb g z) v (getD t z 0)) t′ → g < length t → (i : ℕ) → i < g → getD t′ i 0 ≡ getD t i 0
+    same t t′ v long now inside i k = now i (rw long (omega arith)) ∙ ap (λ (b : Bool). cond b v (getD t i 0)) (ne-eqb g i (λ q. let z : g ≡ i = q in absurd (omega arith)))
+
+    last : (t t′ : List ℕ) (v : ℕ) → length t′ ≡ length t → Standing (λ z. cond (eqb g z) v (getD t z 0)) t′ → g < length t → getD t′ g 0 ≡ v
+    last t t′ v long now inside = now g (rw long inside) ∙ ap (λ (b : Bool). cond b v (getD t g 0)) (eq-eqb g g refl)
+
+-- or it is none
+pub listed-same : (s : Sheet) (t u : List ℕ) (g l : ℕ) → leader s l ≡ false → Listed s t u g l → Listed s t u g (l + 1)
+listed-same s t u g l none before = (below-more (λ k. leader s k ≡ true → any (λ i. eqb (getD t i 0) k) g ≡ true) l (before .0) (λ h. absurd (true≢false (sym h ∙ none))), before .1)
+
+-- the partner of a leader
+pub one-partner : (s : Sheet) (l m : ℕ) → number s objects l complementList ≡ 1 → m ≡ entry s objects l complementList 0 → Partner s l m
+unfolding members member
+one-partner s l m one e some = (ap suc one, sym e)

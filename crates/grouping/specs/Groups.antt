@@ -1,16 +1,16 @@
 -- What the pass over the programmes shows, and what its steps leave in the tables. Assumes nothing.
-use Prim.Native.Nat.{ℕ, _+_, _<_}
+use Prim.Native.Nat.{ℕ, _+_, _-_, _*_, _<_}
 use mathlib.Core.Path.{_≡_}
-use mathlib.Core.Bool.{Bool, true, false, cond, _&&_, _||_}
+use mathlib.Core.Bool.{Bool, true, false, cond, not, _&&_, _||_}
 use mathlib.Core.List.{List}
-use lib.Dec.{eqb, leb}
+use lib.Dec.{eqb, leb, ltb}
 use lib.ListN.{length, getD}
-use Rattle.sheet.specs.Words.{Sheet}
-use Rattle.sheet.specs.Layout.{count, field, reference, entry}
+use Rattle.sheet.specs.Words.{Sheet, word}
+use Rattle.sheet.specs.Layout.{count, field, entry}
 use Rattle.sheet.specs.Fields.{programmes, contents, objects, valueSets, contentList, contentObject}
 use Rattle.profile.specs.Counting.{any, howMany}
-use Rattle.profile.specs.Relations.{leaderOf, members}
-use Rattle.profile.specs.Rules.{repeats, rule5, rule11, rule19, rule21, rule22, ownerAt, setsDiffer}
+use Rattle.profile.specs.Relations.{leader, member, members}
+use Rattle.profile.specs.Rules.{repeats, rule5, rule11, rule19, rule21, rule22, setsDiffer}
 use Rattle.tables.specs.Marks.{Standing}
 
 -- a programme names no content twice and keeps rules 21 and 22
@@ -28,29 +28,14 @@ GroupsGround s =
     × (any (rule11 s valueSets) (count s valueSets) ≡ false)
     × (any (rule19 s objects) (count s objects) ≡ false)
 
--- the object of the content that entry i of the list from an index of section 6 on names
-unfoldable pub objectFrom : Sheet → ℕ → ℕ → ℕ
-objectFrom s from i = field s contents (reference s (from + i)) contentObject
+-- the object of the content that entry i of the list from an index of section 6 on names, where section 6 begins at base and section 2
+-- at records
+unfoldable pub objectFrom : Sheet → ℕ → ℕ → ℕ → ℕ → ℕ
+objectFrom s base records from i = word s (records + word s (base + (from + i)) * 5 + 1)
 
 -- the object of a content that the programme names
 unfoldable pub objectAt : Sheet → ℕ → ℕ → ℕ
 objectAt s p i = field s contents (entry s programmes p contentList i) contentObject
-
--- its group, by the leader
-unfoldable pub groupAt : Sheet → ℕ → ℕ → ℕ
-groupAt s p i = leaderOf s (objectAt s p i)
-
--- the group of the object whose set the programme names
-unfoldable pub setGroupAt : Sheet → ℕ → ℕ → ℕ
-setGroupAt s p j = leaderOf s (ownerAt s p j)
-
--- a table has 0 everywhere
-abbrev pub Noughts : List ℕ → Type 0
-Noughts t = Standing (λ x. 0) t
-
--- and a place for each object
-abbrev pub Ready : Sheet → List ℕ → Type 0
-Ready s t = (length t ≡ count s objects) × Noughts t
 
 -- the places f 0 to f (n - 1), no two the same, had one number and have another; the other places have what they had
 abbrev pub Changed : (ℕ → ℕ) → ℕ → ℕ → ℕ → List ℕ → List ℕ → Type 0
@@ -60,26 +45,50 @@ Changed f n from to t t′ =
     × ((k : ℕ) → k < n → any (λ i. eqb (f i) (f k)) k ≡ false)
     × Standing (λ x. cond (any (λ i. eqb (f i) x) n) to (getD t x 0)) t′
 
--- the places f 0 to f (n - 1) have 0; the other places have what they had
-abbrev pub Emptied : (ℕ → ℕ) → ℕ → List ℕ → List ℕ → Type 0
-Emptied f n t t′ = Standing (λ x. cond (any (λ i. eqb (f i) x) n) 0 (getD t x 0)) t′
+-- the places f 0 to f (n - 1), no two the same, had 1 and have 2 more than e 0 to e (n - 1); the other places have what they had
+abbrev pub Noted : (ℕ → ℕ) → (ℕ → ℕ) → ℕ → List ℕ → List ℕ → Type 0
+Noted f e n t t′ =
+    ((k : ℕ) → k < n → f k < length t)
+    × ((k : ℕ) → k < n → getD t (f k) 0 ≡ 1)
+    × ((k : ℕ) → k < n → any (λ i. eqb (f i) (f k)) k ≡ false)
+    × ((k : ℕ) → k < n → getD t′ (f k) 0 ≡ e k + 2)
+    × ((x : ℕ) → x < length t → any (λ i. eqb (f i) x) n ≡ false → getD t′ x 0 ≡ getD t x 0)
 
--- each place has one more for each of g 0 to g (n - 1) that is its number
-abbrev pub Counted : (ℕ → ℕ) → ℕ → List ℕ → List ℕ → Type 0
-Counted g n t t′ = Standing (λ x. getD t x 0 + howMany (λ i. eqb (g i) x) n) t′
+-- of a group of so many members, of which so many are included and sets are named for so many: one at most is included, or all are, and
+-- sets are named for all or none
+unfoldable pub groupWhole : ℕ → ℕ → ℕ → Bool
+groupWhole n many set = leb many 1 || eqb many n && (eqb set 0 || eqb set n)
 
--- set v has the words of the set at place l, which was there before, unless none was counted; the other places have what they had
-abbrev pub Agreed : Sheet → ℕ → ℕ → ℕ → List ℕ → List ℕ → Type 0
-Agreed s many l v t t′ =
-    (setsDiffer s (getD t′ l 0) v ≡ false)
-    × ((many ≡ 0 → ⊥) → getD t′ l 0 ≡ getD t l 0)
-    × ((x : ℕ) → (x ≡ l → ⊥) → getD t′ x 0 ≡ getD t x 0)
+-- how many members of a leader's group have 1 or more in a table
+unfoldable pub manyIn : Sheet → List ℕ → ℕ → ℕ
+manyIn s t l = howMany (λ i. not (eqb (getD t (member s l i) 0) 0)) (members s l)
 
--- of a group of which so many are included and sets are named for so many: one at most is included, or all are, and sets are named
--- for all or none
-unfoldable pub groupWhole : Sheet → ℕ → ℕ → ℕ → Bool
-groupWhole s l many set = leb many 1 || eqb many (members s l) && (eqb set 0 || eqb set (members s l))
+-- how many have 2 or more
+unfoldable pub setsIn : Sheet → List ℕ → ℕ → ℕ
+setsIn s t l = howMany (λ i. ltb 1 (getD t (member s l i) 0)) (members s l)
 
--- so it is for the groups g 0 to g (n - 1), by what stands at their places
-abbrev pub Whole : Sheet → (ℕ → ℕ) → ℕ → List ℕ → List ℕ → Type 0
-Whole s g n many sets = (i : ℕ) → i < n → g i < length many → g i < length sets → groupWhole s (g i) (getD many (g i) 0) (getD sets (g i) 0) ≡ true
+-- a group is whole, and the leader's set has the words of those of its members
+abbrev pub GroupKept : Sheet → List ℕ → ℕ → Type 0
+GroupKept s t l =
+    (groupWhole (members s l) (manyIn s t l) (setsIn s t l) ≡ true)
+    × (1 < getD t l 0 → (i : ℕ) → i < members s l → 1 < getD t (member s l i) 0 → setsDiffer s (getD t l 0 - 2) (getD t (member s l i) 0 - 2) ≡ false)
+
+-- the same of a group of two, by what stands for both
+abbrev pub PairKept : Sheet → ℕ → ℕ → Type 0
+PairKept s e c =
+    (groupWhole 2 (cond (not (eqb e 0)) 1 0 + cond (not (eqb c 0)) 1 0) (cond (ltb 1 e) 1 0 + cond (ltb 1 c) 1 0) ≡ true)
+    × (1 < e → 1 < c → setsDiffer s (e - 2) (c - 2) ≡ false)
+
+-- a leader has this one complement, where it is not 65535
+abbrev pub Partner : Sheet → ℕ → ℕ → Type 0
+Partner s l m = (m ≡ 65535 → ⊥) → (members s l ≡ 2) × (member s l 1 ≡ m)
+
+-- the leaders below l are among the first g of a list, and another list has their partners
+abbrev pub Listed : Sheet → List ℕ → List ℕ → ℕ → ℕ → Type 0
+Listed s t u g l =
+    ((k : ℕ) → k < l → leader s k ≡ true → any (λ i. eqb (getD t i 0) k) g ≡ true)
+    × ((i : ℕ) → i < g → Partner s (getD t i 0) (getD u i 0))
+
+-- every leader is
+abbrev pub LeadersIn : Sheet → List ℕ → List ℕ → ℕ → Type 0
+LeadersIn s t u g = Listed s t u g (count s objects)

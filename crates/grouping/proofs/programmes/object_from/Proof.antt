@@ -4,18 +4,44 @@ use borrow.Author.Needs.{needs}
 use Rattle.grouping.proofs.programmes.object_from.Statement.{statement}
 use Rattle.grouping.proofs.programmes.object_from.Tie as tie
 
-add-reference : tie.Need-add-reference
-add-reference c = search needs
+add-word : tie.Need-add-word
+add-word c = search needs
 
-reference-requires : tie.Need-reference-requires
-reference-requires c κs = search needs
+add-word-2 : tie.Need-add-word-2
+add-word-2 c = search needs
 
-field-requires : tie.Need-field-requires
-field-requires c κs = search needs
+word-requires : tie.Need-word-requires
+word-requires c κs = search needs
+
+cast-word : tie.Need-cast-word
+cast-word c = search needs
+
+mul-word : tie.Need-mul-word
+mul-word c = search needs
+
+add-word-3 : tie.Need-add-word-3
+add-word-3 c = search needs
+
+add-word-4 : tie.Need-add-word-4
+add-word-4 c = search needs
+
+word-requires-2 : tie.Need-word-requires-2
+word-requires-2 c κs = search needs
 
 returns : tie.Need-returns
 unfolding objectFrom
-returns c = simp (c .before .reference .ensures, c .field .ensures)
+returns c = simp (c .word2 .ensures, c .before .word .ensures)
 
 pub object-from-spec : {M : Type 1} → statement M
-object-from-spec = tie.close (tie.spec add-reference reference-requires field-requires returns)
+object-from-spec =
+    tie.close
+    (tie.spec
+    add-word
+    add-word-2
+    word-requires
+    cast-word
+    mul-word
+    add-word-3
+    add-word-4
+    word-requires-2
+    returns)

@@ -1,8 +1,14 @@
 -- The part of each table that has as many places as there are objects. Assumes nothing.
-use Prim.Native.Nat.{ℕ, _≤_}
-use mathlib.Core.Path.{_≡_, refl, sym, ap, _∙_}
-use mathlib.Core.Bool.{true≢false}
+use Prim.Native.Nat.{ℕ, suc, _+_, _-_, _≤_, _<_}
+use mathlib.Core.Path.{_≡_, refl, sym, ap, ap₂, _∙_}
+use mathlib.Core.Bool.{true, false, true≢false, cond, not}
+use native.Mathlib.Omega.{arith}
+use native.Mathlib.Numerals.{add-one}
+use borrow.Author.Tests.{not-false, not-true}
+use lib.Dec.{eqb, ltb}
+use lib.ListN.{length, getD}
 use lib.Seq.{length-take-le}
+use borrow.Author.Tests.{eqb-true}
 use borrow.Author.Needs.{needs}
 use Rattle.grouping.proofs.programmes.programmes_pass.Statement.{statement}
 use Rattle.grouping.proofs.programmes.programmes_pass.Tie as tie
@@ -22,35 +28,29 @@ returns-2 c = (refl, refl, refl, refl, λ e. absurd (true≢false (sym e)))
 returns-3 : tie.Need-returns-3
 returns-3 c = (refl, refl, refl, refl, λ e. absurd (true≢false (sym e)))
 
-returns-4 : tie.Need-returns-4
-returns-4 c = (refl, refl, refl, refl, λ e. absurd (true≢false (sym e)))
+slice-relend-prefix-kept-below : tie.Need-slice-relend-prefix-kept-below
+slice-relend-prefix-kept-below c = search needs
 
-slice-relend-prefix-each-passes : tie.Need-slice-relend-prefix-each-passes
-slice-relend-prefix-each-passes c = search needs
+slice-aggregate-kept-below : tie.Need-slice-aggregate-kept-below
+slice-aggregate-kept-below c = sym (length-take-le (c .before .before .before .before .count .result) (c .before .before .before .before .before .before .before .before .before .before .before .before .args .members .now) (c .before .before .if2 .left))
 
-slice-aggregate-each-passes : tie.Need-slice-aggregate-each-passes
-slice-aggregate-each-passes c = sym (length-take-le (c .before .before .before .before .before .count .result) (c .before .before .before .before .before .before .before .before .before .before .before .before .before .args .included .now) (c .before .before .before .before .if1 .left))
+slice-relend-prefix-kept-below-2 : tie.Need-slice-relend-prefix-kept-below-2
+slice-relend-prefix-kept-below-2 c = search needs
 
-slice-relend-prefix-each-passes-2 : tie.Need-slice-relend-prefix-each-passes-2
-slice-relend-prefix-each-passes-2 c = search needs
+slice-aggregate-kept-below-2 : tie.Need-slice-aggregate-kept-below-2
+slice-aggregate-kept-below-2 c = sym (length-take-le (c .before .before .before .before .before .count .result) (c .before .before .before .before .before .before .before .before .before .before .before .before .before .args .sets .now) (c .before .before .if3 .left))
 
-slice-aggregate-each-passes-2 : tie.Need-slice-aggregate-each-passes-2
-slice-aggregate-each-passes-2 c = sym (length-take-le (c .before .before .before .before .before .before .count .result) (c .before .before .before .before .before .before .before .before .before .before .before .before .before .before .args .members .now) (c .before .before .before .before .if2 .left))
+slice-relend-prefix-kept-below-3 : tie.Need-slice-relend-prefix-kept-below-3
+slice-relend-prefix-kept-below-3 c = search needs
 
-slice-relend-prefix-each-passes-3 : tie.Need-slice-relend-prefix-each-passes-3
-slice-relend-prefix-each-passes-3 c = search needs
+slice-aggregate-kept-below-3 : tie.Need-slice-aggregate-kept-below-3
+slice-aggregate-kept-below-3 c = sym (length-take-le (c .before .before .before .before .before .before .count .result) (c .before .before .before .before .before .before .before .before .before .before .before .before .before .before .args .included .now) (c .before .before .before .before .before .if1 .left))
 
-slice-aggregate-each-passes-3 : tie.Need-slice-aggregate-each-passes-3
-slice-aggregate-each-passes-3 c = sym (length-take-le (c .before .before .before .before .before .before .before .count .result) (c .before .before .before .before .before .before .before .before .before .before .before .before .before .before .before .args .sets .now) (c .before .before .before .before .if3 .left))
+kept-below-requires : tie.Need-kept-below-requires
+kept-below-requires c κs = search needs
 
-slice-relend-prefix-each-passes-4 : tie.Need-slice-relend-prefix-each-passes-4
-slice-relend-prefix-each-passes-4 c = search needs
-
-slice-aggregate-each-passes-4 : tie.Need-slice-aggregate-each-passes-4
-slice-aggregate-each-passes-4 c = sym (length-take-le (c .before .before .before .before .before .before .before .before .count .result) (c .before .before .before .before .before .before .before .before .before .before .before .before .before .before .before .before .args .firsts .now) (c .before .before .before .before .if4 .left))
-
-each-passes-requires : tie.Need-each-passes-requires
-each-passes-requires c κs = search needs
+count-requires-2 : tie.Need-count-requires-2
+count-requires-2 c κs = search needs
 
 same-length : tie.Need-same-length
 same-length c = search needs
@@ -61,11 +61,8 @@ same-length-2 c = search needs
 same-length-3 : tie.Need-same-length-3
 same-length-3 c = search needs
 
-same-length-4 : tie.Need-same-length-4
-same-length-4 c = search needs
-
-returns-5 : tie.Need-returns-5
-returns-5 c = (search needs, search needs, search needs, search needs, λ e owns right ground. c .before .before .before .before .before .before .before .before .each-passes .ensures .4 e owns right (length-take-le (c .before .before .before .before .before .before .before .before .before .before .before .before .before .before .before .before .before .count .result) (c .before .before .before .before .before .before .before .before .before .before .before .before .before .before .before .before .before .before .before .before .before .before .before .before .before .args .included .now) (c .before .before .before .before .before .before .before .before .before .before .before .before .before .before .before .before .if1 .left) ∙ c .before .before .before .before .before .before .before .before .before .before .before .before .before .before .before .before .before .count .ensures) (length-take-le (c .before .before .before .before .before .before .before .before .before .before .before .before .before .before .before .before .before .count .result) (c .before .before .before .before .before .before .before .before .before .before .before .before .before .before .before .before .before .before .before .before .before .before .before .before .before .args .members .now) (c .before .before .before .before .before .before .before .before .before .before .before .before .before .before .before .if2 .left) ∙ c .before .before .before .before .before .before .before .before .before .before .before .before .before .before .before .before .before .count .ensures) (length-take-le (c .before .before .before .before .before .before .before .before .before .before .before .before .before .before .before .before .before .count .result) (c .before .before .before .before .before .before .before .before .before .before .before .before .before .before .before .before .before .before .before .before .before .before .before .before .before .args .sets .now) (c .before .before .before .before .before .before .before .before .before .before .before .before .before .before .if3 .left) ∙ c .before .before .before .before .before .before .before .before .before .before .before .before .before .before .before .before .before .count .ensures) ground)
+returns-4 : tie.Need-returns-4
+returns-4 c = (search needs, search needs, search needs, refl, λ e owns right ground p l. c .before .before .before .before .before .before .before .kept-below .ensures .3 owns (length-take-le (c .before .before .before .before .before .before .before .before .before .before .before .before .before .before .count .result) (c .before .before .before .before .before .before .before .before .before .before .before .before .before .before .before .before .before .before .before .before .before .before .args .members .now) (c .before .before .before .before .before .before .before .before .before .before .before .before .if2 .left) ∙ c .before .before .before .before .before .before .before .before .before .before .before .before .before .before .count .ensures) (length-take-le (c .before .before .before .before .before .before .before .before .before .before .before .before .before .before .count .result) (c .before .before .before .before .before .before .before .before .before .before .before .before .before .before .before .before .before .before .before .before .before .before .args .sets .now) (c .before .before .before .before .before .before .before .before .before .before .before .if3 .left) ∙ c .before .before .before .before .before .before .before .before .before .before .before .before .before .before .count .ensures) (length-take-le (c .before .before .before .before .before .before .before .before .before .before .before .before .before .before .count .result) (c .before .before .before .before .before .before .before .before .before .before .before .before .before .before .before .before .before .before .before .before .before .before .args .included .now) (c .before .before .before .before .before .before .before .before .before .before .before .before .before .if1 .left) ∙ c .before .before .before .before .before .before .before .before .before .before .before .before .before .before .count .ensures) ground p (omega (arith, eqb-true (c .before .before .before .before .before .before .before .kept-below .result) (c .count2 .result) e, c .count2 .ensures, l)))
 
 pub programmes-pass-spec : {M : Type 1} → statement M
 programmes-pass-spec =
@@ -76,18 +73,15 @@ programmes-pass-spec =
     returns
     returns-2
     returns-3
-    returns-4
-    slice-relend-prefix-each-passes
-    slice-aggregate-each-passes
-    slice-relend-prefix-each-passes-2
-    slice-aggregate-each-passes-2
-    slice-relend-prefix-each-passes-3
-    slice-aggregate-each-passes-3
-    slice-relend-prefix-each-passes-4
-    slice-aggregate-each-passes-4
-    each-passes-requires
+    slice-relend-prefix-kept-below
+    slice-aggregate-kept-below
+    slice-relend-prefix-kept-below-2
+    slice-aggregate-kept-below-2
+    slice-relend-prefix-kept-below-3
+    slice-aggregate-kept-below-3
+    kept-below-requires
+    count-requires-2
     same-length
     same-length-2
     same-length-3
-    same-length-4
-    returns-5)
+    returns-4)

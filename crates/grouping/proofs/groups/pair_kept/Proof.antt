@@ -1,0 +1,29 @@
+-- By what stands for both. Assumes nothing.
+use Prim.Native.Nat.{ℕ, suc, _+_, _-_, _≤_, _<_}
+use mathlib.Core.Path.{_≡_, refl, sym, ap, ap₂, _∙_}
+use mathlib.Core.Bool.{true, false, true≢false, cond, not}
+use native.Mathlib.Omega.{arith}
+use native.Mathlib.Numerals.{add-one}
+use borrow.Author.Tests.{not-false, not-true}
+use lib.Dec.{eqb, ltb}
+use lib.ListN.{length, getD}
+use borrow.Author.Tests.{eqb-true}
+use Rattle.sheet.specs.Words.{sheetOf}
+use Rattle.grouping.proofs.PassLaws.{above-one, pair-none, pair-plain, pair-sets}
+use Rattle.grouping.proofs.groups.pair_kept.Statement.{statement}
+use Rattle.grouping.proofs.groups.pair_kept.Tie as tie
+
+returns : tie.Need-returns
+returns c = λ e at. pair-none (sheetOf (c .before .before .args .s .now)) (c .before .before .args .e) (c .before .before .args .c) (c .if1 .taken)
+
+returns-2 : tie.Need-returns-2
+returns-2 c = λ e at. pair-plain (sheetOf (c .before .before .before .args .s .now)) (c .before .before .before .args .e) (c .before .before .before .args .c) (c .if2 .taken) (eqb-true (c .before .before .before .args .e) (c .before .before .before .args .c) e)
+
+noted-differ-requires : tie.Need-noted-differ-requires
+noted-differ-requires c κs = above-one (sheetOf (c .before .before .before .args .s .now)) (c .before .before .before .args .e) (c .before .before .before .args .c) (c .before .if1 .left) (c .if2 .left) .0
+
+returns-3 : tie.Need-returns-3
+returns-3 c = λ e at. let more = above-one (sheetOf (c .before .before .before .before .args .s .now)) (c .before .before .before .before .args .e) (c .before .before .before .before .args .c) (c .before .before .if1 .left) (c .before .if2 .left) in pair-sets (sheetOf (c .before .before .before .before .args .s .now)) (c .before .before .before .before .args .e) (c .before .before .before .before .args .c) (more .0) (more .1) (c .noted-differ .ensures (not-true _ e) at)
+
+pub pair-kept-spec : {M : Type 1} → statement M
+pair-kept-spec = tie.close (tie.spec returns returns-2 noted-differ-requires returns-3)

@@ -1,0 +1,176 @@
+// The groups of a sheet, by what a table has for their members: 0 for an object that the programme does not include, 1 for one that it
+// includes, and where it names a set for it, 2 more than the number of that set.
+use crate::marks::at;
+use crate::sets::sets_differ;
+use relations::entries::one;
+use relations::objects::leader;
+use sheet::fields::COMPLEMENT_LIST;
+use sheet::fields::OBJECTS;
+use sheet::layout::count;
+use sheet::layout::entry;
+use sheet::layout::field;
+use sheet::layout::number;
+use sheet::words::word;
+use tables::Mark;
+use tables::marks::mark_at;
+ghost use Prim.Native.Nat.{ℕ, suc, _+_, _-_, _<_, _≤_};
+ghost use lib.Dec.{eqb, ltb};
+ghost use lib.ListN.{getD, length};
+ghost use mathlib.Core.Bool.{cond, false, not, true};
+ghost use mathlib.Core.Path.{_≡_};
+ghost use Rattle.grouping.specs.Groups.{GroupKept, LeadersIn, Listed, PairKept, Partner, groupWhole};
+ghost use Rattle.profile.specs.Counting.{howMany};
+ghost use Rattle.profile.specs.Rules.{setsDiffer};
+ghost use Rattle.sheet.specs.Fields.{objects, references, valueSets};
+ghost use Rattle.sheet.specs.Layout.{count, offset};
+ghost use Rattle.sheet.specs.Words.{sheetOf, word};
+
+// Of a group whose leader has e in the table, and whose n complements are listed from `first` on: one at most is included, or all are,
+// and sets are named for all or none. Section 6 begins at `base`.
+fn group_whole(s: &[u8], base: u16, first: u16, n: u16, included: &[u16], e: u16) -> bool
+    ensures { λ r. ⌜ r ≡ groupWhole (suc n) (cond (not (eqb e 0)) 1 0 + howMany (λ i. not (eqb (getD (now (included .entry)) (word (sheetOf (now (s .entry))) (base + (first + i))) 0) 0)) n) (cond (ltb 1 e) 1 0 + howMany (λ i. ltb 1 (getD (now (included .entry)) (word (sheetOf (now (s .entry))) (base + (first + i))) 0)) n) ⌝ }
+{
+    let mut many: u32 = one(e != 0) as u32;
+    let mut sets: u32 = one(1 < e) as u32;
+    let mut i: u16 = 0;
+    while i < n {
+        let c = at(
+            included,
+            word(s, base as usize + (first as usize + i as usize)),
+        );
+        many += one(c != 0) as u32;
+        sets += one(1 < c) as u32;
+        i += 1;
+    }
+    let all = n as u32 + 1;
+    (many <= 1) | ((many == all) & ((sets == 0) | (sets == all)))
+}
+
+// Whether the sets of two members may differ, by what the table has for them; the second may have none.
+fn noted_differ(s: &[u8], sets: u16, e: u16, c: u16) -> bool
+    requires { ⌜ 1 < e ⌝ }
+    ensures { λ r. ⌜ (r ≡ false → sets ≡ offset (sheetOf (now (s .entry))) valueSets → 1 < c → setsDiffer (sheetOf (now (s .entry))) (e - 2) (c - 2) ≡ false) ⌝ }
+{
+    if c <= 1 {
+        return false;
+    }
+    sets_differ(s, sets, e - 2, c - 2)
+}
+
+// Whether the set of a leader, which has e in the table, has the words of those of its complements.
+fn sets_agree(s: &[u8], base: u16, sets: u16, first: u16, n: u16, included: &[u16], e: u16) -> bool
+    ensures { λ r. ⌜ (r ≡ true → sets ≡ offset (sheetOf (now (s .entry))) valueSets → 1 < e → (i : ℕ) → i < n → 1 < getD (now (included .entry)) (word (sheetOf (now (s .entry))) (base + (first + i))) 0 → setsDiffer (sheetOf (now (s .entry))) (e - 2) (getD (now (included .entry)) (word (sheetOf (now (s .entry))) (base + (first + i))) 0 - 2) ≡ false) ⌝ }
+{
+    if e <= 1 {
+        return true;
+    }
+    let mut i: u16 = 0;
+    while i < n {
+        let c = at(
+            included,
+            word(s, base as usize + (first as usize + i as usize)),
+        );
+        if noted_differ(s, sets, e, c) {
+            return false;
+        }
+        i += 1;
+    }
+    true
+}
+
+// Both for the group of a leader.
+fn group_kept(s: &[u8], base: u16, sets: u16, included: &[u16], l: u16) -> bool
+    ensures { λ r. ⌜ (r ≡ true → base ≡ offset (sheetOf (now (s .entry))) references → sets ≡ offset (sheetOf (now (s .entry))) valueSets → GroupKept (sheetOf (now (s .entry))) (now (included .entry)) l) ⌝ }
+{
+    let first = field(s, OBJECTS, l, COMPLEMENT_LIST);
+    let n = number(s, OBJECTS, l, COMPLEMENT_LIST);
+    let e = at(included, l);
+    if !group_whole(s, base, first, n, included, e) {
+        return false;
+    }
+    sets_agree(s, base, sets, first, n, included, e)
+}
+
+// A group of two, by what the table has for both.
+fn pair_kept(s: &[u8], sets: u16, e: u16, c: u16) -> bool
+    ensures { λ r. ⌜ (r ≡ true → sets ≡ offset (sheetOf (now (s .entry))) valueSets → PairKept (sheetOf (now (s .entry))) e c) ⌝ }
+{
+    if (e == 0) | (c == 0) {
+        return true;
+    }
+    if (e == 1) | (c == 1) {
+        return e == c;
+    }
+    !noted_differ(s, sets, e, c)
+}
+
+// The group of a leader, which has one complement m, or any where m is 65535.
+fn led_kept(s: &[u8], base: u16, sets: u16, included: &[u16], l: u16, m: u16) -> bool
+    ensures { λ r. ⌜ (r ≡ true → base ≡ offset (sheetOf (now (s .entry))) references → sets ≡ offset (sheetOf (now (s .entry))) valueSets → Partner (sheetOf (now (s .entry))) l m → GroupKept (sheetOf (now (s .entry))) (now (included .entry)) l) ⌝ }
+{
+    if m == 65535 {
+        return group_kept(s, base, sets, included, l);
+    }
+    pair_kept(s, sets, at(included, l), at(included, m))
+}
+
+// The groups of the first g leaders of a list, with their partners.
+pub fn groups_kept(
+    s: &[u8],
+    base: u16,
+    sets: u16,
+    list: &[u16],
+    partners: &[u16],
+    g: u16,
+    included: &[u16],
+) -> bool
+    ensures { λ r. ⌜ (r ≡ true → base ≡ offset (sheetOf (now (s .entry))) references → sets ≡ offset (sheetOf (now (s .entry))) valueSets → LeadersIn (sheetOf (now (s .entry))) (now (list .entry)) (now (partners .entry)) g → (i : ℕ) → i < g → GroupKept (sheetOf (now (s .entry))) (now (included .entry)) (getD (now (list .entry)) i 0)) ⌝ }
+{
+    let mut i: u16 = 0;
+    while i < g {
+        if !led_kept(s, base, sets, included, at(list, i), at(partners, i)) {
+            return false;
+        }
+        i += 1;
+    }
+    true
+}
+
+// The one complement of a leader, 65535 where it has more.
+fn partner(s: &[u8], l: u16) -> u16
+    ensures { λ r. ⌜ Partner (sheetOf (now (s .entry))) l r ⌝ }
+{
+    if number(s, OBJECTS, l, COMPLEMENT_LIST) == 1 {
+        entry(s, OBJECTS, l, COMPLEMENT_LIST, 0)
+    } else {
+        65535
+    }
+}
+
+// Adds an object to a list of g leaders where it is one, and tells how many there are.
+fn add_leader(s: &[u8], list: &mut [u16], partners: &mut [u16], g: u16, l: u16) -> u16
+    requires { ⌜ g < 65535 ⌝ }
+    ensures { λ r. ⌜ (length (now (list .exit)) ≡ length (now (list .entry))) × (length (now (partners .exit)) ≡ length (now (partners .entry))) × (r ≤ g + 1) × (g < length (now (list .entry)) → g < length (now (partners .entry)) → Listed (sheetOf (now (s .entry))) (now (list .entry)) (now (partners .entry)) g l → Listed (sheetOf (now (s .entry))) (now (list .exit)) (now (partners .exit)) r (l + 1)) ⌝ }
+{
+    if !leader(s, l) {
+        return g;
+    }
+    let m = partner(s, l);
+    mark_at(list, g as u32, Mark::Store(l));
+    mark_at(partners, g as u32, Mark::Store(m));
+    g + 1
+}
+
+// Lists the leaders and their partners, and tells how many there are.
+pub fn list_leaders(s: &[u8], list: &mut [u16], partners: &mut [u16]) -> u16
+    ensures { λ r. ⌜ (length (now (list .exit)) ≡ length (now (list .entry))) × (length (now (partners .exit)) ≡ length (now (partners .entry))) × (count (sheetOf (now (s .entry))) objects ≤ length (now (list .entry)) → count (sheetOf (now (s .entry))) objects ≤ length (now (partners .entry)) → LeadersIn (sheetOf (now (s .entry))) (now (list .exit)) (now (partners .exit)) r) ⌝ }
+{
+    let n = count(s, OBJECTS);
+    let mut g: u16 = 0;
+    let mut l: u16 = 0;
+    while l < n {
+        g = add_leader(s, list, partners, g, l);
+        l += 1;
+    }
+    g
+}
