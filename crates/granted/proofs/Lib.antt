@@ -1,1 +1,2 @@
 mod PlaceLaws
+mod SameLaws

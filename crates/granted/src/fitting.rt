@@ -5,7 +5,6 @@ use crate::programme::grants;
 use crate::programme::start_value;
 use values::Gain;
 use values::Sort;
-use values::gains::at_most;
 use values::gains::gain_in_range;
 use values::gains::gain_of;
 use values::gains::legal_gain;
@@ -19,13 +18,22 @@ ghost use Rattle.sheet.specs.Words.{sheetOf};
 pub fn same_gain(a: Gain, b: Gain) -> bool
     ensures { λ r. ⌜ r ≡ sameGain a b ⌝ }
 {
-    at_most(a, b) & at_most(b, a)
+    match a {
+        Gain::Tenths(x) => match b {
+            Gain::Tenths(y) => x == y,
+            Gain::Silent => false,
+        },
+        Gain::Silent => match b {
+            Gain::Tenths(_) => false,
+            Gain::Silent => true,
+        },
+    }
 }
 
 pub fn same_offset(x: i16, y: i16) -> bool
     ensures { λ r. ⌜ r ≡ sameOffset x y ⌝ }
 {
-    (x <= y) & (y <= x)
+    x == y
 }
 
 // A gain is legal and in the range granted there.

@@ -30,5 +30,9 @@ pub fn in_whole_group_by(s: &[u8], p: u16, leaders: &[u16], marks: &[u16], o: u1
     ensures { λ r. ⌜ (Leaders (sheetOf (now (s .entry))) (now (leaders .entry)) → Included (sheetOf (now (s .entry))) p (now (marks .entry)) → r ≡ inWholeGroup (sheetOf (now (s .entry))) p o) ⌝ }
 {
     let l = leader_by(s, leaders, o);
-    leader(s, l) & (included_members(s, p, marks, l) == members(s, l))
+    if leader(s, l) {
+        included_members(s, p, marks, l) == members(s, l)
+    } else {
+        false
+    }
 }

@@ -1,5 +1,5 @@
 mod ListedLaws
-mod AndLaws
+mod RestLaws
 mod FillLaws
 mod StepLaws
 mod BehindLaws

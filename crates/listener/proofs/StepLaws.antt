@@ -30,7 +30,7 @@ use Rattle.listener.specs.Steps.{flaggedSound}
 pub leaders-made : (s : Sheet) (n : ℕ) (t : List ℕ) → Standing (λ x. firstBy s Complements x (getD (replicate n 0) x 0)) t → Leaders s t
 leaders-made s n t h x l = h x l ∙ ap (firstBy s Complements x) (nought n x)
 
-every-eq : (p q : ℕ → Bool) (n : ℕ) → ((k : ℕ) → k < n → p k ≡ q k) → every p n ≡ every q n
+pub every-eq : (p q : ℕ → Bool) (n : ℕ) → ((k : ℕ) → k < n → p k ≡ q k) → every p n ≡ every q n
 unfolding every
 every-eq p q zero h = refl
 every-eq p q (suc n) h = ap₂ (λ (a b : Bool). a && b) (every-eq p q n (λ k l. h k (omega arith))) (h n (omega arith))
@@ -77,5 +77,5 @@ module _ (s : Sheet) (st : State) where
   flags-sound o = rw (flags-activity o) refl
 
   -- objects are sound by the flags where they are by the state
-  pub all-flags : every (λ o. flaggedSound s (st .programme) activeFlags o (setting st o)) stateObjects ≡ every (soundAt s st) stateObjects
-  all-flags = every-eq (λ o. flaggedSound s (st .programme) activeFlags o (setting st o)) (soundAt s st) stateObjects (λ o l. flags-sound o)
+  pub all-flags : (n : ℕ) → every (λ o. flaggedSound s (st .programme) activeFlags o (setting st o)) n ≡ every (soundAt s st) n
+  all-flags n = every-eq (λ o. flaggedSound s (st .programme) activeFlags o (setting st o)) (soundAt s st) n (λ o l. flags-sound o)

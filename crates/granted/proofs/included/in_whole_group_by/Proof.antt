@@ -1,5 +1,5 @@
--- The leader by the table, its members by the marks. Assumes nothing.
-use mathlib.Core.Path.{_≡_, refl, sym, ap, _∙_}
+-- The leader by the table, its members by the marks.
+use mathlib.Core.Path.{_≡_, sym, _∙_}
 use Rattle.profile.specs.Relations.{whollyIncluded}
 use Rattle.granted.specs.Granted.{inWholeGroup}
 use borrow.Author.Needs.{needs}
@@ -20,7 +20,11 @@ members-requires c κs = search needs
 
 returns : tie.Need-returns
 unfolding inWholeGroup whollyIncluded
-returns c = λ led right. simp (c .before .before .leader .ensures, c .before .included-members .ensures right, c .members .ensures .0, c .before .before .before .leader-by .ensures led)
+returns c = λ led right. simp (sym (c .before .before .before .leader .ensures) ∙ c .before .before .if1 .taken, c .before .included-members .ensures right, c .members .ensures .0, sym (c .before .before .before .before .leader-by .ensures led))
+
+returns-2 : tie.Need-returns-2
+unfolding inWholeGroup whollyIncluded
+returns-2 c = λ led right. simp (sym (c .before .leader .ensures) ∙ c .if1 .left, sym (c .before .before .leader-by .ensures led))
 
 pub in-whole-group-by-spec : {M : Type 1} → statement M
 in-whole-group-by-spec =
@@ -30,4 +34,5 @@ in-whole-group-by-spec =
     leader-requires
     included-members-requires
     members-requires
-    returns)
+    returns
+    returns-2)
