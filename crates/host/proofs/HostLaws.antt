@@ -25,7 +25,7 @@ use Rattle.listener.specs.Programme.{started}
 use Rattle.listener.specs.Calls.{opens, answerBy, notOpen, noProgramme}
 use Rattle.listener.specs.Listing.{Entry, entries, listedTracks, tooFewWords, listedBy, bufferedBy}
 use Rattle.listener.specs.StartListing.{startTracks, startNumber, startAnswer, startListed, startBuffered}
-use Rattle.listener.proofs.StartedLaws.{start-most}
+use Rattle.guarantee.proofs.MostLaws.{start-most}
 use Rattle.host.specs.HostListing.{bytesOf, tooFewBytes, hostAnswer, negated, answerNumber, hostListed, hostBuffered}
 
 -- an answer is not both

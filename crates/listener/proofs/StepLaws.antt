@@ -4,57 +4,33 @@ use mathlib.Core.Path.{_≡_, refl, sym, ap, ap₂, _∙_}
 use mathlib.Core.Bool.{Bool, true, false, cond, not, _&&_}
 use mathlib.Core.List.{List}
 use native.Mathlib.Omega.{arith}
-use borrow.Author.Tests.{lt-ltb, le-ltb, ltb-true, ltb-false}
-use lib.Dec.{eqb, leb, ltb}
+use borrow.Author.Tests.{lt-ltb, ltb-true, ltb-false}
+use lib.Dec.{eqb, ltb}
 use lib.ListN.{length, getD, replicate, List·getD-eq-default}
 use Rattle.sheet.specs.Words.{Sheet}
-use Rattle.sheet.specs.Layout.{field, number, reference, entry}
-use Rattle.sheet.specs.Fields.{programmes, objects, setList, setSpan}
-use Rattle.profile.specs.Counting.{any, howMany, lowest, every, tabulate}
-use Rattle.profile.specs.Relations.{member, members, leaderOf, includes, hasSet, namedSet, namesSet, setFor}
-use Rattle.profile.proofs.CountingLaws.{any-none, found, nothing}
-use Rattle.profile.proofs.SumLaws.{howMany-eq, any-nowhere}
+use Rattle.profile.specs.Counting.{howMany, every, tabulate}
+use Rattle.profile.specs.Relations.{member, members, leaderOf, includes}
+use Rattle.profile.proofs.SumLaws.{howMany-eq}
 use Rattle.profile.proofs.ListLaws.{length-tabulate, getD-tabulate}
 use Rattle.tables.specs.declared.Naming.the-variants.{Complements}
 use Rattle.tables.specs.Marks.{Standing, firstBy}
 use Rattle.tables.specs.Right.{Leaders}
 use Rattle.tables.proofs.MarkLaws.{nought}
-use Rattle.tables.proofs.TableLaws.{flag, lowest-any}
+use Rattle.tables.proofs.TableLaws.{flag}
 use Rattle.listener.specs.declared.Setting.{Setting}
 use Rattle.listener.specs.declared.State.{State}
 use Rattle.listener.specs.State.{stateObjects, blank, setting, active, isResting}
-use Rattle.listener.specs.Programme.{inWholeGroup}
-use Rattle.listener.specs.Sound.{soundGain, soundOffset, activeMembers, soundActivity, soundAt}
-use Rattle.listener.specs.Steps.{setPlace, flagged, flaggedMembers, flaggedActivity, flaggedSound}
-
-module _ (s : Sheet) (p o : ℕ) where
-  place-names : ltb (setPlace s p o) (number s programmes p setList) ≡ namesSet s p o
-  unfolding setPlace namesSet
-  place-names = lowest-any (λ i. hasSet s o (namedSet s p i)) (number s programmes p setList)
-
-  -- the programme names a set for the object where there is such a place
-  pub place-inside : (i n : ℕ) → i ≡ setPlace s p o → n ≡ number s programmes p setList → i < n → namesSet s p o ≡ true
-  place-inside i n e f l = sym place-names ∙ lt-ltb (setPlace s p o) (number s programmes p setList) (rw (← e, ← f) l)
-
-  pub place-outside : (i n : ℕ) → i ≡ setPlace s p o → n ≡ number s programmes p setList → n ≤ i → namesSet s p o ≡ false
-  place-outside i n e f l = sym place-names ∙ le-ltb (setPlace s p o) (number s programmes p setList) (rw (← e, ← f) l)
-
-  -- and it is the one there
-  pub place-set : namedSet s p (setPlace s p o) ≡ setFor s p o
-  unfolding setPlace setFor
-  place-set = refl
-
-  -- a set of the list is the object's
-  pub place-has : (i from many list v : ℕ) → from ≡ field s objects o setSpan → many ≡ number s objects o setSpan → list ≡ field s programmes p setList
-      → v ≡ reference s (list + i) → (leb from v && ltb v (from + many)) ≡ hasSet s o (namedSet s p i)
-  unfolding hasSet namedSet entry
-  place-has i from many list v a b c d = rw (d, a, b, c) refl
+use Rattle.granted.specs.Granted.{inWholeGroup}
+use Rattle.granted.specs.Fitting.{soundGain, soundOffset}
+use Rattle.listener.specs.Sound.{activeMembers, soundActivity, soundAt}
+use Rattle.granted.specs.Steps.{flagged, flaggedMembers, flaggedActivity}
+use Rattle.listener.specs.Steps.{flaggedSound}
 
 -- a pass over a table of noughts
 pub leaders-made : (s : Sheet) (n : ℕ) (t : List ℕ) → Standing (λ x. firstBy s Complements x (getD (replicate n 0) x 0)) t → Leaders s t
 leaders-made s n t h x l = h x l ∙ ap (firstBy s Complements x) (nought n x)
 
-every-eq : (p q : ℕ → Bool) (n : ℕ) → ((k : ℕ) → k < n → p k ≡ q k) → every p n ≡ every q n
+pub every-eq : (p q : ℕ → Bool) (n : ℕ) → ((k : ℕ) → k < n → p k ≡ q k) → every p n ≡ every q n
 unfolding every
 every-eq p q zero h = refl
 every-eq p q (suc n) h = ap₂ (λ (a b : Bool). a && b) (every-eq p q n (λ k l. h k (omega arith))) (h n (omega arith))
@@ -101,5 +77,5 @@ module _ (s : Sheet) (st : State) where
   flags-sound o = rw (flags-activity o) refl
 
   -- objects are sound by the flags where they are by the state
-  pub all-flags : every (λ o. flaggedSound s (st .programme) activeFlags o (setting st o)) stateObjects ≡ every (soundAt s st) stateObjects
-  all-flags = every-eq (λ o. flaggedSound s (st .programme) activeFlags o (setting st o)) (soundAt s st) stateObjects (λ o l. flags-sound o)
+  pub all-flags : (n : ℕ) → every (λ o. flaggedSound s (st .programme) activeFlags o (setting st o)) n ≡ every (soundAt s st) n
+  all-flags n = every-eq (λ o. flaggedSound s (st .programme) activeFlags o (setting st o)) (soundAt s st) n (λ o l. flags-sound o)

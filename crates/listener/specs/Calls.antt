@@ -24,8 +24,10 @@ use Rattle.listener.specs.declared.Answer.{Answer}
 use Rattle.listener.specs.declared.Answer.the-variants.{Done, Refused}
 use Rattle.listener.specs.declared.Reply.{Reply}
 use Rattle.listener.specs.State.{stateObjects, restingState, setting}
-use Rattle.listener.specs.Programme.{grants, inWholeGroup, started}
-use Rattle.listener.specs.Sound.{sound, gainFits, offsetFits}
+use Rattle.granted.specs.Granted.{grants, inWholeGroup}
+use Rattle.listener.specs.Programme.{started}
+use Rattle.granted.specs.Fitting.{gainFits, offsetFits}
+use Rattle.listener.specs.Sound.{sound}
 
 abbrev pub isAccepted : Verdict → Bool
 isAccepted Accepted = true

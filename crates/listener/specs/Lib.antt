@@ -6,8 +6,3 @@ pub mod Steps
 pub mod Listing
 pub mod StartListing
 pub mod Written
-pub mod Run
-pub mod Guarantee
-pub mod Played
-pub mod ScriptSheets
-pub mod Scripts

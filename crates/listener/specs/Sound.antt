@@ -2,36 +2,17 @@
 -- a wholly included group may be the active one; each included object's gain and offset is its start value or legal in its range; the
 -- rest are inactive, 0, 0." Assumes nothing.
 use Prim.Native.Nat.{ℕ}
-use mathlib.Core.Bool.{Bool, cond, _&&_, _||_}
+use mathlib.Core.Bool.{Bool, cond, _&&_}
 use lib.Dec.{eqb, ltb}
-use lib.IntN.{ℤ}
 use Rattle.sheet.specs.Words.{Sheet}
 use Rattle.sheet.specs.Layout.{count}
 use Rattle.sheet.specs.Fields.{programmes}
-use Rattle.values.specs.declared.Gain.{Gain}
-use Rattle.values.specs.declared.Sort.the-variants.{Gains, Offsets}
-use Rattle.values.specs.Signed.{signedOf}
-use Rattle.values.specs.Gain.{gainOf, gainInRange, legalGain}
-use Rattle.values.specs.Offset.{offsetInRange, legalOffset}
 use Rattle.profile.specs.Counting.{howMany, every}
 use Rattle.profile.specs.Relations.{member, members, leaderOf, includes}
+use Rattle.granted.specs.Granted.{inWholeGroup}
+use Rattle.granted.specs.Fitting.{soundGain, soundOffset}
 use Rattle.listener.specs.declared.State.{State}
-use Rattle.listener.specs.State.{stateObjects, setting, active, sameGain, sameOffset, isResting}
-use Rattle.listener.specs.Programme.{startValue, grantedMinimum, grantedMaximum, grants, inWholeGroup}
-
--- a gain is legal and in the range granted there
-unfoldable pub gainFits : Sheet → ℕ → ℕ → Gain → Bool
-gainFits s p o g = legalGain g && gainInRange (gainOf (grantedMinimum s p o Gains)) g (gainOf (grantedMaximum s p o Gains))
-
-unfoldable pub offsetFits : Sheet → ℕ → ℕ → ℤ → Bool
-offsetFits s p o z = legalOffset z && offsetInRange (signedOf (grantedMinimum s p o Offsets)) z (signedOf (grantedMaximum s p o Offsets))
-
--- "its start value or legal in its range"
-unfoldable pub soundGain : Sheet → ℕ → ℕ → Gain → Bool
-soundGain s p o g = sameGain g (gainOf (startValue s p o Gains)) || grants s p o Gains && gainFits s p o g
-
-unfoldable pub soundOffset : Sheet → ℕ → ℕ → ℤ → Bool
-soundOffset s p o z = sameOffset z (signedOf (startValue s p o Offsets)) || grants s p o Offsets && offsetFits s p o z
+use Rattle.listener.specs.State.{stateObjects, setting, active, isResting}
 
 -- how many members of a leader's group are active
 unfoldable pub activeMembers : Sheet → State → ℕ → ℕ

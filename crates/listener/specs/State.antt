@@ -4,11 +4,9 @@ use Prim.Native.Nat.{ℕ}
 use mathlib.Core.Bool.{Bool, false, cond, not, _&&_}
 use lib.Dec.{ltb}
 use lib.ListN.{getD, replicate}
-use lib.IntN.{ℤ, pos}
-use lib.Signed.{leZ}
-use Rattle.values.specs.declared.Gain.{Gain}
+use lib.IntN.{pos}
 use Rattle.values.specs.declared.Gain.the-variants.{Silent, Tenths}
-use Rattle.values.specs.Gain.{atMost}
+use Rattle.granted.specs.Fitting.{sameGain, sameOffset}
 use Rattle.listener.specs.declared.Setting.{Setting}
 use Rattle.listener.specs.declared.State.{State}
 use Rattle.listener.specs.declared.Refusal.{Refusal}
@@ -37,14 +35,6 @@ setting st o = cond (ltb o stateObjects) (getD (st .objects) o blank) blank
 -- an object is active
 unfoldable pub active : State → ℕ → Bool
 active st o = setting st o .active
-
--- two gains are the same: neither is above the other
-unfoldable pub sameGain : Gain → Gain → Bool
-sameGain g h = atMost g h && atMost h g
-
--- two offsets are the same: neither is above the other
-unfoldable pub sameOffset : ℤ → ℤ → Bool
-sameOffset x y = leZ x y && leZ y x
 
 -- a setting is "inactive, 0, 0"
 unfoldable pub isResting : Setting → Bool

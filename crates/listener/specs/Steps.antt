@@ -1,34 +1,16 @@
--- The tests of a state in the steps of the code: the place of a named set, activity by flags, objects by their settings. Assumes nothing.
+-- The tests of a state in the steps of the code: objects by their settings. Assumes nothing.
 use Prim.Native.Nat.{ℕ}
-use mathlib.Core.Bool.{Bool, cond, not, _&&_}
+use mathlib.Core.Bool.{Bool, cond, _&&_, _||_}
 use mathlib.Core.List.{List}
-use lib.Dec.{eqb}
-use lib.ListN.{getD}
+use lib.Dec.{eqb, ltb}
 use Rattle.sheet.specs.Words.{Sheet}
-use Rattle.sheet.specs.Layout.{number}
-use Rattle.sheet.specs.Fields.{programmes, setList}
-use Rattle.profile.specs.Counting.{howMany, lowest}
-use Rattle.profile.specs.Relations.{member, members, leaderOf, includes, hasSet, namedSet}
+use Rattle.profile.specs.Counting.{every}
+use Rattle.profile.specs.Relations.{leaderOf, includes}
+use Rattle.granted.specs.Fitting.{soundGain, soundOffset}
+use Rattle.granted.specs.Steps.{flaggedActivity}
 use Rattle.listener.specs.declared.Setting.{Setting}
-use Rattle.listener.specs.State.{isResting}
-use Rattle.listener.specs.Programme.{inWholeGroup}
-use Rattle.listener.specs.Sound.{soundGain, soundOffset}
-
--- where the programme's set list has the first set of the object, the list's length where it has none
-unfoldable pub setPlace : Sheet → ℕ → ℕ → ℕ
-setPlace s p o = lowest (λ i. hasSet s o (namedSet s p i)) (number s programmes p setList)
-
--- an object's flag, none past the table's end
-unfoldable pub flagged : List ℕ → ℕ → Bool
-flagged t o = not (eqb (getD t o 0) 0)
-
--- how many members of a leader's group are flagged
-unfoldable pub flaggedMembers : Sheet → List ℕ → ℕ → ℕ
-flaggedMembers s t l = howMany (λ i. flagged t (member s l i)) (members s l)
-
--- an object's activity is sound, by the flags of the active objects
-unfoldable pub flaggedActivity : Sheet → ℕ → List ℕ → ℕ → Bool
-flaggedActivity s p t o = cond (inWholeGroup s p o) (eqb (flaggedMembers s t (leaderOf s o)) 1) (flagged t o)
+use Rattle.listener.specs.declared.State.{State}
+use Rattle.listener.specs.State.{stateObjects, setting, isResting}
 
 -- an object with that setting is one of a sound state
 unfoldable pub flaggedSound : Sheet → ℕ → List ℕ → ℕ → Setting → Bool
@@ -38,3 +20,7 @@ flaggedSound s p t o x =
 -- what choosing object o makes of the setting of object q
 unfoldable pub movedFrom : Sheet → ℕ → ℕ → Setting → Setting
 movedFrom s o q x = cond (eqb (leaderOf s q) (leaderOf s o)) (record { active = eqb q o; gain = x .gain; offset = x .offset }) x
+
+-- the settings from a number on are "inactive, 0, 0"
+unfoldable pub restingFrom : State → ℕ → Bool
+restingFrom st n = every (λ o. ltb o n || isResting (setting st o)) stateObjects

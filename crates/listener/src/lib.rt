@@ -3,7 +3,6 @@
 use values::Gain;
 
 pub mod calls;
-pub mod included;
 pub mod programme;
 pub mod settings;
 pub mod sounding;

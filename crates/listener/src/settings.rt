@@ -1,10 +1,11 @@
-// Settings of a state, and when two values are the same.
+// Settings of a state.
 use crate::Setting;
 use crate::State;
+use granted::fitting::same_gain;
+use granted::fitting::same_offset;
 use values::Gain;
-use values::gains::at_most;
 ghost use mathlib.Core.Path.{_≡_};
-ghost use Rattle.listener.specs.State.{active, isResting, resting, sameGain, sameOffset, setting};
+ghost use Rattle.listener.specs.State.{active, isResting, resting, setting};
 
 // "inactive, 0, 0"
 pub fn resting() -> Setting
@@ -39,18 +40,6 @@ pub fn active(state: State, o: u16) -> bool
 {
     let x = setting(state, o);
     x.active
-}
-
-pub fn same_gain(a: Gain, b: Gain) -> bool
-    ensures { λ r. ⌜ r ≡ sameGain a b ⌝ }
-{
-    at_most(a, b) & at_most(b, a)
-}
-
-pub fn same_offset(x: i16, y: i16) -> bool
-    ensures { λ r. ⌜ r ≡ sameOffset x y ⌝ }
-{
-    (x <= y) & (y <= x)
 }
 
 // Whether a setting is "inactive, 0, 0".

@@ -1,128 +1,80 @@
-// Sound states.
+// Whether a state is sound for a sheet.
 use crate::Setting;
 use crate::State;
-use crate::included::in_whole_group_by;
-use crate::programme::granted_maximum;
-use crate::programme::granted_minimum;
-use crate::programme::grants;
-use crate::programme::start_value;
 use crate::settings::is_resting;
-use crate::settings::same_gain;
-use crate::settings::same_offset;
+use granted::activity::sound_activity;
+use granted::fitting::sound_gain;
+use granted::fitting::sound_offset;
 use relations::entries::one;
-use relations::groups::member;
-use relations::groups::members;
+use sheet::fields::CONTENT_LIST;
+use sheet::fields::CONTENT_OBJECT;
+use sheet::fields::CONTENTS;
 use sheet::fields::PROGRAMMES;
 use sheet::layout::count;
+use sheet::layout::entry;
+use sheet::layout::field;
+use sheet::layout::number;
 use tables::Naming;
 use tables::marks::first_namers;
 use tables::marks::mark_included;
 use tables::reads::included_by;
-use tables::reads::leader_by;
-use values::Gain;
-use values::Sort;
-use values::gains::gain_in_range;
-use values::gains::gain_of;
-use values::gains::legal_gain;
-use values::offset::legal_offset;
-use values::offset::offset_in_range;
-use values::signed::signed;
-ghost use mathlib.Core.Bool.{cond};
+ghost use Prim.Native.Nat.{ℕ, _<_, _≤_};
+ghost use mathlib.Core.Bool.{cond, false, true};
 ghost use mathlib.Core.Path.{_≡_};
-ghost use Rattle.listener.specs.Sound.{gainFits, offsetFits, sound, soundGain, soundOffset};
+ghost use Rattle.listener.specs.Sound.{sound};
 ghost use Rattle.listener.specs.State.{active, setting, stateObjects};
-ghost use Rattle.listener.specs.Steps.{flagged, flaggedActivity, flaggedMembers, flaggedSound};
+ghost use Rattle.listener.specs.Steps.{flaggedSound, restingFrom};
 ghost use Rattle.profile.specs.Counting.{every, tabulate};
+ghost use Rattle.profile.specs.Relations.{includes};
 ghost use Rattle.sheet.specs.Words.{sheetOf};
 ghost use Rattle.tables.specs.Right.{Included, Leaders};
 
-// A gain is legal and in the range granted there.
-pub fn gain_fits(s: &[u8], p: u16, o: u16, gain: Gain) -> bool
-    ensures { λ r. ⌜ r ≡ gainFits (sheetOf (now (s .entry))) p o gain ⌝ }
+// One more than the highest number, below 84, of an object that the programme includes; 0 where there is none.
+pub fn past_included(s: &[u8], p: u16) -> u16
+    ensures { λ r. ⌜ (r ≤ 84) × ((o : ℕ) → r ≤ o → o < 84 → includes (sheetOf (now (s .entry))) p o ≡ false) ⌝ }
 {
-    let low = gain_of(granted_minimum(s, p, o, Sort::Gains));
-    let high = gain_of(granted_maximum(s, p, o, Sort::Gains));
-    legal_gain(gain) & gain_in_range(low, gain, high)
-}
-
-pub fn offset_fits(s: &[u8], p: u16, o: u16, offset: i16) -> bool
-    ensures { λ r. ⌜ r ≡ offsetFits (sheetOf (now (s .entry))) p o offset ⌝ }
-{
-    let low = signed(granted_minimum(s, p, o, Sort::Offsets));
-    let high = signed(granted_maximum(s, p, o, Sort::Offsets));
-    legal_offset(offset) & offset_in_range(low, offset, high)
-}
-
-// "its start value or legal in its range"
-fn sound_gain(s: &[u8], p: u16, o: u16, gain: Gain) -> bool
-    ensures { λ r. ⌜ r ≡ soundGain (sheetOf (now (s .entry))) p o gain ⌝ }
-{
-    let start = gain_of(start_value(s, p, o, Sort::Gains));
-    if same_gain(gain, start) {
-        return true;
+    let n = number(s, PROGRAMMES, p, CONTENT_LIST);
+    let mut past: u16 = 0;
+    let mut i: u16 = 0;
+    while i < n {
+        let c = entry(s, PROGRAMMES, p, CONTENT_LIST, i);
+        let o = field(s, CONTENTS, c, CONTENT_OBJECT);
+        if (past <= o) & (o < 84) {
+            past = o + 1;
+        }
+        i += 1;
     }
-    grants(s, p, o, Sort::Gains) & gain_fits(s, p, o, gain)
+    past
 }
 
-fn sound_offset(s: &[u8], p: u16, o: u16, offset: i16) -> bool
-    ensures { λ r. ⌜ r ≡ soundOffset (sheetOf (now (s .entry))) p o offset ⌝ }
+// Whether the settings from a number on are "inactive, 0, 0".
+fn resting_from(state: State, n: u16) -> bool
+    requires { ⌜ n ≤ 84 ⌝ }
+    ensures { λ r. ⌜ r ≡ restingFrom state n ⌝ }
 {
-    let start = signed(start_value(s, p, o, Sort::Offsets));
-    if same_offset(offset, start) {
-        return true;
+    let mut good = true;
+    let mut o: u16 = n;
+    while o < 84 {
+        let x = state.objects[o as usize];
+        good = good & is_resting(x);
+        o += 1;
     }
-    grants(s, p, o, Sort::Offsets) & offset_fits(s, p, o, offset)
+    good
 }
 
-// 1 for each active object of a state.
-fn flags(state: State) -> [u16; 84]
-    ensures { λ r. ⌜ r ≡ tabulate (λ o. cond (active state o) 1 0) stateObjects ⌝ }
+// 1 for each active object of a state, none of which has the number n or a higher one.
+fn flags(state: State, n: u16) -> [u16; 84]
+    requires { ⌜ n ≤ 84 ⌝ }
+    ensures { λ r. ⌜ (restingFrom state n ≡ true → r ≡ tabulate (λ o. cond (active state o) 1 0) stateObjects) ⌝ }
 {
     let mut found: [u16; 84] = [0; 84];
-    let mut o: usize = 0;
-    while o < 84 {
-        let x = state.objects[o];
-        found[o] = one(x.active);
+    let mut o: u16 = 0;
+    while o < n {
+        let x = state.objects[o as usize];
+        found[o as usize] = one(x.active);
         o += 1;
     }
     found
-}
-
-// Whether an object is flagged.
-fn flagged(table: &[u16], o: u16) -> bool
-    ensures { λ r. ⌜ r ≡ flagged (now (table .entry)) o ⌝ }
-{
-    let i = o as usize;
-    if i < table.len() {
-        table[i] != 0
-    } else {
-        false
-    }
-}
-
-// How many members of a leader's group are flagged.
-fn flagged_members(s: &[u8], table: &[u16], l: u16) -> u32
-    ensures { λ r. ⌜ r ≡ flaggedMembers (sheetOf (now (s .entry))) (now (table .entry)) l ⌝ }
-{
-    let n = members(s, l);
-    let mut found: u32 = 0;
-    let mut i: u32 = 0;
-    while i < n {
-        found += one(flagged(table, member(s, l, i as u16))) as u32;
-        i += 1;
-    }
-    found
-}
-
-// "activity is as started, except that any one member of a wholly included group may be the active one"
-fn sound_activity(s: &[u8], p: u16, leaders: &[u16], marks: &[u16], active: &[u16], o: u16) -> bool
-    ensures { λ r. ⌜ (Leaders (sheetOf (now (s .entry))) (now (leaders .entry)) → Included (sheetOf (now (s .entry))) p (now (marks .entry)) → r ≡ flaggedActivity (sheetOf (now (s .entry))) p (now (active .entry)) o) ⌝ }
-{
-    if in_whole_group_by(s, p, leaders, marks, o) {
-        flagged_members(s, active, leader_by(s, leaders, o)) == 1
-    } else {
-        flagged(active, o)
-    }
 }
 
 // One object of a sound state, by its setting.
@@ -148,14 +100,15 @@ fn sound_at(
     }
 }
 
-// Whether each object is one of a sound state.
-fn sound_by(s: &[u8], state: State, leaders: &[u16], marks: &[u16], active: &[u16]) -> bool
-    ensures { λ r. ⌜ (Leaders (sheetOf (now (s .entry))) (now (leaders .entry)) → Included (sheetOf (now (s .entry))) (state .programme) (now (marks .entry)) → r ≡ every (λ o. flaggedSound (sheetOf (now (s .entry))) (state .programme) (now (active .entry)) o (setting state o)) stateObjects) ⌝ }
+// Whether each object below a number is one of a sound state.
+fn sound_by(s: &[u8], state: State, n: u16, leaders: &[u16], marks: &[u16], active: &[u16]) -> bool
+    requires { ⌜ n ≤ 84 ⌝ }
+    ensures { λ r. ⌜ (Leaders (sheetOf (now (s .entry))) (now (leaders .entry)) → Included (sheetOf (now (s .entry))) (state .programme) (now (marks .entry)) → r ≡ every (λ o. flaggedSound (sheetOf (now (s .entry))) (state .programme) (now (active .entry)) o (setting state o)) n) ⌝ }
 {
     let p = state.programme;
     let mut good = true;
     let mut o: u16 = 0;
-    while o < 84 {
+    while o < n {
         let x = state.objects[o as usize];
         good = good & sound_at(s, p, leaders, marks, active, o, x);
         o += 1;
@@ -163,15 +116,22 @@ fn sound_by(s: &[u8], state: State, leaders: &[u16], marks: &[u16], active: &[u1
     good
 }
 
-// Whether a state is sound for the sheet.
+// Whether a state is sound for the sheet. What the programme doesn't include is at rest, so it has no part in a group.
 pub fn sound(s: &[u8], state: State) -> bool
     ensures { λ r. ⌜ r ≡ sound (sheetOf (now (s .entry))) state ⌝ }
 {
     let p = state.programme;
+    if count(s, PROGRAMMES) <= p {
+        return false;
+    }
+    let n = past_included(s, p);
+    if !resting_from(state, n) {
+        return false;
+    }
     let mut leaders: [u16; 84] = [0; 84];
     first_namers(s, Naming::Complements, &mut leaders);
     let mut marks: [u16; 84] = [0; 84];
     mark_included(s, p, &mut marks);
-    let active = flags(state);
-    (p < count(s, PROGRAMMES)) & sound_by(s, state, &leaders, &marks, &active)
+    let active = flags(state, n);
+    sound_by(s, state, n, &leaders, &marks, &active)
 }

@@ -1,0 +1,2 @@
+mod PlaceLaws
+mod SameLaws

@@ -1,0 +1,37 @@
+-- One of a whole group, or the object itself. Assumes nothing.
+use mathlib.Core.Path.{_≡_, refl, sym, ap, _∙_}
+use Rattle.granted.specs.Steps.{flaggedActivity}
+use borrow.Author.Needs.{needs}
+use Rattle.granted.proofs.activity.sound_activity.Statement.{statement}
+use Rattle.granted.proofs.activity.sound_activity.Tie as tie
+
+in-whole-group-by-requires : tie.Need-in-whole-group-by-requires
+in-whole-group-by-requires c κs = search needs
+
+leader-by-requires : tie.Need-leader-by-requires
+leader-by-requires c κs = search needs
+
+flagged-members-requires : tie.Need-flagged-members-requires
+flagged-members-requires c κs = search needs
+
+flagged-requires : tie.Need-flagged-requires
+flagged-requires c κs = search needs
+
+returns : tie.Need-returns
+unfolding flaggedActivity
+returns c = λ led right. simp (sym (c .before .before .before .in-whole-group-by .ensures led right) ∙ c .before .before .if1 .taken, c .flagged-members .ensures, c .before .leader-by .ensures led)
+
+returns-2 : tie.Need-returns-2
+unfolding flaggedActivity
+returns-2 c = λ led right. simp (sym (c .before .before .in-whole-group-by .ensures led right) ∙ c .before .if1 .left, c .flagged .ensures)
+
+pub sound-activity-spec : {M : Type 1} → statement M
+sound-activity-spec =
+    tie.close
+    (tie.spec
+    in-whole-group-by-requires
+    leader-by-requires
+    flagged-members-requires
+    flagged-requires
+    returns
+    returns-2)

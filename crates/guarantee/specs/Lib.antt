@@ -1,0 +1,5 @@
+pub mod Run
+pub mod Guarantee
+pub mod Played
+pub mod ScriptSheets
+pub mod Scripts
