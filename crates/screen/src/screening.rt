@@ -18,8 +18,7 @@ use sheet::fields::TRACK_LIST;
 use sheet::fields::VALUE_SETS;
 use sheet::layout::count;
 use sheet::layout::number;
-use tables::Naming;
-use tables::marks::count_namings;
+use tables::passes::count_contents;
 use tables::passes::count_lists;
 use tables::passes::count_tops;
 use tables::passes::first_lists;
@@ -95,7 +94,7 @@ fn screened(
     }
     count_tops(s, tops, named);
     count_lists(s, named, complements, spanned);
-    count_namings(s, Naming::ContentLists, listed);
+    count_contents(s, listed);
     if !records_pass(s, named, listed, tops, complements) {
         return false;
     }

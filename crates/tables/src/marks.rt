@@ -63,7 +63,7 @@ fn mark_span(from: u16, n: u16, mark: Mark, table: &mut [u16])
 }
 
 // Marks the entries of a list: n entries of section 6, whose offset is `base`, from `first` on.
-fn mark_list(s: &[u8], base: u16, first: u16, n: u16, mark: Mark, table: &mut [u16])
+pub fn mark_list(s: &[u8], base: u16, first: u16, n: u16, mark: Mark, table: &mut [u16])
     ensures { λ r. ⌜ (length (now (table .exit)) ≡ length (now (table .entry))) × Standing (λ x. repeat (marked mark) (howMany (λ j. eqb (word (sheetOf (now (s .entry))) (base + (first + j))) x) n) (getD (now (table .entry)) x 0)) (now (table .exit)) ⌝ }
 {
     let mut i: u16 = 0;

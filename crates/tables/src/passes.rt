@@ -1,24 +1,29 @@
-// Passes over the contents or the objects that fill several tables at once.
+// The passes of the screening: each fills its tables, some several at once.
 use crate::Mark;
 use crate::Naming;
 use crate::marks::mark_at;
 use crate::marks::mark_items;
+use crate::marks::mark_list;
 use sheet::fields::CHILD_LIST;
 use sheet::fields::COMPLEMENT_LIST;
+use sheet::fields::CONTENT_LIST;
 use sheet::fields::CONTENT_OBJECT;
 use sheet::fields::CONTENTS;
 use sheet::fields::OBJECTS;
+use sheet::fields::PROGRAMMES;
+use sheet::fields::REFERENCES;
 use sheet::fields::SET_SPAN;
 use sheet::layout::count;
 use sheet::layout::field;
 use sheet::layout::number;
+use sheet::layout::offset;
 ghost use lib.ListN.{getD, length};
 ghost use mathlib.Core.Path.{_≡_};
 ghost use Rattle.sheet.specs.Words.{sheetOf};
 ghost use Rattle.tables.specs.Namings.{items};
 ghost use Rattle.tables.specs.Marks.{Standing, firstBy, marked, namedBy, repeat, timesBy};
 ghost use Rattle.tables.specs.declared.Mark.the-variants.{Count};
-ghost use Rattle.tables.specs.declared.Naming.the-variants.{Children, Complements, ContentObjects, SetSpans};
+ghost use Rattle.tables.specs.declared.Naming.the-variants.{Children, Complements, ContentLists, ContentObjects, SetSpans};
 
 // Counts the object that a content names.
 fn count_object(s: &[u8], q: u16, table: &mut [u16])
@@ -50,6 +55,26 @@ pub fn count_tops(s: &[u8], tops: &mut [u16], named: &mut [u16])
     while q < n {
         count_object(s, q, tops);
         count_object(s, q, named);
+        q += 1;
+    }
+}
+
+// Counts how often content lists name each content.
+pub fn count_contents(s: &[u8], listed: &mut [u16])
+    ensures { λ r. ⌜ (length (now (listed .exit)) ≡ length (now (listed .entry))) × Standing (λ x. repeat (marked Count) (namedBy (sheetOf (now (s .entry))) ContentLists x) (getD (now (listed .entry)) x 0)) (now (listed .exit)) ⌝ }
+{
+    let base = offset(s, REFERENCES);
+    let n = count(s, PROGRAMMES);
+    let mut q: u16 = 0;
+    while q < n {
+        mark_list(
+            s,
+            base,
+            field(s, PROGRAMMES, q, CONTENT_LIST),
+            number(s, PROGRAMMES, q, CONTENT_LIST),
+            Mark::Count,
+            listed,
+        );
         q += 1;
     }
 }
