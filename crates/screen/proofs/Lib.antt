@@ -1,5 +1,6 @@
 mod NoughtLaws
 mod ObjectLaws
+mod PackLaws
 mod RisingLaws
 mod ScreenedLaws
 mod SetLaws

@@ -12,7 +12,7 @@ use Rattle.sheet.specs.Fields.{objects, packs, tracks, references, valueSets, o
 use Rattle.values.specs.declared.Sort.the-variants.{Gains, Offsets}
 use Rattle.values.specs.Values.{isAbsent}
 use Rattle.profile.specs.Counting.{any, howMany}
-use Rattle.profile.specs.Limits.{exceeds, limit}
+use Rattle.profile.specs.Limits.{exceeds, limit, childrenLimit, complementsLimit, spanLimit}
 use Rattle.profile.specs.Relations.{leader, hasPack, packOf, hasChildren, hasObjectsPack, hasFrontPack, channels, trackAt, ownValue, setValue, effectiveValue, effectiveMinimum, effectiveMaximum}
 use Rattle.profile.specs.Rules.{beyond, lacks, listLacks, badWords, leaves, badComplement, differs, badSet, badSetWords, setRange, setLeaves, badObject, badObjectWords, objectRange, objectLeaves, rule4, rule5, rule6, rule8, rule11, rule13, rule14, rule15, rule16, rule17, rule18, rule19, rule20}
 use Rattle.profile.proofs.BoolLaws.{or-false, or-none, or-none-3, or-none-4, and-both, and-second}
@@ -54,6 +54,16 @@ or-none-8 a b c d e f g h q =
     let l = or-none (a || b || c || d || e || f || g) h q in
     let m = or-none-7 a b c d e f g (l .0) in
     (m .0, m .1, m .2, m .3, m .4, m .5, m .6, l .1)
+
+-- the lists and the span, one after the other
+pub lists-in-turn : (s : Sheet) (o : ℕ) → ltb (count s references) (first s objects o trackList + number s objects o trackList) ≡ false → (ltb (count s references) (first s objects o childList + number s objects o childList) || exceeds s childrenLimit (number s objects o childList)) ≡ false
+    → (ltb (count s references) (first s objects o complementList + number s objects o complementList) || exceeds s complementsLimit (number s objects o complementList)) ≡ false → (ltb (count s valueSets) (first s objects o setSpan + number s objects o setSpan) || exceeds s spanLimit (number s objects o setSpan)) ≡ false → objectListsBroken s o ≡ false
+unfolding objectListsBroken
+lists-in-turn s o tracks children complements sets =
+    let c = or-none (ltb (count s references) (first s objects o childList + number s objects o childList)) (exceeds s childrenLimit (number s objects o childList)) children in
+    let d = or-none (ltb (count s references) (first s objects o complementList + number s objects o complementList)) (exceeds s complementsLimit (number s objects o complementList)) complements in
+    let e = or-none (ltb (count s valueSets) (first s objects o setSpan + number s objects o setSpan)) (exceeds s spanLimit (number s objects o setSpan)) sets in
+    rw (tracks, c .0, c .1, d .0, d .1, e .0, e .1) refl
 
 pub lists-kept : (s : Sheet) (o : ℕ) → objectListsBroken s o ≡ false → (rule4 s objects o ≡ false) × (rule8 s objects o ≡ false)
 unfolding objectListsBroken rule4 beyond rule8

@@ -33,9 +33,10 @@ use tables::reads::top_by;
 use values::Sort;
 use values::values::is_absent;
 use values::values::or_else;
-ghost use Prim.Native.Nat.{_<_};
+ghost use Prim.Native.Nat.{_+_, _<_};
+ghost use lib.Dec.{ltb};
 ghost use lib.ListN.{getD, length};
-ghost use mathlib.Core.Bool.{false, true};
+ghost use mathlib.Core.Bool.{false, true, _||_};
 ghost use mathlib.Core.Path.{_≡_};
 ghost use Rattle.profile.specs.Limits.{exceeds};
 ghost use Rattle.profile.specs.Relations.{packOf};
@@ -56,22 +57,35 @@ fn exceeding(s: &[u8], column: u8, n: u16) -> bool
     exceeds(s, column, n as u64)
 }
 
-// The lists and the span of an object, whose words begin at an index: rules 4 and 8.
+// A list or span of n that ends beyond a section of so many records, or is above a limit.
+fn list_breaks(s: &[u8], many: u16, first: u16, n: u16, column: u8) -> bool
+    ensures { λ r. ⌜ r ≡ (ltb many (first + n) || exceeds (sheetOf (now (s .entry))) column n) ⌝ }
+{
+    beyond(many, first, n) | exceeding(s, column, n)
+}
+
+// Whether a list or the span of an object, whose words begin at an index, may break rule 4 or 8.
 fn object_lists_break(s: &[u8], at: usize, o: u16) -> bool
     requires { ⌜ (at ≡ start (sheetOf (now s)) objects o) × (at < 2199023255552) ⌝ }
-    ensures { λ r. ⌜ r ≡ objectListsBroken (sheetOf (now (s .entry))) o ⌝ }
+    ensures { λ r. ⌜ (r ≡ false → objectListsBroken (sheetOf (now (s .entry))) o ≡ false) ⌝ }
 {
     let many = count(s, REFERENCES);
-    let children = word(s, at + 4);
-    let complements = word(s, at + 6);
-    let sets = word(s, at + 15);
-    beyond(many, word(s, at + 1), word(s, at + 2))
-        | beyond(many, word(s, at + 3), children)
-        | beyond(many, word(s, at + 5), complements)
-        | beyond(count(s, VALUE_SETS), word(s, at + 14), sets)
-        | exceeding(s, CHILDREN_LIMIT, children)
-        | exceeding(s, COMPLEMENTS_LIMIT, complements)
-        | exceeding(s, SPAN_LIMIT, sets)
+    if beyond(many, word(s, at + 1), word(s, at + 2)) {
+        return true;
+    }
+    if list_breaks(s, many, word(s, at + 3), word(s, at + 4), CHILDREN_LIMIT) {
+        return true;
+    }
+    if list_breaks(s, many, word(s, at + 5), word(s, at + 6), COMPLEMENTS_LIMIT) {
+        return true;
+    }
+    list_breaks(
+        s,
+        count(s, VALUE_SETS),
+        word(s, at + 14),
+        word(s, at + 15),
+        SPAN_LIMIT,
+    )
 }
 
 // Whether a pack is one of kind 3 with front 1.
@@ -244,7 +258,13 @@ pub fn object_breaks(s: &[u8], named: &[u16], tops: &[u16], complements: &[u16],
         return true;
     }
     let pack = pack_of(s, o);
-    if object_lists_break(s, at, o) | source_breaks(s, at, o, pack) | !named_once(named, o) {
+    if object_lists_break(s, at, o) {
+        return true;
+    }
+    if source_breaks(s, at, o, pack) {
+        return true;
+    }
+    if !named_once(named, o) {
         return true;
     }
     if is_plain(s, at, o) {

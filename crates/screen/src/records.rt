@@ -2,13 +2,13 @@
 use crate::objects::object_breaks;
 use crate::speech::content_breaks;
 use crate::speech::programme_breaks;
+use profile::limits::CHANNELS_LIMIT;
+use profile::limits::exceeds;
 use relations::objects::lacks;
 use rules::header::rule1;
 use rules::header::rule2;
 use rules::header::rule3;
 use rules::limits::rule7;
-use rules::limits::rule10;
-use rules::words::bad_pack;
 use sheet::fields::CONTENTS;
 use sheet::fields::OBJECTS;
 use sheet::fields::PACKS;
@@ -17,6 +17,9 @@ use sheet::fields::TRACK_PACK;
 use sheet::fields::TRACKS;
 use sheet::layout::count;
 use sheet::layout::field;
+use sheet::layout::start;
+use sheet::words::word;
+use sheet::words::word_count;
 ghost use Prim.Native.Nat.{ℕ, _<_};
 ghost use lib.Dec.{eqb};
 ghost use lib.ListN.{getD, length};
@@ -108,6 +111,23 @@ fn objects_keep(s: &[u8], named: &[u16], tops: &[u16], complements: &[u16]) -> b
     true
 }
 
+// Whether a pack may break rule 6 or 10. The first test spares one for each word.
+fn pack_breaks(s: &[u8], k: u16) -> bool
+    ensures { λ r. ⌜ (r ≡ false → (rule6 (sheetOf (now (s .entry))) packs k || rule10 (sheetOf (now (s .entry))) packs k) ≡ false) ⌝ }
+{
+    let at = start(s, PACKS, k as u32);
+    if word_count(s) < at + 3 {
+        return true;
+    }
+    let kind = word(s, at);
+    let channels = word(s, at + 1);
+    let front = word(s, at + 2);
+    if kind == 3 {
+        return (1 < front) | (channels != 1);
+    }
+    (kind != 1) | (1 < front) | (channels < 1) | exceeds(s, CHANNELS_LIMIT, channels as u64)
+}
+
 // Whether no pack breaks one.
 fn packs_keep(s: &[u8]) -> bool
     ensures { λ r. ⌜ (r ≡ true → any (λ k. rule6 (sheetOf (now (s .entry))) packs k || rule10 (sheetOf (now (s .entry))) packs k) (count (sheetOf (now (s .entry))) packs) ≡ false) ⌝ }
@@ -115,7 +135,7 @@ fn packs_keep(s: &[u8]) -> bool
     let n = count(s, PACKS);
     let mut k: u16 = 0;
     while k < n {
-        if bad_pack(s, k) | rule10(s, PACKS, k) {
+        if pack_breaks(s, k) {
             return false;
         }
         k += 1;

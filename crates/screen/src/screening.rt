@@ -21,7 +21,6 @@ use sheet::layout::number;
 use tables::passes::count_contents;
 use tables::passes::count_lists;
 use tables::passes::count_tops;
-use tables::passes::first_lists;
 ghost use Prim.Native.Nat.{_≤_};
 ghost use mathlib.Core.Bool.{true};
 ghost use mathlib.Core.Path.{_≡_};
@@ -93,7 +92,7 @@ fn screened(
         return false;
     }
     count_tops(s, tops, named);
-    count_lists(s, named, complements, spanned);
+    count_lists(s, named, complements, spanned, leaders, owners);
     count_contents(s, listed);
     if !records_pass(s, named, listed, tops, complements) {
         return false;
@@ -104,7 +103,6 @@ fn screened(
     if totals_break(s, tops, complements) {
         return false;
     }
-    first_lists(s, leaders, owners);
     programmes_pass(s, owners, leaders, named, tops, complements, listed)
 }
 

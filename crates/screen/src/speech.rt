@@ -28,13 +28,17 @@ ghost use Rattle.sheet.specs.Words.{sheetOf};
 // A list of so many labels is compared by pairs; a longer one is left to the search.
 const LONGEST: u16 = 48;
 
+// The language and the loudness of a content without labels.
+fn unlabelled_breaks(s: &[u8], lang: u16, first: u16, loud: u16) -> bool
+    ensures { λ r. ⌜ r ≡ speechBroken (sheetOf (now (s .entry))) lang first 0 loud ⌝ }
+{
+    beyond(count(s, REFERENCES), first, 0) | (!language(lang) | !loudness(loud))
+}
+
 // The language, the labels and the loudness of a programme or content.
-fn speech_breaks(s: &[u8], lang: u16, first: u16, n: u16, loud: u16) -> bool
+fn labelled_breaks(s: &[u8], lang: u16, first: u16, n: u16, loud: u16) -> bool
     ensures { λ r. ⌜ r ≡ speechBroken (sheetOf (now (s .entry))) lang first n loud ⌝ }
 {
-    if n == 0 {
-        return beyond(count(s, REFERENCES), first, n) | (!language(lang) | !loudness(loud));
-    }
     let base = offset(s, REFERENCES);
     if labels_rise(s, base, first, n) {
         return beyond(count(s, REFERENCES), first, n)
@@ -59,8 +63,13 @@ pub fn content_breaks(s: &[u8], k: u16) -> bool
     if LONGEST < n {
         return true;
     }
-    speech_breaks(s, word(s, at), word(s, at + 2), n, word(s, at + 4))
-        | (count(s, OBJECTS) <= word(s, at + 1))
+    if count(s, OBJECTS) <= word(s, at + 1) {
+        return true;
+    }
+    if n == 0 {
+        return unlabelled_breaks(s, word(s, at), word(s, at + 2), word(s, at + 4));
+    }
+    labelled_breaks(s, word(s, at), word(s, at + 2), n, word(s, at + 4))
 }
 
 // The content list and the set list of a programme.
@@ -89,7 +98,7 @@ pub fn programme_breaks(s: &[u8], k: u16) -> bool
     if LONGEST < n {
         return true;
     }
-    speech_breaks(s, word(s, at), word(s, at + 5), n, word(s, at + 7))
+    labelled_breaks(s, word(s, at), word(s, at + 5), n, word(s, at + 7))
         | programme_lists_break(
             s,
             word(s, at + 1),

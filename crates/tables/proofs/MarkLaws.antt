@@ -14,7 +14,7 @@ use Rattle.sheet.specs.Words.{Sheet}
 use Rattle.profile.specs.Counting.{any, howMany, sum}
 use Rattle.profile.proofs.CountingLaws.{any-howMany}
 use Rattle.tables.specs.declared.Naming.{Naming}
-use Rattle.tables.specs.declared.Mark.the-variants.{Count, Store}
+use Rattle.tables.specs.declared.Mark.the-variants.{Count, Store, First}
 use Rattle.tables.specs.Namings.{items, item}
 use Rattle.tables.specs.Marks.{Standing, marked, repeat, timesBy, namesBy, firstFrom}
 
@@ -105,6 +105,64 @@ first-more s kind t₀ t t′ q n long before now x l =
     swap : (b : Bool) (c d : ℕ) → cond b c d ≡ cond (not b) d c
     swap true c d = refl
     swap false c d = refl
+
+-- one more is not 0
+above-zero : (n : ℕ) → eqb (suc n) 0 ≡ false
+above-zero n = ne-eqb (suc n) 0 (λ q. let z : suc n ≡ 0 = q in omega arith)
+
+-- the first of n numbers and of one more
+first-then : (p : ℕ → Bool) (i n : ℕ) → firstFrom p 0 i (suc n) ≡ cond (eqb (firstFrom p 0 i n) 0) (cond (p (i + n)) (suc (i + n)) 0) (firstFrom p 0 i n)
+unfolding firstFrom
+first-then p i zero = ap (λ (m : ℕ). cond (p m) (suc m) 0) (sym (add-zero i))
+first-then p i (suc n) =
+    let e : suc i + n ≡ i + suc n = omega arith in
+    (elim (p i) as (λ b. cond b (suc i) (firstFrom p 0 (suc i) (suc n)) ≡ cond (eqb (cond b (suc i) (firstFrom p 0 (suc i) n)) 0) (cond (p (i + suc n)) (suc (i + suc n)) 0) (cond b (suc i) (firstFrom p 0 (suc i) n))) [
+      | true ↦ rw (above-zero i) refl
+      | false ↦ first-then p (suc i) n ∙ ap (λ (m : ℕ). cond (eqb (firstFrom p 0 (suc i) n) 0) (cond (p m) (suc m) 0) (firstFrom p 0 (suc i) n)) e
+    ])
+
+-- a number written where 0 stands, and again
+written-again : (v c : ℕ) → cond (eqb (cond (eqb c 0) (suc v) c) 0) (suc v) (cond (eqb c 0) (suc v) c) ≡ cond (eqb c 0) (suc v) c
+written-again v c =
+    (elim (eqb c 0) as (λ b. eqb c 0 ≡ b → cond (eqb (cond b (suc v) c) 0) (suc v) (cond b (suc v) c) ≡ cond b (suc v) c) [
+      | true ↦ λ e. rw (above-zero v) refl
+      | false ↦ λ e. rw e refl
+    ]) refl
+
+-- so many times
+repeat-first : (v n c : ℕ) → repeat (marked (First (suc v))) n c ≡ cond (eqb n 0) c (cond (eqb c 0) (suc v) c)
+unfolding repeat
+repeat-first v zero c = refl
+repeat-first v (suc zero) c = refl
+repeat-first v (suc (suc n)) c =
+    rw (above-zero (suc n)) (ap (λ (w : ℕ). cond (eqb w 0) (suc v) w) (repeat-first v (suc n) c ∙ ap (λ (b : Bool). cond b c (cond (eqb c 0) (suc v) c)) (above-zero n)) ∙ written-again v c)
+
+-- one record more, which leaves what an earlier one wrote
+pub first-next : (s : Sheet) (kind : Naming) (t t′ : List ℕ) (q : ℕ) → length t′ ≡ length t → Standing (λ x. firstFrom (λ j. namesBy s kind j x) 0 0 q) t
+    → Standing (λ x. repeat (marked (First (suc q))) (timesBy s kind q x) (getD t x 0)) t′ → Standing (λ x. firstFrom (λ j. namesBy s kind j x) 0 0 (q + 1)) t′
+unfolding namesBy timesBy
+first-next s kind t t′ q long before now x l =
+    now x l
+    ∙ repeat-first q (timesBy s kind q x) (getD t x 0)
+    ∙ ap (λ (c : ℕ). cond (eqb (timesBy s kind q x) 0) c (cond (eqb c 0) (suc q) c)) (before x (rw long at l))
+    ∙ kept (timesBy s kind q x) (firstFrom (λ j. namesBy s kind j x) 0 0 q)
+    ∙ ap (λ (b : Bool). cond (eqb (firstFrom (λ j. namesBy s kind j x) 0 0 q) 0) (cond b (suc q) 0) (firstFrom (λ j. namesBy s kind j x) 0 0 q)) (sym (any-howMany (λ i. eqb (item s kind q i) x) (items s kind q)))
+    ∙ ap (λ (m : ℕ). cond (eqb (firstFrom (λ j. namesBy s kind j x) 0 0 q) 0) (cond (namesBy s kind m x) (suc m) 0) (firstFrom (λ j. namesBy s kind j x) 0 0 q)) from-zero
+    ∙ sym (first-then (λ j. namesBy s kind j x) 0 q)
+    ∙ ap (firstFrom (λ j. namesBy s kind j x) 0 0) (sym (add-one q))
+  where
+    from-zero : q ≡ 0 + q
+    from-zero = omega arith
+
+    kept : (n c : ℕ) → cond (eqb n 0) c (cond (eqb c 0) (suc q) c) ≡ cond (eqb c 0) (cond (not (eqb n 0)) (suc q) 0) c
+    kept n c =
+        (elim (eqb n 0) as (λ a. cond a c (cond (eqb c 0) (suc q) c) ≡ cond (eqb c 0) (cond (not a) (suc q) 0) c) [
+          | true ↦ (elim (eqb c 0) as (λ b. eqb c 0 ≡ b → c ≡ cond b 0 c) [
+            | true ↦ λ e. eqb-true c 0 e
+            | false ↦ λ e. refl
+          ]) refl
+          | false ↦ refl
+        ])
 
 -- a table of noughts
 pub nought : (n x : ℕ) → _≡_ {A = ℕ} (getD (replicate n 0) x 0) 0

@@ -9,7 +9,7 @@ use Rattle.sheet.specs.Words.{Sheet}
 use Rattle.profile.specs.Counting.{any, howMany, sum}
 use Rattle.tables.specs.declared.Naming.{Naming}
 use Rattle.tables.specs.declared.Mark.{Mark}
-use Rattle.tables.specs.declared.Mark.the-variants.{Count, Store}
+use Rattle.tables.specs.declared.Mark.the-variants.{Count, Store, First}
 use Rattle.tables.specs.Namings.{namers, items, item}
 
 -- the table has g at each index
@@ -20,6 +20,7 @@ Standing g t = (x : ℕ) → x < length t → getD t x 0 ≡ g x
 abbrev pub marked : Mark → ℕ → ℕ
 marked Count c = cond (eqb c 0) 1 2
 marked (Store v) c = v
+marked (First v) c = cond (eqb c 0) v c
 
 -- f, so many times
 unfoldable pub repeat : (ℕ → ℕ) → ℕ → ℕ → ℕ

@@ -31,4 +31,6 @@ pub enum Mark {
     Count,
     // this number is written there
     Store(u16),
+    // this number is written there, where 0 stands
+    First(u16),
 }

@@ -38,6 +38,7 @@ pub fn after(mark: Mark, c: u16) -> u16
     match mark {
         Mark::Count => if c == 0 { 1 } else { 2 },
         Mark::Store(v) => v,
+        Mark::First(v) => if c == 0 { v } else { c },
     }
 }
 

@@ -17,12 +17,13 @@ use sheet::layout::count;
 use sheet::layout::field;
 use sheet::layout::number;
 use sheet::layout::offset;
+ghost use Prim.Native.Nat.{suc, _<_};
 ghost use lib.ListN.{getD, length};
 ghost use mathlib.Core.Path.{_≡_};
 ghost use Rattle.sheet.specs.Words.{sheetOf};
 ghost use Rattle.tables.specs.Namings.{items};
 ghost use Rattle.tables.specs.Marks.{Standing, firstBy, marked, namedBy, repeat, timesBy};
-ghost use Rattle.tables.specs.declared.Mark.the-variants.{Count};
+ghost use Rattle.tables.specs.declared.Mark.the-variants.{Count, First};
 ghost use Rattle.tables.specs.declared.Naming.the-variants.{Children, Complements, ContentLists, ContentObjects, SetSpans};
 
 // Counts the object that a content names.
@@ -79,9 +80,28 @@ pub fn count_contents(s: &[u8], listed: &mut [u16])
     }
 }
 
-// Counts how often child lists and complement lists name each object, and in how many spans each value set is.
-pub fn count_lists(s: &[u8], named: &mut [u16], complements: &mut [u16], spanned: &mut [u16])
-    ensures { λ r. ⌜ (length (now (named .exit)) ≡ length (now (named .entry))) × Standing (λ x. repeat (marked Count) (namedBy (sheetOf (now (s .entry))) Children x) (getD (now (named .entry)) x 0)) (now (named .exit)) × (length (now (complements .exit)) ≡ length (now (complements .entry))) × Standing (λ x. repeat (marked Count) (namedBy (sheetOf (now (s .entry))) Complements x) (getD (now (complements .entry)) x 0)) (now (complements .exit)) × (length (now (spanned .exit)) ≡ length (now (spanned .entry))) × Standing (λ x. repeat (marked Count) (namedBy (sheetOf (now (s .entry))) SetSpans x) (getD (now (spanned .entry)) x 0)) (now (spanned .exit)) ⌝ }
+// Counts the n records that a record names, mostly none, and keeps its own number, one more, where it is the first to name one.
+fn mark_both(s: &[u8], kind: Naming, q: u16, n: u16, counts: &mut [u16], firsts: &mut [u16])
+    requires { ⌜ (n ≡ items (sheetOf (now s)) kind q) × (q < 65535) ⌝ }
+    ensures { λ r. ⌜ (length (now (counts .exit)) ≡ length (now (counts .entry))) × Standing (λ x. repeat (marked Count) (timesBy (sheetOf (now (s .entry))) kind q x) (getD (now (counts .entry)) x 0)) (now (counts .exit)) × (length (now (firsts .exit)) ≡ length (now (firsts .entry))) × Standing (λ x. repeat (marked (First (suc q))) (timesBy (sheetOf (now (s .entry))) kind q x) (getD (now (firsts .entry)) x 0)) (now (firsts .exit)) ⌝ }
+{
+    if n != 0 {
+        mark_items(s, kind, q, Mark::Count, counts);
+        mark_items(s, kind, q, Mark::First(q + 1), firsts);
+    }
+}
+
+// Counts how often child lists and complement lists name each object, and in how many spans each value set is; and writes for each
+// object one more than the number of its group's leader, for each value set one more than that of its object, into tables of noughts.
+pub fn count_lists(
+    s: &[u8],
+    named: &mut [u16],
+    complements: &mut [u16],
+    spanned: &mut [u16],
+    leaders: &mut [u16],
+    owners: &mut [u16],
+)
+    ensures { λ r. ⌜ (length (now (named .exit)) ≡ length (now (named .entry))) × Standing (λ x. repeat (marked Count) (namedBy (sheetOf (now (s .entry))) Children x) (getD (now (named .entry)) x 0)) (now (named .exit)) × (length (now (complements .exit)) ≡ length (now (complements .entry))) × Standing (λ x. repeat (marked Count) (namedBy (sheetOf (now (s .entry))) Complements x) (getD (now (complements .entry)) x 0)) (now (complements .exit)) × (length (now (spanned .exit)) ≡ length (now (spanned .entry))) × Standing (λ x. repeat (marked Count) (namedBy (sheetOf (now (s .entry))) SetSpans x) (getD (now (spanned .entry)) x 0)) (now (spanned .exit)) × (length (now (leaders .exit)) ≡ length (now (leaders .entry))) × (Standing (λ x. 0) (now (leaders .entry)) → Standing (λ x. firstBy (sheetOf (now (s .entry))) Complements x 0) (now (leaders .exit))) × (length (now (owners .exit)) ≡ length (now (owners .entry))) × (Standing (λ x. 0) (now (owners .entry)) → Standing (λ x. firstBy (sheetOf (now (s .entry))) SetSpans x 0) (now (owners .exit))) ⌝ }
 {
     let n = count(s, OBJECTS);
     let mut q: u16 = 0;
@@ -94,49 +114,22 @@ pub fn count_lists(s: &[u8], named: &mut [u16], complements: &mut [u16], spanned
             Mark::Count,
             named,
         );
-        mark_some(
+        mark_both(
             s,
             Naming::Complements,
             q,
             number(s, OBJECTS, q, COMPLEMENT_LIST),
-            Mark::Count,
             complements,
+            leaders,
         );
-        mark_some(
+        mark_both(
             s,
             Naming::SetSpans,
             q,
             number(s, OBJECTS, q, SET_SPAN),
-            Mark::Count,
             spanned,
-        );
-        q += 1;
-    }
-}
-
-// Writes for each object one more than the number of its group's leader, and for each value set one more than that of its object; where
-// there is none, what stood there stays.
-pub fn first_lists(s: &[u8], leaders: &mut [u16], owners: &mut [u16])
-    ensures { λ r. ⌜ (length (now (leaders .exit)) ≡ length (now (leaders .entry))) × Standing (λ x. firstBy (sheetOf (now (s .entry))) Complements x (getD (now (leaders .entry)) x 0)) (now (leaders .exit)) × (length (now (owners .exit)) ≡ length (now (owners .entry))) × Standing (λ x. firstBy (sheetOf (now (s .entry))) SetSpans x (getD (now (owners .entry)) x 0)) (now (owners .exit)) ⌝ }
-{
-    let mut q: u16 = count(s, OBJECTS);
-    while 0 < q {
-        mark_some(
-            s,
-            Naming::Complements,
-            q - 1,
-            number(s, OBJECTS, q - 1, COMPLEMENT_LIST),
-            Mark::Store(q),
-            leaders,
-        );
-        mark_some(
-            s,
-            Naming::SetSpans,
-            q - 1,
-            number(s, OBJECTS, q - 1, SET_SPAN),
-            Mark::Store(q),
             owners,
         );
-        q -= 1;
+        q += 1;
     }
 }

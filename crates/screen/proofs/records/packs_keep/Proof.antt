@@ -1,16 +1,14 @@
 -- No pack passed breaks one. Assumes nothing.
-use Prim.Native.Nat.{ℕ, _+_, _-_, _*_, _<_, _≤_}
+use Prim.Native.Nat.{ℕ, _+_, _-_, _≤_}
 use mathlib.Core.Path.{_≡_, refl, sym, ap, _∙_}
-use mathlib.Core.Bool.{true, false, not, true≢false, _&&_, _||_}
-use native.Mathlib.Omega.{arith}
-use native.Mathlib.Numerals.{add-one}
+use mathlib.Core.Bool.{true, false, not, true≢false, _||_}
 use Rattle.sheet.specs.Words.{sheetOf}
 use borrow.Author.Needs.{needs}
+use native.Mathlib.Omega.{arith}
+use native.Mathlib.Numerals.{add-one}
 use Rattle.profile.specs.Counting.{any}
-use lib.Dec.{eqb, leb, ltb}
-use Rattle.profile.specs.Rules.{rule5, rule6, rule10, rule12}
-use Rattle.sheet.specs.Fields.{contents, objects, packs, programmes, tracks}
-use Rattle.profile.proofs.BoolLaws.{or-none, or-false}
+use Rattle.profile.specs.Rules.{rule6, rule10}
+use Rattle.sheet.specs.Fields.{packs}
 use Rattle.screen.proofs.records.packs_keep.Statement.{statement}
 use Rattle.screen.proofs.records.packs_keep.Tie as tie
 
@@ -27,11 +25,8 @@ loop-holds : tie.Need-loop-holds Inv-loop μ-loop
 unfolding any
 loop-holds c = (search needs, refl)
 
-bad-pack-requires : tie.Need-bad-pack-requires Inv-loop μ-loop
-bad-pack-requires c κs = search needs
-
-rule10-requires : tie.Need-rule10-requires Inv-loop μ-loop
-rule10-requires c κs = search needs
+pack-breaks-requires : tie.Need-pack-breaks-requires Inv-loop μ-loop
+pack-breaks-requires c κs = search needs
 
 returns : tie.Need-returns Inv-loop μ-loop
 returns c = λ e. absurd (true≢false (sym e))
@@ -43,8 +38,8 @@ loop-less : tie.Need-loop-less Inv-loop μ-loop
 loop-less c = search needs
 
 loop-again : tie.Need-loop-again Inv-loop μ-loop
-unfolding any rule6
-loop-again c = (search needs, let p = or-none (c .before .before .bad-pack .result) (c .before .rule10 .result) (c .if1 .left) in rw (add-one, c .before .before .before .before .loop .inv .1, sym (c .before .before .bad-pack .ensures) ∙ p .0, sym (c .before .rule10 .ensures) ∙ p .1) refl)
+unfolding any
+loop-again c = (search needs, rw (add-one, c .before .before .before .loop .inv .1, c .before .pack-breaks .ensures (c .if1 .left)) refl)
 
 returns-2 : tie.Need-returns-2 Inv-loop μ-loop
 returns-2 c = let h : c .before .loop .k ≡ c .before .before .count .result = omega arith in λ e. sym (ap (any _) (h ∙ c .before .before .count .ensures)) ∙ c .before .loop .inv .1
@@ -57,8 +52,7 @@ packs-keep-spec =
     μ-loop
     count-requires
     loop-holds
-    bad-pack-requires
-    rule10-requires
+    pack-breaks-requires
     returns
     add-k
     loop-less

@@ -1,10 +1,11 @@
--- The words are those of the record. Assumes nothing.
-use Prim.Native.Nat.{_+_}
-use mathlib.Core.Path.{_≡_, sym, _∙_}
-use mathlib.Core.Bool.{false, true≢false, _||_}
-use lib.Dec.{leb}
-use Rattle.profile.proofs.BoolLaws.{or-none}
+-- The words are those of the content. Assumes nothing.
+use Prim.Native.Nat.{ℕ, _+_, _-_, _≤_}
+use mathlib.Core.Path.{_≡_, refl, sym, ap, _∙_}
+use mathlib.Core.Bool.{true, false, not, true≢false, _||_}
 use Rattle.sheet.specs.Words.{sheetOf}
+use lib.Dec.{eqb, leb, ltb}
+use borrow.Author.Tests.{lt-leb}
+use Rattle.screen.specs.Screened.{speechBroken}
 use Rattle.screen.proofs.SpeechLaws.{content-kept}
 use borrow.Author.Needs.{needs}
 use Rattle.screen.proofs.speech.content_breaks.Statement.{statement}
@@ -31,11 +32,17 @@ word-requires c κs = search needs
 returns-2 : tie.Need-returns-2
 returns-2 c = λ e. absurd (true≢false e)
 
-word-requires-2 : tie.Need-word-requires-2
-word-requires-2 c κs = search needs
+count-requires : tie.Need-count-requires
+count-requires c κs = search needs
 
 add-word-2 : tie.Need-add-word-2
 add-word-2 c = search needs
+
+word-requires-2 : tie.Need-word-requires-2
+word-requires-2 c κs = search needs
+
+returns-3 : tie.Need-returns-3
+returns-3 c = λ e. absurd (true≢false e)
 
 word-requires-3 : tie.Need-word-requires-3
 word-requires-3 c κs = search needs
@@ -46,20 +53,38 @@ add-word-3 c = search needs
 word-requires-4 : tie.Need-word-requires-4
 word-requires-4 c κs = search needs
 
-speech-breaks-requires : tie.Need-speech-breaks-requires
-speech-breaks-requires c κs = search needs
-
-count-requires : tie.Need-count-requires
-count-requires c κs = search needs
-
 add-word-4 : tie.Need-add-word-4
 add-word-4 c = search needs
 
 word-requires-5 : tie.Need-word-requires-5
 word-requires-5 c κs = search needs
 
-returns-3 : tie.Need-returns-3
-returns-3 c = λ e. let p = or-none (c .before .before .speech-breaks .result) (leb (c .before .count .result) (c .word5 .result)) e in content-kept (sheetOf (c .before .before .before .before .before .before .before .before .before .before .before .before .args .s .now)) (c .before .before .before .before .before .before .before .before .before .before .before .before .args .k) (c .before .before .before .before .before .before .before .before .before .before .start .result) (c .before .before .before .before .before .word2 .result) (c .word5 .result) (c .before .before .before .before .word3 .result) (c .before .before .before .before .before .before .before .word .result) (c .before .before .before .word4 .result) (c .before .before .before .before .before .before .before .before .before .before .start .ensures .0) (c .before .before .before .before .before .word2 .ensures) (c .word5 .ensures) (c .before .before .before .before .word3 .ensures) (c .before .before .before .before .before .before .before .word .ensures) (c .before .before .before .word4 .ensures) (sym (c .before .before .speech-breaks .ensures) ∙ p .0) (rw (c .before .count .ensures) at (p .1))
+unlabelled-breaks-requires : tie.Need-unlabelled-breaks-requires
+unlabelled-breaks-requires c κs = search needs
+
+returns-4 : tie.Need-returns-4
+returns-4 c = λ e. content-kept (sheetOf (c .before .before .before .before .before .before .before .before .before .before .before .before .before .before .args .s .now)) (c .before .before .before .before .before .before .before .before .before .before .before .before .before .before .args .k) (c .before .before .before .before .before .before .before .before .before .before .before .before .start .result) (c .before .before .before .word3 .result) (c .before .before .before .before .before .before .word2 .result) (c .before .before .word4 .result) (c .before .before .before .before .before .before .before .before .before .word .result) (c .before .word5 .result) (c .before .before .before .before .before .before .before .before .before .before .before .before .start .ensures .0) (c .before .before .before .word3 .ensures) (c .before .before .before .before .before .before .word2 .ensures) (c .before .before .word4 .ensures) (c .before .before .before .before .before .before .before .before .before .word .ensures) (c .before .word5 .ensures) (rw (c .before .before .before .before .if4 .taken) (sym (c .unlabelled-breaks .ensures) ∙ e)) (rw (c .before .before .before .before .before .before .before .count .ensures) at (lt-leb (c .before .before .before .before .before .before .before .count .result) (c .before .before .before .before .before .before .word2 .result) (c .before .before .before .before .before .if3 .left)))
+
+word-requires-6 : tie.Need-word-requires-6
+word-requires-6 c κs = search needs
+
+add-word-5 : tie.Need-add-word-5
+add-word-5 c = search needs
+
+word-requires-7 : tie.Need-word-requires-7
+word-requires-7 c κs = search needs
+
+add-word-6 : tie.Need-add-word-6
+add-word-6 c = search needs
+
+word-requires-8 : tie.Need-word-requires-8
+word-requires-8 c κs = search needs
+
+labelled-breaks-requires : tie.Need-labelled-breaks-requires
+labelled-breaks-requires c κs = search needs
+
+returns-5 : tie.Need-returns-5
+returns-5 c = λ e. content-kept (sheetOf (c .before .before .before .before .before .before .before .before .before .before .before .before .before .before .args .s .now)) (c .before .before .before .before .before .before .before .before .before .before .before .before .before .before .args .k) (c .before .before .before .before .before .before .before .before .before .before .before .before .start .result) (c .before .before .before .word6 .result) (c .before .before .before .before .before .before .word2 .result) (c .before .before .word7 .result) (c .before .before .before .before .before .before .before .before .before .word .result) (c .before .word8 .result) (c .before .before .before .before .before .before .before .before .before .before .before .before .start .ensures .0) (c .before .before .before .word6 .ensures) (c .before .before .before .before .before .before .word2 .ensures) (c .before .before .word7 .ensures) (c .before .before .before .before .before .before .before .before .before .word .ensures) (c .before .word8 .ensures) (sym (c .labelled-breaks .ensures) ∙ e) (rw (c .before .before .before .before .before .before .before .count .ensures) at (lt-leb (c .before .before .before .before .before .before .before .count .result) (c .before .before .before .before .before .before .word2 .result) (c .before .before .before .before .before .if3 .left)))
 
 pub content-breaks-spec : {M : Type 1} → statement M
 content-breaks-spec =
@@ -72,13 +97,21 @@ content-breaks-spec =
     add-word
     word-requires
     returns-2
-    word-requires-2
+    count-requires
     add-word-2
+    word-requires-2
+    returns-3
     word-requires-3
     add-word-3
     word-requires-4
-    speech-breaks-requires
-    count-requires
     add-word-4
     word-requires-5
-    returns-3)
+    unlabelled-breaks-requires
+    returns-4
+    word-requires-6
+    add-word-5
+    word-requires-7
+    add-word-6
+    word-requires-8
+    labelled-breaks-requires
+    returns-5)

@@ -1,4 +1,4 @@
--- The words are those of the record. Assumes nothing.
+-- The words are those of the programme. Assumes nothing.
 use Prim.Native.Nat.{_+_}
 use mathlib.Core.Path.{_≡_, sym, _∙_}
 use mathlib.Core.Bool.{false, true≢false, _||_}
@@ -46,8 +46,8 @@ add-word-3 c = search needs
 word-requires-4 : tie.Need-word-requires-4
 word-requires-4 c κs = search needs
 
-speech-breaks-requires : tie.Need-speech-breaks-requires
-speech-breaks-requires c κs = search needs
+labelled-breaks-requires : tie.Need-labelled-breaks-requires
+labelled-breaks-requires c κs = search needs
 
 add-word-4 : tie.Need-add-word-4
 add-word-4 c = search needs
@@ -77,7 +77,7 @@ programme-lists-break-requires : tie.Need-programme-lists-break-requires
 programme-lists-break-requires c κs = search needs
 
 returns-3 : tie.Need-returns-3
-returns-3 c = λ e. let p = or-none (c .before .before .before .before .before .speech-breaks .result) (c .programme-lists-break .result) e in programme-kept (sheetOf (c .before .before .before .before .before .before .before .before .before .before .before .before .before .before .before .args .s .now)) (c .before .before .before .before .before .before .before .before .before .before .before .before .before .before .before .args .k) (c .before .before .before .before .before .before .before .before .before .before .before .before .before .start .result) (c .before .before .before .before .before .before .before .before .word2 .result) (c .before .before .before .before .word5 .result) (c .before .before .before .word6 .result) (c .before .before .word7 .result) (c .before .word8 .result) (c .before .before .before .before .before .before .before .word3 .result) (c .before .before .before .before .before .before .before .before .before .before .word .result) (c .before .before .before .before .before .before .word4 .result) (c .before .before .before .before .before .before .before .before .before .before .before .before .before .start .ensures .0) (c .before .before .before .before .before .before .before .before .word2 .ensures) (c .before .before .before .before .word5 .ensures) (c .before .before .before .word6 .ensures) (c .before .before .word7 .ensures) (c .before .word8 .ensures) (c .before .before .before .before .before .before .before .word3 .ensures) (c .before .before .before .before .before .before .before .before .before .before .word .ensures) (c .before .before .before .before .before .before .word4 .ensures) (sym (c .before .before .before .before .before .speech-breaks .ensures) ∙ p .0) (sym (c .programme-lists-break .ensures) ∙ p .1)
+returns-3 c = λ e. let p = or-none (c .before .before .before .before .before .labelled-breaks .result) (c .programme-lists-break .result) e in programme-kept (sheetOf (c .before .before .before .before .before .before .before .before .before .before .before .before .before .before .before .args .s .now)) (c .before .before .before .before .before .before .before .before .before .before .before .before .before .before .before .args .k) (c .before .before .before .before .before .before .before .before .before .before .before .before .before .start .result) (c .before .before .before .before .before .before .before .before .word2 .result) (c .before .before .before .before .word5 .result) (c .before .before .before .word6 .result) (c .before .before .word7 .result) (c .before .word8 .result) (c .before .before .before .before .before .before .before .word3 .result) (c .before .before .before .before .before .before .before .before .before .before .word .result) (c .before .before .before .before .before .before .word4 .result) (c .before .before .before .before .before .before .before .before .before .before .before .before .before .start .ensures .0) (c .before .before .before .before .before .before .before .before .word2 .ensures) (c .before .before .before .before .word5 .ensures) (c .before .before .before .word6 .ensures) (c .before .before .word7 .ensures) (c .before .word8 .ensures) (c .before .before .before .before .before .before .before .word3 .ensures) (c .before .before .before .before .before .before .before .before .before .before .word .ensures) (c .before .before .before .before .before .before .word4 .ensures) (sym (c .before .before .before .before .before .labelled-breaks .ensures) ∙ p .0) (sym (c .programme-lists-break .ensures) ∙ p .1)
 
 pub programme-breaks-spec : {M : Type 1} → statement M
 programme-breaks-spec =
@@ -95,7 +95,7 @@ programme-breaks-spec =
     word-requires-3
     add-word-3
     word-requires-4
-    speech-breaks-requires
+    labelled-breaks-requires
     add-word-4
     word-requires-5
     add-word-5

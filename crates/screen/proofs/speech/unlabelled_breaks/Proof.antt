@@ -1,0 +1,26 @@
+-- Each test is its callee's. Assumes nothing.
+use mathlib.Core.Path.{_≡_, refl, sym, ap, _∙_}
+use Rattle.sheet.specs.Words.{sheetOf}
+use Rattle.screen.proofs.SpeechLaws.{no-labels}
+use borrow.Author.Needs.{needs}
+use Rattle.screen.proofs.speech.unlabelled_breaks.Statement.{statement}
+use Rattle.screen.proofs.speech.unlabelled_breaks.Tie as tie
+
+count-requires : tie.Need-count-requires
+count-requires c κs = search needs
+
+beyond-requires : tie.Need-beyond-requires
+beyond-requires c κs = search needs
+
+language-requires : tie.Need-language-requires
+language-requires c κs = search needs
+
+loudness-requires : tie.Need-loudness-requires
+loudness-requires c κs = search needs
+
+returns : tie.Need-returns
+returns c = rw (c .before .before .beyond .ensures, c .before .before .before .count .ensures, c .before .language .ensures, c .loudness .ensures) (no-labels (sheetOf (c .before .before .before .before .before .args .s .now)) (c .before .before .before .before .before .args .lang) (c .before .before .before .before .before .args .first) (c .before .before .before .before .before .args .loud))
+
+pub unlabelled-breaks-spec : {M : Type 1} → statement M
+unlabelled-breaks-spec =
+    tie.close (tie.spec count-requires beyond-requires language-requires loudness-requires returns)

@@ -1,0 +1,51 @@
+-- Nothing to mark, or all of it, in each table. Assumes nothing.
+use Prim.Native.Nat.{ℕ, suc, _-_, _≤_}
+use mathlib.Core.Path.{_≡_, refl, sym, ap, _∙_}
+use native.Mathlib.Omega.{arith}
+use lib.Dec.{eqb}
+use lib.ListN.{length, getD}
+use native.Mathlib.Numerals.{add-one}
+use Rattle.sheet.specs.Words.{sheetOf}
+use Rattle.sheet.specs.Layout.{count}
+use Rattle.sheet.specs.Fields.{objects}
+use Rattle.profile.specs.Counting.{sum, howMany}
+use Rattle.tables.specs.declared.Mark.the-variants.{Count, First}
+use Rattle.tables.specs.Marks.{marked, repeat, timesBy}
+use Rattle.tables.specs.Namings.{items, item}
+use borrow.Author.Needs.{needs}
+use Rattle.tables.proofs.passes.mark_both.Statement.{statement}
+use Rattle.tables.proofs.passes.mark_both.Tie as tie
+
+mark-items-requires : tie.Need-mark-items-requires
+mark-items-requires c κs = search needs
+
+add-t12 : tie.Need-add-t12
+add-t12 c = search needs
+
+mark-items-requires-2 : tie.Need-mark-items-requires-2
+mark-items-requires-2 c κs = search needs
+
+same-length : tie.Need-same-length
+same-length c = search needs
+
+same-length-2 : tie.Need-same-length-2
+same-length-2 c = search needs
+
+returns : tie.Need-returns
+returns c = (c .before .before .before .before .before .before .mark-items .ensures .0, c .before .before .before .before .before .before .mark-items .ensures .1, c .before .before .mark-items2 .ensures .0, rw (add-one) at (c .before .before .mark-items2 .ensures .1))
+
+returns-2 : tie.Need-returns-2
+unfolding timesBy howMany repeat
+returns-2 c = let e : items (sheetOf (c .before .before .before .before .args .s .now)) (c .before .before .before .before .args .kind) (c .before .before .before .before .args .q) ≡ 0 = sym (c .before .before .before .before .pre .0) ∙ c .if1 .left in (refl, (λ x l. ap (λ (n : ℕ). repeat (marked Count) (howMany (λ i. eqb (item (sheetOf (c .before .before .before .before .args .s .now)) (c .before .before .before .before .args .kind) (c .before .before .before .before .args .q) i) x) n) (getD (c .before .before .before .before .args .counts .now) x 0)) (sym e)), refl, λ x l. ap (λ (n : ℕ). repeat (marked (First (suc (c .before .before .before .before .args .q)))) (howMany (λ i. eqb (item (sheetOf (c .before .before .before .before .args .s .now)) (c .before .before .before .before .args .kind) (c .before .before .before .before .args .q) i) x) n) (getD (c .before .before .before .before .args .firsts .now) x 0)) (sym e))
+
+pub mark-both-spec : {M : Type 1} → statement M
+mark-both-spec =
+    tie.close
+    (tie.spec
+    mark-items-requires
+    add-t12
+    mark-items-requires-2
+    same-length
+    same-length-2
+    returns
+    returns-2)
