@@ -1,2 +1,3 @@
+mod GroupLaws
 mod SubjectLaws
 mod SearchLaws

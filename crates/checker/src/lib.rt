@@ -1,4 +1,5 @@
 // The checker: the first broken rule with its place, or acceptance. It is one search over rules, sections and records.
+pub mod groups;
 pub mod lent;
 pub mod search;
 pub mod subjects;

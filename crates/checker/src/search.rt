@@ -1,4 +1,7 @@
 // The search for the first broken rule, "within one rule the lowest section, then the lowest record".
+use crate::groups::by_groups;
+use crate::groups::by_sets;
+use crate::groups::sets_once;
 use crate::lent::fill_table;
 use crate::lent::first_table;
 use crate::lent::second_table;
@@ -145,7 +148,21 @@ fn lowest_broken(s: &[u8], rule: u8, section: u8, n: u16) -> u16
             }
             by_tables(s, rule, section, n)
         }
-        21 | 22 => by_tables(s, rule, section, n),
+        21 => {
+            if 2048 < count(s, OBJECTS) {
+                return by_tables(s, rule, section, n);
+            }
+            by_groups(s, section, n)
+        }
+        22 => {
+            if 2048 < count(s, OBJECTS) {
+                return by_tables(s, rule, section, n);
+            }
+            if !sets_once(s) {
+                return by_tables(s, rule, section, n);
+            }
+            by_sets(s, section, n)
+        }
         23 | 24 => by_tables(s, rule, section, n),
         _ => plainly(s, rule, section, n),
     }

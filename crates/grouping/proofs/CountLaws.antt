@@ -1,5 +1,5 @@
 -- Numbers counted. Assumes nothing.
-use Prim.Native.Nat.{ℕ, _+_, _<_, _≤_}
+use Prim.Native.Nat.{ℕ, zero, suc, _+_, _<_, _≤_}
 use mathlib.Core.Path.{_≡_, refl, sym, ap, _∙_}
 use mathlib.Core.Bool.{Bool, true, false, cond, not}
 use native.Mathlib.Omega.{arith}
@@ -35,3 +35,7 @@ two-counted p n j k other l m a b =
     let x : _≡_ {A = ℕ} (cond (p j) 1 0) 1 = ap (λ (b : Bool). cond b 1 0) a in
     let y : _≡_ {A = ℕ} (cond (p k) 1 0) 1 = ap (λ (b : Bool). cond b 1 0) b in
     omega (arith, pair, x, y, howMany-sum p n)
+
+pub positive : (n : ℕ) → (n ≡ 0 → ⊥) → 0 < n
+positive zero h = absurd (h refl)
+positive (suc n) h = omega arith

@@ -15,11 +15,11 @@ use Rattle.profile.specs.Counting.{any, howMany, twoOf}
 use Rattle.profile.specs.Relations.{leader, complement, member, members, leaderOf, includes, included, whollyIncluded, hasSet, owner, namedSet, namesSet}
 use Rattle.profile.specs.Rules.{lacks, listLacks, repeats, rule5, rule11, rule21, rule22, ownerAt, setsNamed, setsDiffer}
 use Rattle.profile.proofs.BoolLaws.{or-false, or-none, or-either, and-both}
-use Rattle.profile.proofs.CountingLaws.{any-none}
+use Rattle.profile.proofs.CountingLaws.{any-none, any-howMany}
 use Rattle.profile.proofs.GroupLaws.{any-witness, own-leader, leader-lists, member-zero, member-at, no-leader}
 use Rattle.profile.proofs.SumLaws.{any-nowhere, any-one, howMany-eq, howMany-all}
 use Rattle.tables.specs.Marks.{Standing}
-use Rattle.grouping.specs.Groups.{Changed, GroupKept, GroupsGround, LeadersIn, Noted, ProgrammeKept, groupWhole, manyIn, objectAt, setsIn}
+use Rattle.grouping.specs.Groups.{Changed, GroupKept, LeadersIn, Noted, OneSpan, ProgrammeKept, SameList, groupWhole, manyIn, objectAt, setsIn}
 use Rattle.grouping.proofs.CountLaws.{Apart, any-eq, two-counted}
 use Rattle.grouping.proofs.MemberLaws.{one-owner}
 use Rattle.grouping.proofs.PassLaws.{past, sets-alike}
@@ -136,7 +136,7 @@ module _ (s : Sheet) (p : ℕ) (t₀ t₁ t₂ : List ℕ) (noughts : Standing (
       small true = refl
       small false = refl
 
-  module _ (full : length t₀ ≡ count s objects) (ground : GroupsGround s) (here : p < count s programmes) (list partners : List ℕ) (g : ℕ)
+  module _ (full : length t₀ ≡ count s objects) (spans : OneSpan s) (inside : (j : ℕ) → j < number s programmes p setList → namedSet s p j < count s valueSets) (list partners : List ℕ) (g : ℕ)
       (all : LeadersIn s list partners g) (each : (i : ℕ) → i < g → GroupKept s t₂ (getD list i 0)) where
     -- contents of different objects are different
     no-repeat : Apart (objectAt s p) n → repeats s programmes p contentList ≡ false
@@ -158,22 +158,15 @@ module _ (s : Sheet) (p : ℕ) (t₀ t₁ t₂ : List ℕ) (noughts : Standing (
     unfolding included manyIn
     included-counted l = howMany-eq (λ i. includes s p (member s l i)) (λ i. not (eqb (getD t₂ (member s l i) 0) 0)) (members s l) (λ i k. tells-included (member s l i))
 
-    -- every named set is in one span
-    set-index : (j : ℕ) → j < m → namedSet s p j < count s valueSets
-    unfolding rule5 listLacks lacks namedSet
-    set-index j l =
-        let e : (listLacks s contents programmes p contentList || listLacks s valueSets programmes p setList) ≡ false = simp or-false at (any-none (rule5 s programmes) (count s programmes) (ground .0) p here) in
-        leb-false _ _ (any-none (λ i. leb (count s valueSets) (entry s programmes p setList i)) m (or-none (listLacks s contents programmes p contentList) (listLacks s valueSets programmes p setList) e .1) j l)
-
     one-span : (v : ℕ) → v < count s valueSets → howMany (λ o. hasSet s o v) (count s objects) ≡ 1
     unfolding rule11
-    one-span v l = eqb-true _ _ (not-false _ (any-none (rule11 s valueSets) (count s valueSets) (ground .1) v l))
+    one-span v l = eqb-true _ _ (not-false _ (any-none (rule11 s valueSets) (count s valueSets) spans v l))
 
     names-owner : (o : ℕ) → o < count s objects → namesSet s p o ≡ any (λ j. eqb (ownerAt s p j) o) m
     unfolding namesSet ownerAt
     names-owner o k =
         any-eq (λ j. hasSet s o (namedSet s p j)) (λ j. eqb (owner s (namedSet s p j)) o) m
-        (λ j l. one-owner s (namedSet s p j) o k (one-span (namedSet s p j) (set-index j l)))
+        (λ j l. one-owner s (namedSet s p j) o k (one-span (namedSet s p j) (inside j l)))
 
     -- a wholly included group has two members or more
     two : (l : ℕ) → leader s l ≡ true → whollyIncluded s p l ≡ true → 1 < included s p l
@@ -304,3 +297,83 @@ module _ (s : Sheet) (p : ℕ) (t₀ t₁ t₂ : List ℕ) (noughts : Standing (
 
     pub programme-kept : ProgrammeKept s p
     programme-kept = (no-repeat (entered .2), keeps-21, keeps-22)
+
+-- rule 21 alone, by a table without sets
+module _ (s : Sheet) (p : ℕ) (t₀ t₁ : List ℕ) (noughts : Standing (λ x. 0) t₀) (long : length t₁ ≡ length t₀)
+    (entered : Changed (objectAt s p) (number s programmes p contentList) 0 1 t₀ t₁) (list partners : List ℕ) (g : ℕ)
+    (all : LeadersIn s list partners g) (each : (i : ℕ) → i < g → GroupKept s t₁ (getD list i 0)) where
+  tells : (x : ℕ) → includes s p x ≡ not (eqb (getD t₁ x 0) 0)
+  unfolding includes objectAt
+  tells x =
+      (elim (ltb x (length t₁)) as (λ b. ltb x (length t₁) ≡ b → any (λ i. eqb (objectAt s p i) x) (number s programmes p contentList) ≡ not (eqb (getD t₁ x 0) 0)) [
+        | true ↦ λ e.
+            let l : x < length t₁ = ltb-true x (length t₁) e in
+            let v : getD t₁ x 0 ≡ cond (any (λ i. eqb (objectAt s p i) x) (number s programmes p contentList)) 1 0 = entered .3 x l ∙ ap (λ (c : ℕ). cond (any (λ i. eqb (objectAt s p i) x) (number s programmes p contentList)) 1 c) (noughts x (rw long at l)) in
+            flagged (any (λ i. eqb (objectAt s p i) x) (number s programmes p contentList)) ∙ ap (λ (c : ℕ). not (eqb c 0)) (sym v)
+        | false ↦ λ e.
+            let l : length t₁ ≤ x = ltb-false x (length t₁) e in
+            outside l ∙ ap (λ (c : ℕ). not (eqb c 0)) (past t₁ x l)
+      ]) refl
+    where
+      flagged : (b : Bool) → b ≡ not (eqb (cond b 1 0) 0)
+      flagged true = refl
+      flagged false = refl
+
+      outside : length t₁ ≤ x → any (λ i. eqb (objectAt s p i) x) (number s programmes p contentList) ≡ false
+      outside l = any-nowhere (λ i. eqb (objectAt s p i) x) (number s programmes p contentList) (λ i k. ne-eqb (objectAt s p i) x (λ q. let z : objectAt s p i ≡ x = q in absurd (omega (arith, entered .0 i k))))
+
+  many : (l : ℕ) → included s p l ≡ manyIn s t₁ l
+  unfolding included manyIn
+  many l = howMany-eq (λ i. includes s p (member s l i)) (λ i. not (eqb (getD t₁ (member s l i) 0) 0)) (members s l) (λ i k. tells (member s l i))
+
+  pub groups-kept-21 : rule21 s programmes p ≡ false
+  unfolding rule21 whollyIncluded groupWhole
+  groups-kept-21 = any-nowhere (λ l. leader s l && not (eqb (included s p l) 0) && not (eqb (included s p l) 1) && not (eqb (included s p l) (members s l))) (count s objects) alone
+    where
+      kept : (l : ℕ) → l < count s objects → leader s l ≡ true → GroupKept s t₁ l
+      kept l k h =
+          let w = any-witness (λ i. eqb (getD list i 0) l) g (all .0 l k h) in
+          subst (λ (x : ℕ). GroupKept s t₁ x) (eqb-true _ _ (w .2)) (each (w .0) (w .1))
+
+      alone : (l : ℕ) → l < count s objects → (leader s l && not (eqb (included s p l) 0) && not (eqb (included s p l) 1) && not (eqb (included s p l) (members s l))) ≡ false
+      alone l k =
+          (elim (leader s l) as (λ b. leader s l ≡ b → (b && not (eqb (included s p l) 0) && not (eqb (included s p l) 1) && not (eqb (included s p l) (members s l))) ≡ false) [
+            | true ↦ λ h. one-or-all (included s p l) (members s l) (eqb (setsIn s t₁ l) 0 || eqb (setsIn s t₁ l) (members s l)) (rw (many l) (kept l k h .0))
+            | false ↦ λ h. refl
+          ]) refl
+
+-- a programme with the lists of another keeps what that keeps
+module _ (s : Sheet) (p q : ℕ) (same : SameList s p q contentList) where
+  same-repeats : repeats s programmes p contentList ≡ repeats s programmes q contentList
+  unfolding repeats entry
+  same-repeats = rw (same .0, same .1) refl
+
+  pub same-21 : rule21 s programmes p ≡ rule21 s programmes q
+  unfolding rule21 whollyIncluded included includes entry
+  same-21 = rw (same .0, same .1) refl
+
+  module _ (also : SameList s p q setList) where
+    pub same-22 : rule22 s programmes p ≡ rule22 s programmes q
+    unfolding rule22 whollyIncluded included includes setsNamed namesSet ownerAt namedSet entry
+    same-22 = rw (same .0, same .1, also .0, also .1) refl
+
+    pub same-kept : ProgrammeKept s q → ProgrammeKept s p
+    same-kept kept = (same-repeats ∙ kept .0, same-21 ∙ kept .1, same-22 ∙ kept .2)
+
+none-named : (s : Sheet) (p : ℕ) → number s programmes p setList ≡ 0 → (l : ℕ) → setsNamed s p l ≡ 0
+unfolding setsNamed namesSet any
+none-named s p none l = rw none (eqb-true _ 0 (not-false _ (sym (any-howMany (λ i. false) (members s l)) ∙ any-nowhere (λ i. false) (members s l) (λ i k. refl))))
+
+-- a programme that names no sets keeps rule 22
+pub no-sets : (s : Sheet) (p : ℕ) → number s programmes p setList ≡ 0 → rule22 s programmes p ≡ false
+unfolding rule22 twoOf any
+no-sets s p none =
+    rw none (or-false (any (λ l. leader s l && whollyIncluded s p l && not (eqb (setsNamed s p l) 0) && not (eqb (setsNamed s p l) (members s l))) (count s objects)) ∙ any-nowhere (λ l. leader s l && whollyIncluded s p l && not (eqb (setsNamed s p l) 0) && not (eqb (setsNamed s p l) (members s l))) (count s objects) each)
+  where
+    each : (l : ℕ) → l < count s objects → (leader s l && whollyIncluded s p l && not (eqb (setsNamed s p l) 0) && not (eqb (setsNamed s p l) (members s l))) ≡ false
+    each l k = rw (none-named s p none l) (three (leader s l) (whollyIncluded s p l) (not (eqb 0 (members s l))))
+      where
+        three : (a b c : Bool) → (a && b && not (eqb 0 0) && c) ≡ false
+        three true true c = refl
+        three true false c = refl
+        three false b c = refl

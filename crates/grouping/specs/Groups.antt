@@ -6,7 +6,7 @@ use mathlib.Core.List.{List}
 use lib.Dec.{eqb, leb, ltb}
 use lib.ListN.{length, getD}
 use Rattle.sheet.specs.Words.{Sheet, word}
-use Rattle.sheet.specs.Layout.{count, field, entry}
+use Rattle.sheet.specs.Layout.{count, field, number, entry}
 use Rattle.sheet.specs.Fields.{programmes, contents, objects, valueSets, contentList, contentObject}
 use Rattle.profile.specs.Counting.{any, howMany}
 use Rattle.profile.specs.Relations.{leader, member, members}
@@ -27,6 +27,14 @@ GroupsGround s =
     (any (rule5 s programmes) (count s programmes) ≡ false)
     × (any (rule11 s valueSets) (count s valueSets) ≡ false)
     × (any (rule19 s objects) (count s objects) ≡ false)
+
+-- each value set is in one span
+abbrev pub OneSpan : Sheet → Type 0
+OneSpan s = any (rule11 s valueSets) (count s valueSets) ≡ false
+
+-- a programme has the same list at a position as another
+abbrev pub SameList : Sheet → ℕ → ℕ → ℕ → Type 0
+SameList s p q at = (field s programmes p at ≡ field s programmes q at) × (number s programmes p at ≡ number s programmes q at)
 
 -- the object of the content that entry i of the list from an index of section 6 on names, where section 6 begins at base and section 2
 -- at records

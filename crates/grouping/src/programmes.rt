@@ -16,13 +16,13 @@ use sheet::layout::number;
 use sheet::layout::offset;
 use sheet::words::word;
 use tables::marks::clear;
-ghost use Prim.Native.Nat.{ℕ, _<_, _≤_};
+ghost use Prim.Native.Nat.{ℕ, _-_, _<_};
 ghost use lib.ListN.{getD, length};
 ghost use mathlib.Core.Bool.{false, true};
 ghost use mathlib.Core.Path.{_≡_};
-ghost use Rattle.grouping.specs.Groups.{Changed, GroupsGround, LeadersIn, Noted, ProgrammeKept, ProgrammesKept, objectAt, objectFrom};
+ghost use Rattle.grouping.specs.Groups.{Changed, GroupsGround, LeadersIn, Noted, OneSpan, ProgrammeKept, ProgrammesKept, SameList, objectAt, objectFrom};
 ghost use Rattle.profile.specs.Relations.{namedSet};
-ghost use Rattle.profile.specs.Rules.{ownerAt};
+ghost use Rattle.profile.specs.Rules.{ownerAt, rule21, rule22};
 ghost use Rattle.sheet.specs.Fields.{contentList, contents, objects, programmes, references, setList, valueSets};
 ghost use Rattle.sheet.specs.Layout.{count, number, offset};
 ghost use Rattle.sheet.specs.Words.{sheetOf};
@@ -52,16 +52,19 @@ fn enter_objects(s: &[u8], base: u16, records: u16, p: u16, included: &mut [u16]
     true
 }
 
-// Notes the sets that the programme names at their objects, where 1 stood.
-fn enter_sets(s: &[u8], base: u16, owners: &[u16], p: u16, included: &mut [u16]) -> bool
-    ensures { λ r. ⌜ (length (now (included .exit)) ≡ length (now (included .entry))) × (r ≡ true → base ≡ offset (sheetOf (now (s .entry))) references → Owners (sheetOf (now (s .entry))) (now (owners .entry)) → Noted (ownerAt (sheetOf (now (s .entry))) p) (namedSet (sheetOf (now (s .entry))) p) (number (sheetOf (now (s .entry))) programmes p setList) (now (included .entry)) (now (included .exit))) ⌝ }
+// Notes the sets that the programme names at their objects, where 1 stood. Each has to be one of the sheet's, of which there are `total`.
+fn enter_sets(s: &[u8], base: u16, total: u16, owners: &[u16], p: u16, included: &mut [u16]) -> bool
+    ensures { λ r. ⌜ (length (now (included .exit)) ≡ length (now (included .entry))) × (r ≡ true → base ≡ offset (sheetOf (now (s .entry))) references → Owners (sheetOf (now (s .entry))) (now (owners .entry)) → Noted (ownerAt (sheetOf (now (s .entry))) p) (namedSet (sheetOf (now (s .entry))) p) (number (sheetOf (now (s .entry))) programmes p setList) (now (included .entry)) (now (included .exit)) × ((j : ℕ) → j < number (sheetOf (now (s .entry))) programmes p setList → namedSet (sheetOf (now (s .entry))) p j < total)) ⌝ }
 {
     let from = field(s, PROGRAMMES, p, SET_LIST);
     let n = number(s, PROGRAMMES, p, SET_LIST);
+    if 65533 < total {
+        return false;
+    }
     let mut j: u16 = 0;
     while j < n {
         let v = word(s, base as usize + (from as usize + j as usize));
-        if 65534 <= v {
+        if total <= v {
             return false;
         }
         let c = at(owners, v);
@@ -74,6 +77,30 @@ fn enter_sets(s: &[u8], base: u16, owners: &[u16], p: u16, included: &mut [u16])
         j += 1;
     }
     true
+}
+
+// Whether a programme has the same list at a position as the one before it.
+fn same_list(s: &[u8], p: u16, at: u8) -> bool
+    requires { ⌜ at < 8 ⌝ }
+    ensures { λ r. ⌜ (r ≡ true → (0 < p) × SameList (sheetOf (now (s .entry))) p (p - 1) at) ⌝ }
+{
+    if p == 0 {
+        return false;
+    }
+    if field(s, PROGRAMMES, p, at) != field(s, PROGRAMMES, p - 1, at) {
+        return false;
+    }
+    number(s, PROGRAMMES, p, at) == number(s, PROGRAMMES, p - 1, at)
+}
+
+// Whether it has both lists.
+fn same_lists(s: &[u8], p: u16) -> bool
+    ensures { λ r. ⌜ (r ≡ true → (0 < p) × SameList (sheetOf (now (s .entry))) p (p - 1) contentList × SameList (sheetOf (now (s .entry))) p (p - 1) setList) ⌝ }
+{
+    if !same_list(s, p, CONTENT_LIST) {
+        return false;
+    }
+    same_list(s, p, SET_LIST)
 }
 
 // One programme, with the lists of the leaders and their partners. What stands in the table at the start does not matter.
@@ -89,16 +116,107 @@ fn programme_passes(
     p: u16,
     included: &mut [u16],
 ) -> bool
-    ensures { λ r. ⌜ (length (now (included .exit)) ≡ length (now (included .entry))) × (r ≡ true → base ≡ offset (sheetOf (now (s .entry))) references → records ≡ offset (sheetOf (now (s .entry))) contents → sets ≡ offset (sheetOf (now (s .entry))) valueSets → Owners (sheetOf (now (s .entry))) (now (owners .entry)) → LeadersIn (sheetOf (now (s .entry))) (now (list .entry)) (now (partners .entry)) g → length (now (included .entry)) ≡ count (sheetOf (now (s .entry))) objects → GroupsGround (sheetOf (now (s .entry))) → p < count (sheetOf (now (s .entry))) programmes → ProgrammeKept (sheetOf (now (s .entry))) p) ⌝ }
+    ensures { λ r. ⌜ (length (now (included .exit)) ≡ length (now (included .entry))) × (r ≡ true → base ≡ offset (sheetOf (now (s .entry))) references → records ≡ offset (sheetOf (now (s .entry))) contents → sets ≡ offset (sheetOf (now (s .entry))) valueSets → Owners (sheetOf (now (s .entry))) (now (owners .entry)) → LeadersIn (sheetOf (now (s .entry))) (now (list .entry)) (now (partners .entry)) g → length (now (included .entry)) ≡ count (sheetOf (now (s .entry))) objects → OneSpan (sheetOf (now (s .entry))) → ProgrammeKept (sheetOf (now (s .entry))) p) ⌝ }
 {
     clear(included);
     if !enter_objects(s, base, records, p, included) {
         return false;
     }
-    if !enter_sets(s, base, owners, p, included) {
+    if !enter_sets(s, base, count(s, VALUE_SETS), owners, p, included) {
         return false;
     }
     groups_kept(s, base, sets, list, partners, g, included)
+}
+
+// The same, or what the programme before it shows.
+fn programme_kept(
+    s: &[u8],
+    base: u16,
+    records: u16,
+    sets: u16,
+    owners: &[u16],
+    list: &[u16],
+    partners: &[u16],
+    g: u16,
+    p: u16,
+    included: &mut [u16],
+) -> bool
+    ensures { λ r. ⌜ (length (now (included .exit)) ≡ length (now (included .entry))) × (r ≡ true → base ≡ offset (sheetOf (now (s .entry))) references → records ≡ offset (sheetOf (now (s .entry))) contents → sets ≡ offset (sheetOf (now (s .entry))) valueSets → Owners (sheetOf (now (s .entry))) (now (owners .entry)) → LeadersIn (sheetOf (now (s .entry))) (now (list .entry)) (now (partners .entry)) g → length (now (included .entry)) ≡ count (sheetOf (now (s .entry))) objects → OneSpan (sheetOf (now (s .entry))) → (0 < p → ProgrammeKept (sheetOf (now (s .entry))) (p - 1)) → ProgrammeKept (sheetOf (now (s .entry))) p) ⌝ }
+{
+    if same_lists(s, p) {
+        return true;
+    }
+    programme_passes(
+        s,
+        base,
+        records,
+        sets,
+        owners,
+        list,
+        partners,
+        g,
+        p,
+        included,
+    )
+}
+
+// Whether a programme can be seen to keep rule 21, by itself or by the one before it.
+pub fn keeps_groups(
+    s: &[u8],
+    base: u16,
+    records: u16,
+    sets: u16,
+    list: &[u16],
+    partners: &[u16],
+    g: u16,
+    p: u16,
+    included: &mut [u16],
+) -> bool
+    ensures { λ r. ⌜ (length (now (included .exit)) ≡ length (now (included .entry))) × (r ≡ true → base ≡ offset (sheetOf (now (s .entry))) references → records ≡ offset (sheetOf (now (s .entry))) contents → sets ≡ offset (sheetOf (now (s .entry))) valueSets → LeadersIn (sheetOf (now (s .entry))) (now (list .entry)) (now (partners .entry)) g → (0 < p → rule21 (sheetOf (now (s .entry))) programmes (p - 1) ≡ false) → rule21 (sheetOf (now (s .entry))) programmes p ≡ false) ⌝ }
+{
+    if same_list(s, p, CONTENT_LIST) {
+        return true;
+    }
+    clear(included);
+    if !enter_objects(s, base, records, p, included) {
+        return false;
+    }
+    groups_kept(s, base, sets, list, partners, g, included)
+}
+
+// Whether it can be seen to keep rule 22.
+pub fn keeps_sets(
+    s: &[u8],
+    base: u16,
+    records: u16,
+    sets: u16,
+    owners: &[u16],
+    list: &[u16],
+    partners: &[u16],
+    g: u16,
+    p: u16,
+    included: &mut [u16],
+) -> bool
+    ensures { λ r. ⌜ (length (now (included .exit)) ≡ length (now (included .entry))) × (r ≡ true → base ≡ offset (sheetOf (now (s .entry))) references → records ≡ offset (sheetOf (now (s .entry))) contents → sets ≡ offset (sheetOf (now (s .entry))) valueSets → Owners (sheetOf (now (s .entry))) (now (owners .entry)) → LeadersIn (sheetOf (now (s .entry))) (now (list .entry)) (now (partners .entry)) g → length (now (included .entry)) ≡ count (sheetOf (now (s .entry))) objects → OneSpan (sheetOf (now (s .entry))) → (0 < p → rule22 (sheetOf (now (s .entry))) programmes (p - 1) ≡ false) → rule22 (sheetOf (now (s .entry))) programmes p ≡ false) ⌝ }
+{
+    if number(s, PROGRAMMES, p, SET_LIST) == 0 {
+        return true;
+    }
+    if same_lists(s, p) {
+        return true;
+    }
+    programme_passes(
+        s,
+        base,
+        records,
+        sets,
+        owners,
+        list,
+        partners,
+        g,
+        p,
+        included,
+    )
 }
 
 // How many programmes from the first on can be seen to keep the rules, in tables with a place for each object.
@@ -118,7 +236,7 @@ fn kept_below(
     let n = count(s, PROGRAMMES);
     let mut p: u16 = 0;
     while p < n {
-        if !programme_passes(
+        if !programme_kept(
             s,
             base,
             records,

@@ -8,7 +8,7 @@ use Rattle.sheet.specs.Words.{Sheet}
 use Rattle.tables.specs.declared.Naming.{Naming}
 use Rattle.tables.specs.declared.Naming.the-variants.{ContentObjects, Children, SetSpans}
 use Rattle.tables.specs.declared.Mark.the-variants.{Count}
-use Rattle.tables.specs.Marks.{Standing, marked, repeat, namedBy, firstBy}
+use Rattle.tables.specs.Marks.{Standing, marked, repeat, namedBy}
 use Rattle.tables.specs.Right.{counted, Named, Listed, Spanned}
 use Rattle.tables.proofs.TableLaws.{namings-added, span-namings, counted-one, listed-counted}
 use mathlib.Core.Bool.{true, false, not, _&&_, _||_}
@@ -27,9 +27,6 @@ module _ (s : Sheet) (t₀ t : List ℕ) (nought : Standing (λ x. 0) t₀) (lon
 
   pub spans-made : Standing (λ x. repeat (marked Count) (namedBy s SetSpans x) (getD t₀ x 0)) t → Spanned s t
   spans-made h x l = counts-made SetSpans h x l ∙ ap counted (span-namings s x)
-
-  pub firsts-made : (kind : Naming) → Standing (λ x. firstBy s kind x (getD t₀ x 0)) t → Standing (λ x. firstBy s kind x 0) t
-  firsts-made kind h x l = h x l ∙ ap (firstBy s kind x) (nought x (rw long at l))
 
 pub named-made : (s : Sheet) (t₀ t u : List ℕ) → Standing (λ x. 0) t₀ → length t ≡ length t₀ → length u ≡ length t
     → Standing (λ x. repeat (marked Count) (namedBy s ContentObjects x) (getD t₀ x 0)) t

@@ -13,12 +13,12 @@ use Rattle.sheet.specs.Words.{sheetOf}
 use Rattle.sheet.specs.Layout.{count, offset}
 use Rattle.sheet.specs.Fields.{programmes, contents, objects, references, valueSets}
 use Rattle.tables.specs.Right.{Owners}
-use Rattle.grouping.specs.Groups.{GroupsGround, LeadersIn, ProgrammeKept}
+use Rattle.grouping.specs.Groups.{LeadersIn, OneSpan, ProgrammeKept}
 use Rattle.grouping.proofs.programmes.kept_below.Statement.{statement}
 use Rattle.grouping.proofs.programmes.kept_below.Tie as tie
 
 abbrev Inv-loop : tie.InvT-loop
-Inv-loop s owners list partners included₀ base records sets g n p₀ included p = (p ≤ n) × (length included ≡ length included₀) × (Owners (sheetOf s) owners → LeadersIn (sheetOf s) list partners g → length included₀ ≡ count (sheetOf s) objects → GroupsGround (sheetOf s) → (q : ℕ) → q < p → ProgrammeKept (sheetOf s) q)
+Inv-loop s owners list partners included₀ base records sets g n p₀ included p = (p ≤ n) × (length included ≡ length included₀) × (Owners (sheetOf s) owners → LeadersIn (sheetOf s) list partners g → length included₀ ≡ count (sheetOf s) objects → OneSpan (sheetOf s) → (q : ℕ) → q < p → ProgrammeKept (sheetOf s) q)
 
 abbrev μ-loop : tie.MeasureT-loop
 μ-loop s owners list partners included₀ base records sets g n p₀ included p = n - p
@@ -39,10 +39,10 @@ count-requires : tie.Need-count-requires Inv-loop μ-loop
 count-requires c κs = search needs
 
 loop-holds : tie.Need-loop-holds Inv-loop μ-loop
-loop-holds c = (search needs, refl, λ owns listed full ground q l. absurd (omega arith))
+loop-holds c = (search needs, refl, λ owns listed full spans q l. absurd (omega arith))
 
-programme-passes-requires : tie.Need-programme-passes-requires Inv-loop μ-loop
-programme-passes-requires c κs = search needs
+programme-kept-requires : tie.Need-programme-kept-requires Inv-loop μ-loop
+programme-kept-requires c κs = search needs
 
 same-length : tie.Need-same-length Inv-loop μ-loop
 same-length c = c .before .before .before .before .before .before .before .before .before .before .before .before .before .before .list-leaders .ensures .0
@@ -51,10 +51,10 @@ same-length-2 : tie.Need-same-length-2 Inv-loop μ-loop
 same-length-2 c = c .before .before .before .before .before .before .before .before .before .before .before .before .before .before .list-leaders .ensures .1
 
 same-length-3 : tie.Need-same-length-3 Inv-loop μ-loop
-same-length-3 c = c .before .before .before .programme-passes .ensures .0 ∙ c .before .before .before .before .before .before .before .before .loop .inv .1
+same-length-3 c = c .before .before .before .programme-kept .ensures .0 ∙ c .before .before .before .before .before .before .before .before .loop .inv .1
 
 returns : tie.Need-returns Inv-loop μ-loop
-returns c = (c .before .before .before .before .before .before .before .before .before .before .before .before .before .before .list-leaders .ensures .0, c .before .before .before .before .before .before .before .before .before .before .before .before .before .before .list-leaders .ensures .1, c .before .before .before .programme-passes .ensures .0 ∙ c .before .before .before .before .before .before .before .before .loop .inv .1, λ owns long also full ground. c .before .before .before .before .before .before .before .before .loop .inv .2 owns (c .before .before .before .before .before .before .before .before .before .before .before .before .before .before .list-leaders .ensures .2 (omega (arith, long)) (omega (arith, also))) full ground)
+returns c = (c .before .before .before .before .before .before .before .before .before .before .before .before .before .before .list-leaders .ensures .0, c .before .before .before .before .before .before .before .before .before .before .before .before .before .before .list-leaders .ensures .1, c .before .before .before .programme-kept .ensures .0 ∙ c .before .before .before .before .before .before .before .before .loop .inv .1, λ owns long also full ground. c .before .before .before .before .before .before .before .before .loop .inv .2 owns (c .before .before .before .before .before .before .before .before .before .before .before .before .before .before .list-leaders .ensures .2 (omega (arith, long)) (omega (arith, also))) full (ground .1))
 
 add-p : tie.Need-add-p Inv-loop μ-loop
 add-p c = search needs
@@ -63,7 +63,7 @@ loop-less : tie.Need-loop-less Inv-loop μ-loop
 loop-less c = search needs
 
 loop-again : tie.Need-loop-again Inv-loop μ-loop
-loop-again c = (search needs, c .before .before .before .programme-passes .ensures .0 ∙ c .before .before .before .before .before .before .before .before .loop .inv .1, λ owns listed full ground. below-more (ProgrammeKept (sheetOf (c .before .before .before .before .before .before .before .before .before .before .before .before .before .before .before .before .before .before .before .before .before .before .before .before .before .args .s .now))) (c .before .before .before .before .before .before .before .before .loop .p) (c .before .before .before .before .before .before .before .before .loop .inv .2 owns listed full ground) (c .before .before .before .programme-passes .ensures .1 (not-false _ (c .if1 .left)) (c .before .before .before .before .before .before .before .before .before .before .before .before .before .before .before .before .before .before .before .offset .ensures) (c .before .before .before .before .before .before .before .before .before .before .before .before .before .before .before .before .before .before .offset2 .ensures) (c .before .before .before .before .before .before .before .before .before .before .before .before .before .before .before .before .before .offset3 .ensures) owns listed (c .before .before .before .before .before .before .before .before .loop .inv .1 ∙ full) ground (omega (arith, c .before .before .before .before .before .before .before .loop-test .taken, c .before .before .before .before .before .before .before .before .before .count .ensures))))
+loop-again c = (search needs, c .before .before .before .programme-kept .ensures .0 ∙ c .before .before .before .before .before .before .before .before .loop .inv .1, λ owns listed full spans. below-more (ProgrammeKept (sheetOf (c .before .before .before .before .before .before .before .before .before .before .before .before .before .before .before .before .before .before .before .before .before .before .before .before .before .args .s .now))) (c .before .before .before .before .before .before .before .before .loop .p) (c .before .before .before .before .before .before .before .before .loop .inv .2 owns listed full spans) (c .before .before .before .programme-kept .ensures .1 (not-false _ (c .if1 .left)) (c .before .before .before .before .before .before .before .before .before .before .before .before .before .before .before .before .before .before .before .offset .ensures) (c .before .before .before .before .before .before .before .before .before .before .before .before .before .before .before .before .before .before .offset2 .ensures) (c .before .before .before .before .before .before .before .before .before .before .before .before .before .before .before .before .before .offset3 .ensures) owns listed (c .before .before .before .before .before .before .before .before .loop .inv .1 ∙ full) spans (λ l. c .before .before .before .before .before .before .before .before .loop .inv .2 owns listed full spans (c .before .before .before .before .before .before .before .before .loop .p - 1) (omega arith))))
 
 same-length-4 : tie.Need-same-length-4 Inv-loop μ-loop
 same-length-4 c = c .before .before .before .before .before .before .before .list-leaders .ensures .0
@@ -75,7 +75,7 @@ same-length-6 : tie.Need-same-length-6 Inv-loop μ-loop
 same-length-6 c = c .before .loop .inv .1
 
 returns-2 : tie.Need-returns-2 Inv-loop μ-loop
-returns-2 c = let z : c .before .loop .p ≡ c .before .before .count .result = omega (arith, c .before .loop .inv .0, c .loop-test .left) in (c .before .before .before .before .before .before .before .list-leaders .ensures .0, c .before .before .before .before .before .before .before .list-leaders .ensures .1, c .before .loop .inv .1, λ owns long also full ground. rw z at (c .before .loop .inv .2 owns (c .before .before .before .before .before .before .before .list-leaders .ensures .2 (omega (arith, long)) (omega (arith, also))) full ground))
+returns-2 c = let z : c .before .loop .p ≡ c .before .before .count .result = omega (arith, c .before .loop .inv .0, c .loop-test .left) in (c .before .before .before .before .before .before .before .list-leaders .ensures .0, c .before .before .before .before .before .before .before .list-leaders .ensures .1, c .before .loop .inv .1, λ owns long also full ground. rw z at (c .before .loop .inv .2 owns (c .before .before .before .before .before .before .before .list-leaders .ensures .2 (omega (arith, long)) (omega (arith, also))) full (ground .1)))
 
 pub kept-below-spec : {M : Type 1} → statement M
 kept-below-spec =
@@ -89,7 +89,7 @@ kept-below-spec =
     list-leaders-requires
     count-requires
     loop-holds
-    programme-passes-requires
+    programme-kept-requires
     same-length
     same-length-2
     same-length-3

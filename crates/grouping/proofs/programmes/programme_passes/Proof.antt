@@ -8,6 +8,9 @@ use borrow.Author.Tests.{not-false, not-true}
 use lib.Dec.{eqb, ltb}
 use lib.ListN.{length, getD}
 use Rattle.sheet.specs.Words.{sheetOf}
+use Rattle.sheet.specs.Layout.{number}
+use Rattle.sheet.specs.Fields.{programmes, setList}
+use Rattle.profile.specs.Relations.{namedSet}
 use Rattle.grouping.proofs.KeptLaws.{programme-kept}
 use borrow.Author.Needs.{needs}
 use Rattle.grouping.proofs.programmes.programme_passes.Statement.{statement}
@@ -25,23 +28,26 @@ same-length c = c .before .before .before .enter-objects .ensures .0 ∙ c .befo
 returns : tie.Need-returns
 returns c = (c .before .before .before .enter-objects .ensures .0 ∙ c .before .before .before .before .before .before .before .clear .ensures .0, λ e. absurd (true≢false (sym e)))
 
+count-requires : tie.Need-count-requires
+count-requires c κs = search needs
+
 enter-sets-requires : tie.Need-enter-sets-requires
 enter-sets-requires c κs = search needs
 
 same-length-2 : tie.Need-same-length-2
-same-length-2 c = c .before .before .before .enter-sets .ensures .0 ∙ c .before .before .before .before .before .before .before .before .enter-objects .ensures .0 ∙ c .before .before .before .before .before .before .before .before .before .before .before .before .clear .ensures .0
+same-length-2 c = c .before .before .before .enter-sets .ensures .0 ∙ c .before .before .before .before .before .before .before .before .before .enter-objects .ensures .0 ∙ c .before .before .before .before .before .before .before .before .before .before .before .before .before .clear .ensures .0
 
 returns-2 : tie.Need-returns-2
-returns-2 c = (c .before .before .before .enter-sets .ensures .0 ∙ c .before .before .before .before .before .before .before .before .enter-objects .ensures .0 ∙ c .before .before .before .before .before .before .before .before .before .before .before .before .clear .ensures .0, λ e. absurd (true≢false (sym e)))
+returns-2 c = (c .before .before .before .enter-sets .ensures .0 ∙ c .before .before .before .before .before .before .before .before .before .enter-objects .ensures .0 ∙ c .before .before .before .before .before .before .before .before .before .before .before .before .before .clear .ensures .0, λ e. absurd (true≢false (sym e)))
 
 groups-kept-requires : tie.Need-groups-kept-requires
 groups-kept-requires c κs = search needs
 
 same-length-3 : tie.Need-same-length-3
-same-length-3 c = c .before .before .before .before .before .enter-sets .ensures .0 ∙ c .before .before .before .before .before .before .before .before .before .before .enter-objects .ensures .0 ∙ c .before .before .before .before .before .before .before .before .before .before .before .before .before .before .clear .ensures .0
+same-length-3 c = c .before .before .before .before .before .enter-sets .ensures .0 ∙ c .before .before .before .before .before .before .before .before .before .before .before .enter-objects .ensures .0 ∙ c .before .before .before .before .before .before .before .before .before .before .before .before .before .before .before .clear .ensures .0
 
 returns-3 : tie.Need-returns-3
-returns-3 c = (c .before .before .before .before .before .enter-sets .ensures .0 ∙ c .before .before .before .before .before .before .before .before .before .before .enter-objects .ensures .0 ∙ c .before .before .before .before .before .before .before .before .before .before .before .before .before .before .clear .ensures .0, λ e a b d owns listed full ground here. programme-kept (sheetOf (c .before .before .before .before .before .before .before .before .before .before .before .before .before .before .before .before .before .before .before .before .before .args .s .now)) (c .before .before .before .before .before .before .before .before .before .before .before .before .before .before .before .before .before .before .before .before .before .args .p) (c .before .before .before .before .before .before .before .before .before .before .before .before .before .before .clear .last .0) (c .before .before .before .before .before .before .before .before .before .before .enter-objects .last .1 .1 .1 .1 .0) (c .before .before .before .before .before .enter-sets .last .1 .1 .1 .1 .0) (c .before .before .before .before .before .before .before .before .before .before .before .before .before .before .clear .ensures .1) (c .before .before .before .before .before .before .before .before .before .before .enter-objects .ensures .0) (c .before .before .before .before .before .enter-sets .ensures .0) (c .before .before .before .before .before .before .before .before .before .before .enter-objects .ensures .1 (not-false _ (c .before .before .before .before .before .before .before .if1 .left)) a b) (c .before .before .before .before .before .enter-sets .ensures .1 (not-false _ (c .before .before .if2 .left)) a owns) (c .before .before .before .before .before .before .before .before .before .before .before .before .before .before .clear .ensures .0 ∙ full) ground here (c .before .before .before .before .before .before .before .before .before .before .before .before .before .before .before .before .before .before .before .before .before .args .list .now) (c .before .before .before .before .before .before .before .before .before .before .before .before .before .before .before .before .before .before .before .before .before .args .partners .now) (c .before .before .before .before .before .before .before .before .before .before .before .before .before .before .before .before .before .before .before .before .before .args .g) listed (c .groups-kept .ensures e a d listed))
+returns-3 c = (c .before .before .before .before .before .enter-sets .ensures .0 ∙ c .before .before .before .before .before .before .before .before .before .before .before .enter-objects .ensures .0 ∙ c .before .before .before .before .before .before .before .before .before .before .before .before .before .before .before .clear .ensures .0, λ e a b d owns listed full spans. let sets = c .before .before .before .before .before .enter-sets .ensures .1 (not-false _ (c .before .before .if2 .left)) a owns in programme-kept (sheetOf (c .before .before .before .before .before .before .before .before .before .before .before .before .before .before .before .before .before .before .before .before .before .before .args .s .now)) (c .before .before .before .before .before .before .before .before .before .before .before .before .before .before .before .before .before .before .before .before .before .before .args .p) (c .before .before .before .before .before .before .before .before .before .before .before .before .before .before .before .clear .last .0) (c .before .before .before .before .before .before .before .before .before .before .before .enter-objects .last .1 .1 .1 .1 .0) (c .before .before .before .before .before .enter-sets .last .1 .1 .1 .1 .1 .0) (c .before .before .before .before .before .before .before .before .before .before .before .before .before .before .before .clear .ensures .1) (c .before .before .before .before .before .before .before .before .before .before .before .enter-objects .ensures .0) (c .before .before .before .before .before .enter-sets .ensures .0) (c .before .before .before .before .before .before .before .before .before .before .before .enter-objects .ensures .1 (not-false _ (c .before .before .before .before .before .before .before .before .if1 .left)) a b) (sets .0) (c .before .before .before .before .before .before .before .before .before .before .before .before .before .before .before .clear .ensures .0 ∙ full) spans (λ j l. omega (arith, sets .1 j l, c .before .before .before .before .before .before .before .count .ensures)) (c .before .before .before .before .before .before .before .before .before .before .before .before .before .before .before .before .before .before .before .before .before .before .args .list .now) (c .before .before .before .before .before .before .before .before .before .before .before .before .before .before .before .before .before .before .before .before .before .before .args .partners .now) (c .before .before .before .before .before .before .before .before .before .before .before .before .before .before .before .before .before .before .before .before .before .before .args .g) listed (c .groups-kept .ensures e a d listed))
 
 pub programme-passes-spec : {M : Type 1} → statement M
 programme-passes-spec =
@@ -51,6 +57,7 @@ programme-passes-spec =
     enter-objects-requires
     same-length
     returns
+    count-requires
     enter-sets-requires
     same-length-2
     returns-2

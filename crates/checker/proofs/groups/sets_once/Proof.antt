@@ -1,0 +1,48 @@
+-- By the counts of the spans. Assumes nothing.
+use Prim.Native.Nat.{ℕ, suc, _+_, _-_, _≤_, _<_}
+use mathlib.Core.Path.{_≡_, refl, sym, ap, ap₂, _∙_}
+use mathlib.Core.Bool.{true, false, true≢false, cond, not}
+use native.Mathlib.Omega.{arith}
+use native.Mathlib.Numerals.{add-one}
+use borrow.Author.Tests.{not-false, not-true}
+use lib.Dec.{eqb, ltb}
+use lib.ListN.{length, getD}
+use lib.ListN.{replicate}
+use Rattle.sheet.specs.Words.{sheetOf}
+use Rattle.sheet.specs.Layout.{count}
+use Rattle.sheet.specs.Fields.{valueSets}
+use Rattle.tables.proofs.MarkLaws.{nought}
+use Rattle.checker.proofs.GroupLaws as laws
+use Rattle.checker.proofs.SearchLaws.{spans-made}
+use borrow.Author.Needs.{needs}
+use Rattle.checker.proofs.groups.sets_once.Statement.{statement}
+use Rattle.checker.proofs.groups.sets_once.Tie as tie
+
+slice-aggregate-count-namings : tie.Need-slice-aggregate-count-namings
+slice-aggregate-count-namings c = search needs
+
+count-namings-requires : tie.Need-count-namings-requires
+count-namings-requires c κs = search needs
+
+slice-aggregate-all-once : tie.Need-slice-aggregate-all-once
+slice-aggregate-all-once c = search needs
+
+count-requires : tie.Need-count-requires
+count-requires c κs = search needs
+
+all-once-requires : tie.Need-all-once-requires
+all-once-requires c κs = search needs
+
+returns : tie.Need-returns
+returns c = λ e. laws.sets-once (sheetOf (c .before .before .before .before .before .before .before .args .s .now)) (c .before .before .before .before .count-namings .last .1 .1 .0) (spans-made (sheetOf (c .before .before .before .before .before .before .before .args .s .now)) (replicate 4680 0) (λ x l. nought 4680 x) (c .before .before .before .before .count-namings .last .1 .1 .0) (c .before .before .before .before .count-namings .ensures .0) (c .before .before .before .before .count-namings .ensures .1)) (λ v l. c .all-once .ensures e v (rw (c .before .count .ensures) l))
+
+pub sets-once-spec : {M : Type 1} → statement M
+sets-once-spec =
+    tie.close
+    (tie.spec
+    slice-aggregate-count-namings
+    count-namings-requires
+    slice-aggregate-all-once
+    count-requires
+    all-once-requires
+    returns)

@@ -1,0 +1,27 @@
+-- Both are. Assumes nothing.
+use Prim.Native.Nat.{ℕ, suc, _+_, _-_, _≤_, _<_}
+use mathlib.Core.Path.{_≡_, refl, sym, ap, ap₂, _∙_}
+use mathlib.Core.Bool.{true, false, true≢false, cond, not}
+use native.Mathlib.Omega.{arith}
+use native.Mathlib.Numerals.{add-one}
+use borrow.Author.Tests.{not-false, not-true}
+use lib.Dec.{eqb, ltb}
+use lib.ListN.{length, getD}
+use borrow.Author.Needs.{needs}
+use Rattle.grouping.proofs.programmes.same_lists.Statement.{statement}
+use Rattle.grouping.proofs.programmes.same_lists.Tie as tie
+
+same-list-requires : tie.Need-same-list-requires
+same-list-requires c κs = search needs
+
+returns : tie.Need-returns
+returns c = λ e. absurd (true≢false (sym e))
+
+same-list-requires-2 : tie.Need-same-list-requires-2
+same-list-requires-2 c κs = search needs
+
+returns-2 : tie.Need-returns-2
+returns-2 c = λ e. let first = c .before .before .same-list .ensures (not-false _ (c .before .if1 .left)) in (first .0, first .1, c .same-list2 .ensures e .1)
+
+pub same-lists-spec : {M : Type 1} → statement M
+same-lists-spec = tie.close (tie.spec same-list-requires returns same-list-requires-2 returns-2)
