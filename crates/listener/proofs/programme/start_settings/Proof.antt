@@ -1,6 +1,5 @@
 -- The settings so far are those of the objects passed; the others are at rest. Assumes nothing.
-use Prim.Native.Nat.{ℕ, _-_, _≤_}
-use mathlib.Core.Path.{_≡_, sym}
+use Prim.Native.Nat.{_-_, _≤_}
 use native.Mathlib.Omega.{arith}
 use Rattle.sheet.specs.Words.{sheetOf}
 use Rattle.tables.specs.Right.{Included, Leaders}

@@ -1,7 +1,7 @@
--- The rest by itself, then the flags, then each object by the tables.
-use Prim.Native.Nat.{ℕ, _-_, _≤_, _<_}
+-- The rest by itself, then the flags, then each object by the tables. Assumes nothing.
+use Prim.Native.Nat.{ℕ, _-_, _≤_}
 use mathlib.Core.Path.{_≡_, refl, sym, ap, _∙_}
-use mathlib.Core.Bool.{Bool, true, false, cond, _&&_, _||_}
+use mathlib.Core.Bool.{Bool, true, cond, _&&_, _||_}
 use mathlib.Core.List.{List}
 use native.Mathlib.Omega.{arith}
 use native.Mathlib.Numerals.{add-one}
