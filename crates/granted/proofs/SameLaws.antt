@@ -1,7 +1,6 @@
 -- Two numbers have the same bits where neither is above the other. Assumes nothing.
-use Prim.Native.Nat.{ℕ}
 use mathlib.Core.Path.{_≡_, refl, sym, ap, _∙_}
-use mathlib.Core.Bool.{Bool, true, false, _&&_, true≢false}
+use mathlib.Core.Bool.{true, false, _&&_, true≢false}
 use native.Mathlib.Nat.{le-refl, le-antisymm}
 use borrow.Author.Tests.{leb-true, le-leb, eqb-true, eqb-false}
 use lib.Dec.{eqb}

@@ -29,11 +29,14 @@ ghost use Rattle.tables.specs.Right.{Included, Leaders};
 fn set_place(s: &[u8], p: u16, o: u16) -> u16
     ensures { λ r. ⌜ r ≡ setPlace (sheetOf (now (s .entry))) p o ⌝ }
 {
+    let n = number(s, PROGRAMMES, p, SET_LIST);
+    if n == 0 {
+        return 0;
+    }
     let from = field(s, OBJECTS, o, SET_SPAN);
     let many = number(s, OBJECTS, o, SET_SPAN);
     let to = from as u32 + many as u32;
     let list = field(s, PROGRAMMES, p, SET_LIST);
-    let n = number(s, PROGRAMMES, p, SET_LIST);
     let mut i: u16 = 0;
     while i < n {
         let v = reference(s, list as u32 + i as u32);

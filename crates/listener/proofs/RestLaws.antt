@@ -19,7 +19,8 @@ use Rattle.profile.proofs.ListLaws.{every-at, every-all}
 use Rattle.values.specs.declared.Gain.the-variants.{Tenths}
 use Rattle.granted.specs.Fitting.{sameGain, sameOffset}
 use Rattle.listener.specs.declared.State.{State}
-use Rattle.listener.specs.State.{stateObjects, setting, active, isResting}
+use Rattle.listener.specs.State.{stateObjects, resting, setting, active, isResting}
+use Rattle.listener.specs.Programme.{startSetting}
 use Rattle.listener.specs.Sound.{soundAt, sound}
 use Rattle.listener.specs.Steps.{restingFrom}
 use Rattle.listener.proofs.StepLaws.{every-eq}
@@ -90,6 +91,11 @@ rest-inactive st n k e l m =
     not-true (setting st k .active)
     (and-both (not (setting st k .active)) (sameGain (setting st k .gain) (Tenths (pos 0)))
     (and-both (not (setting st k .active) && sameGain (setting st k .gain) (Tenths (pos 0))) (sameOffset (setting st k .offset) (pos 0)) still .0) .0)
+
+-- what a programme doesn't include starts at rest
+pub rest-start : (s : Sheet) (p k : ℕ) → includes s p k ≡ false → resting ≡ startSetting s p k
+unfolding startSetting
+rest-start s p k e = rw e refl
 
 -- one more than the highest number below 84 that f gives so far: what is higher is none of them
 abbrev pub Past : (ℕ → ℕ) → ℕ → ℕ → Type 0

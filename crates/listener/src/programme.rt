@@ -2,6 +2,7 @@
 use crate::Setting;
 use crate::State;
 use crate::settings::resting;
+use crate::sounding::past_included;
 use granted::programme::start_value;
 use granted::programme::starts_active;
 use tables::Naming;
@@ -31,15 +32,16 @@ fn start_setting(s: &[u8], p: u16, leaders: &[u16], marks: &[u16], o: u16) -> Se
     }
 }
 
-// The settings of a programme as it starts.
+// The settings of a programme as it starts; those of numbers that it doesn't include are at rest.
 fn start_settings(s: &[u8], p: u16, leaders: &[u16], marks: &[u16]) -> State
     ensures { λ r. ⌜ (Leaders (sheetOf (now (s .entry))) (now (leaders .entry)) → Included (sheetOf (now (s .entry))) p (now (marks .entry)) → r ≡ started (sheetOf (now (s .entry))) p) ⌝ }
 {
     let x = resting();
     let mut objects = [x; 84];
-    let mut o: usize = 0;
-    while o < 84 {
-        objects[o] = start_setting(s, p, leaders, marks, o as u16);
+    let n = past_included(s, p);
+    let mut o: u16 = 0;
+    while o < n {
+        objects[o as usize] = start_setting(s, p, leaders, marks, o);
         o += 1;
     }
     State {

@@ -19,12 +19,10 @@ use tables::marks::first_namers;
 use tables::marks::mark_included;
 use tables::reads::included_by;
 ghost use Prim.Native.Nat.{ℕ, _<_, _≤_};
-ghost use mathlib.Core.Bool.{cond, false, true};
+ghost use mathlib.Core.Bool.{false};
 ghost use mathlib.Core.Path.{_≡_};
 ghost use Rattle.listener.specs.Sound.{sound};
-ghost use Rattle.listener.specs.State.{active, setting, stateObjects};
-ghost use Rattle.listener.specs.Steps.{flaggedSound, restingFrom};
-ghost use Rattle.profile.specs.Counting.{every, tabulate};
+ghost use Rattle.listener.specs.Steps.{flaggedSound};
 ghost use Rattle.profile.specs.Relations.{includes};
 ghost use Rattle.sheet.specs.Words.{sheetOf};
 ghost use Rattle.tables.specs.Right.{Included, Leaders};
@@ -45,36 +43,6 @@ pub fn past_included(s: &[u8], p: u16) -> u16
         i += 1;
     }
     past
-}
-
-// Whether the settings from a number on are "inactive, 0, 0".
-fn resting_from(state: State, n: u16) -> bool
-    requires { ⌜ n ≤ 84 ⌝ }
-    ensures { λ r. ⌜ r ≡ restingFrom state n ⌝ }
-{
-    let mut good = true;
-    let mut o: u16 = n;
-    while o < 84 {
-        let x = state.objects[o as usize];
-        good = good & is_resting(x);
-        o += 1;
-    }
-    good
-}
-
-// 1 for each active object of a state, none of which has the number n or a higher one.
-fn flags(state: State, n: u16) -> [u16; 84]
-    requires { ⌜ n ≤ 84 ⌝ }
-    ensures { λ r. ⌜ (restingFrom state n ≡ true → r ≡ tabulate (λ o. cond (active state o) 1 0) stateObjects) ⌝ }
-{
-    let mut found: [u16; 84] = [0; 84];
-    let mut o: u16 = 0;
-    while o < n {
-        let x = state.objects[o as usize];
-        found[o as usize] = one(x.active);
-        o += 1;
-    }
-    found
 }
 
 // One object of a sound state, by its setting.
@@ -100,23 +68,8 @@ fn sound_at(
     }
 }
 
-// Whether each object below a number is one of a sound state.
-fn sound_by(s: &[u8], state: State, n: u16, leaders: &[u16], marks: &[u16], active: &[u16]) -> bool
-    requires { ⌜ n ≤ 84 ⌝ }
-    ensures { λ r. ⌜ (Leaders (sheetOf (now (s .entry))) (now (leaders .entry)) → Included (sheetOf (now (s .entry))) (state .programme) (now (marks .entry)) → r ≡ every (λ o. flaggedSound (sheetOf (now (s .entry))) (state .programme) (now (active .entry)) o (setting state o)) n) ⌝ }
-{
-    let p = state.programme;
-    let mut good = true;
-    let mut o: u16 = 0;
-    while o < n {
-        let x = state.objects[o as usize];
-        good = good & sound_at(s, p, leaders, marks, active, o, x);
-        o += 1;
-    }
-    good
-}
-
-// Whether a state is sound for the sheet. What the programme doesn't include is at rest, so it has no part in a group.
+// Whether a state is sound for the sheet. What the programme doesn't include is at rest, so it has no part in a group. The loops stand
+// in one function, since a call that takes a state copies it.
 pub fn sound(s: &[u8], state: State) -> bool
     ensures { λ r. ⌜ r ≡ sound (sheetOf (now (s .entry))) state ⌝ }
 {
@@ -125,13 +78,32 @@ pub fn sound(s: &[u8], state: State) -> bool
         return false;
     }
     let n = past_included(s, p);
-    if !resting_from(state, n) {
+    let mut good = true;
+    let mut o: u16 = n;
+    while o < 84 {
+        let x = state.objects[o as usize];
+        good = good & is_resting(x);
+        o += 1;
+    }
+    if !good {
         return false;
     }
     let mut leaders: [u16; 84] = [0; 84];
     first_namers(s, Naming::Complements, &mut leaders);
     let mut marks: [u16; 84] = [0; 84];
     mark_included(s, p, &mut marks);
-    let active = flags(state, n);
-    sound_by(s, state, n, &leaders, &marks, &active)
+    let mut active: [u16; 84] = [0; 84];
+    o = 0;
+    while o < n {
+        let x = state.objects[o as usize];
+        active[o as usize] = one(x.active);
+        o += 1;
+    }
+    o = 0;
+    while o < n {
+        let x = state.objects[o as usize];
+        good = good & sound_at(s, p, &leaders, &marks, &active, o, x);
+        o += 1;
+    }
+    good
 }

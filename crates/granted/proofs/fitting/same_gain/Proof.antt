@@ -1,6 +1,6 @@
--- The same bits, or silence in both.
+-- The same bits, or silence in both. Assumes nothing.
 use Rattle.granted.specs.Fitting.{sameGain}
-use mathlib.Core.Path.{_≡_, _∙_}
+use mathlib.Core.Path.{_∙_}
 use Rattle.values.specs.Gain.{atMost}
 use Rattle.values.proofs.Signs.{held}
 use Rattle.granted.proofs.SameLaws.{same-bits}

@@ -1,4 +1,4 @@
--- The same bits.
+-- The same bits. Assumes nothing.
 use mathlib.Core.Path.{_≡_}
 use mir.Val.{toZ, ofZ}
 use mir.Syntax.{w16}

@@ -1,5 +1,5 @@
--- The leader by the table, its members by the marks.
-use mathlib.Core.Path.{_≡_, sym, _∙_}
+-- The leader by the table, its members by the marks. Assumes nothing.
+use mathlib.Core.Path.{sym, _∙_}
 use Rattle.profile.specs.Relations.{whollyIncluded}
 use Rattle.granted.specs.Granted.{inWholeGroup}
 use borrow.Author.Needs.{needs}

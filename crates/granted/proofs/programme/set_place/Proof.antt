@@ -1,10 +1,10 @@
 -- No place passed has a set of the object. Assumes nothing.
 use Prim.Native.Nat.{ℕ, _-_, _<_, _≤_}
-use mathlib.Core.Path.{_≡_, refl, sym, ap, _∙_}
+use mathlib.Core.Path.{_≡_, sym, ap, _∙_}
 use mathlib.Core.Bool.{false}
 use native.Mathlib.Omega.{arith}
 use borrow.Author.Count.{below-none, below-more}
-use Rattle.profile.specs.Counting.{lowest}
+use Rattle.profile.specs.Counting.{lowest, lowestFrom}
 use Rattle.profile.specs.Relations.{hasSet, namedSet}
 use Rattle.profile.proofs.CountingLaws.{lowest-at, lowest-none}
 use Rattle.sheet.specs.Words.{sheetOf}
@@ -15,16 +15,23 @@ use Rattle.granted.proofs.programme.set_place.Statement.{statement}
 use Rattle.granted.proofs.programme.set_place.Tie as tie
 
 abbrev Inv-loop : tie.InvT-loop
-Inv-loop s p o from many to list n i₀ i = (i ≤ n) × ((j : ℕ) → j < i → hasSet (sheetOf s) o (namedSet (sheetOf s) p j) ≡ false)
+Inv-loop s p o n from many to list i₀ i = (i ≤ n) × ((j : ℕ) → j < i → hasSet (sheetOf s) o (namedSet (sheetOf s) p j) ≡ false)
 
 abbrev μ-loop : tie.MeasureT-loop
-μ-loop s p o from many to list n i₀ i = n - i
+μ-loop s p o n from many to list i₀ i = n - i
+
+number-requires : tie.Need-number-requires Inv-loop μ-loop
+number-requires c κs = search needs
+
+returns : tie.Need-returns Inv-loop μ-loop
+unfolding setPlace lowest lowestFrom
+returns c = ap (lowest (λ i. hasSet (sheetOf (c .before .before .before .args .s .now)) (c .before .before .before .args .o) (namedSet (sheetOf (c .before .before .before .args .s .now)) (c .before .before .before .args .p) i))) (sym (c .if1 .taken) ∙ c .before .number .ensures)
 
 field-requires : tie.Need-field-requires Inv-loop μ-loop
 field-requires c κs = search needs
 
-number-requires : tie.Need-number-requires Inv-loop μ-loop
-number-requires c κs = search needs
+number-requires-2 : tie.Need-number-requires-2 Inv-loop μ-loop
+number-requires-2 c κs = search needs
 
 cast-to : tie.Need-cast-to Inv-loop μ-loop
 cast-to c = search needs
@@ -37,9 +44,6 @@ add-to c = search needs
 
 field-requires-2 : tie.Need-field-requires-2 Inv-loop μ-loop
 field-requires-2 c κs = search needs
-
-number-requires-2 : tie.Need-number-requires-2 Inv-loop μ-loop
-number-requires-2 c κs = search needs
 
 loop-holds : tie.Need-loop-holds Inv-loop μ-loop
 loop-holds c = (search needs, below-none _)
@@ -56,12 +60,12 @@ add-reference c = search needs
 reference-requires : tie.Need-reference-requires Inv-loop μ-loop
 reference-requires c κs = search needs
 
-cast-if1 : tie.Need-cast-if1 Inv-loop μ-loop
-cast-if1 c = search needs
+cast-if2 : tie.Need-cast-if2 Inv-loop μ-loop
+cast-if2 c = search needs
 
-returns : tie.Need-returns Inv-loop μ-loop
+returns-2 : tie.Need-returns-2 Inv-loop μ-loop
 unfolding setPlace
-returns c = sym (lowest-at _ _ _ (search needs) (c .before .before .before .loop .inv .1) (sym (place-has (sheetOf (c .before .before .before .before .before .before .before .before .before .args .s .now)) (c .before .before .before .before .before .before .before .before .before .args .p) (c .before .before .before .before .before .before .before .before .before .args .o) (c .before .before .before .loop .i) _ _ _ _ (c .before .before .before .before .before .before .before .field .ensures) (c .before .before .before .before .before .before .number .ensures) (c .before .before .before .before .before .field2 .ensures) (c .before .reference .ensures)) ∙ c .if1 .taken)) ∙ ap (lowest _) (c .before .before .before .before .number2 .ensures)
+returns-2 c = sym (lowest-at _ _ _ (search needs) (c .before .before .before .loop .inv .1) (sym (place-has (sheetOf (c .before .before .before .before .before .before .before .before .before .before .args .s .now)) (c .before .before .before .before .before .before .before .before .before .before .args .p) (c .before .before .before .before .before .before .before .before .before .before .args .o) (c .before .before .before .loop .i) _ _ _ _ (c .before .before .before .before .before .before .field .ensures) (c .before .before .before .before .before .number2 .ensures) (c .before .before .before .before .field2 .ensures) (c .before .reference .ensures)) ∙ c .if2 .taken)) ∙ ap (lowest _) (c .before .before .before .before .before .before .before .before .number .ensures)
 
 add-i : tie.Need-add-i Inv-loop μ-loop
 add-i c = search needs
@@ -70,11 +74,11 @@ loop-less : tie.Need-loop-less Inv-loop μ-loop
 loop-less c = search needs
 
 loop-again : tie.Need-loop-again Inv-loop μ-loop
-loop-again c = (search needs, below-more _ _ (c .before .before .before .loop .inv .1) (sym (place-has (sheetOf (c .before .before .before .before .before .before .before .before .before .args .s .now)) (c .before .before .before .before .before .before .before .before .before .args .p) (c .before .before .before .before .before .before .before .before .before .args .o) (c .before .before .before .loop .i) _ _ _ _ (c .before .before .before .before .before .before .before .field .ensures) (c .before .before .before .before .before .before .number .ensures) (c .before .before .before .before .before .field2 .ensures) (c .before .reference .ensures)) ∙ c .if1 .left))
+loop-again c = (search needs, below-more _ _ (c .before .before .before .loop .inv .1) (sym (place-has (sheetOf (c .before .before .before .before .before .before .before .before .before .before .args .s .now)) (c .before .before .before .before .before .before .before .before .before .before .args .p) (c .before .before .before .before .before .before .before .before .before .before .args .o) (c .before .before .before .loop .i) _ _ _ _ (c .before .before .before .before .before .before .field .ensures) (c .before .before .before .before .before .number2 .ensures) (c .before .before .before .before .field2 .ensures) (c .before .reference .ensures)) ∙ c .if2 .left))
 
-returns-2 : tie.Need-returns-2 Inv-loop μ-loop
+returns-3 : tie.Need-returns-3 Inv-loop μ-loop
 unfolding setPlace
-returns-2 c = sym (lowest-none _ _ (λ j l. c .before .loop .inv .1 j (omega arith))) ∙ ap (lowest _) (c .before .before .number2 .ensures)
+returns-3 c = sym (lowest-none _ _ (λ j l. c .before .loop .inv .1 j (omega arith))) ∙ ap (lowest _) (c .before .before .before .before .before .before .number .ensures)
 
 pub set-place-spec : {M : Type 1} → statement M
 set-place-spec =
@@ -82,21 +86,22 @@ set-place-spec =
     (tie.spec
     Inv-loop
     μ-loop
-    field-requires
     number-requires
+    returns
+    field-requires
+    number-requires-2
     cast-to
     cast-to-2
     add-to
     field-requires-2
-    number-requires-2
     loop-holds
     cast-reference
     cast-reference-2
     add-reference
     reference-requires
-    cast-if1
-    returns
+    cast-if2
+    returns-2
     add-i
     loop-less
     loop-again
-    returns-2)
+    returns-3)
