@@ -1,11 +1,11 @@
 -- What the table shows of a programme. Assumes nothing.
 use Prim.Native.Nat.{ℕ, zero, suc, _+_, _-_, _<_, _≤_}
-use mathlib.Core.Path.{_≡_, refl, sym, ap, ap₂, subst, _∙_}
+use mathlib.Core.Path.{_≡_, refl, sym, ap, subst, _∙_}
 use mathlib.Core.Bool.{Bool, true, false, true≢false, cond, not, _&&_, _||_}
 use mathlib.Core.List.{List}
 use mathlib.Core.Logic.{⊎-elim}
 use native.Mathlib.Omega.{arith}
-use borrow.Author.Tests.{eqb-true, eq-eqb, ne-eqb, leb-true, leb-false, lt-leb, ltb-true, ltb-false, lt-ltb, le-ltb, not-false}
+use borrow.Author.Tests.{eqb-true, eq-eqb, ne-eqb, leb-true, lt-leb, ltb-true, ltb-false, lt-ltb, not-false}
 use lib.Dec.{eqb, leb, ltb}
 use lib.ListN.{length, getD}
 use Rattle.sheet.specs.Words.{Sheet}
@@ -13,11 +13,11 @@ use Rattle.sheet.specs.Layout.{count, field, number, entry}
 use Rattle.sheet.specs.Fields.{programmes, contents, objects, valueSets, contentList, setList, contentObject, complementList}
 use Rattle.profile.specs.Counting.{any, howMany, twoOf}
 use Rattle.profile.specs.Relations.{leader, complement, member, members, leaderOf, includes, included, whollyIncluded, hasSet, owner, namedSet, namesSet}
-use Rattle.profile.specs.Rules.{lacks, listLacks, repeats, rule5, rule11, rule21, rule22, ownerAt, setsNamed, setsDiffer}
-use Rattle.profile.proofs.BoolLaws.{or-false, or-none, or-either, and-both}
+use Rattle.profile.specs.Rules.{repeats, rule11, rule21, rule22, ownerAt, setsNamed, setsDiffer}
+use Rattle.profile.proofs.BoolLaws.{or-false, or-either, and-both}
 use Rattle.profile.proofs.CountingLaws.{any-none, any-howMany}
 use Rattle.profile.proofs.GroupLaws.{any-witness, own-leader, leader-lists, member-zero, member-at, no-leader}
-use Rattle.profile.proofs.SumLaws.{any-nowhere, any-one, howMany-eq, howMany-all}
+use Rattle.profile.proofs.SumLaws.{any-nowhere, howMany-eq, howMany-all}
 use Rattle.tables.specs.Marks.{Standing}
 use Rattle.grouping.specs.Groups.{Changed, GroupKept, LeadersIn, Noted, OneSpan, ProgrammeKept, SameList, groupWhole, manyIn, objectAt, setsIn}
 use Rattle.grouping.proofs.CountLaws.{Apart, any-eq, two-counted}

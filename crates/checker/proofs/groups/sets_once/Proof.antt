@@ -1,16 +1,6 @@
 -- By the counts of the spans. Assumes nothing.
-use Prim.Native.Nat.{ℕ, suc, _+_, _-_, _≤_, _<_}
-use mathlib.Core.Path.{_≡_, refl, sym, ap, ap₂, _∙_}
-use mathlib.Core.Bool.{true, false, true≢false, cond, not}
-use native.Mathlib.Omega.{arith}
-use native.Mathlib.Numerals.{add-one}
-use borrow.Author.Tests.{not-false, not-true}
-use lib.Dec.{eqb, ltb}
-use lib.ListN.{length, getD}
 use lib.ListN.{replicate}
 use Rattle.sheet.specs.Words.{sheetOf}
-use Rattle.sheet.specs.Layout.{count}
-use Rattle.sheet.specs.Fields.{valueSets}
 use Rattle.tables.proofs.MarkLaws.{nought}
 use Rattle.checker.proofs.GroupLaws as laws
 use Rattle.checker.proofs.SearchLaws.{spans-made}

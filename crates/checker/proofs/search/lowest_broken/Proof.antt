@@ -1,12 +1,8 @@
 -- By whichever way. Assumes nothing.
-use Prim.Native.Nat.{ℕ, suc, _+_, _-_, _≤_, _<_}
-use mathlib.Core.Path.{_≡_, refl, sym, ap, ap₂, _∙_}
-use mathlib.Core.Bool.{true, false, true≢false, cond, not}
+use Prim.Native.Nat.{ℕ}
+use mathlib.Core.Path.{sym, ap, _∙_}
 use native.Mathlib.Omega.{arith}
-use native.Mathlib.Numerals.{add-one}
-use borrow.Author.Tests.{not-false, not-true}
-use lib.Dec.{eqb, ltb}
-use lib.ListN.{length, getD}
+use borrow.Author.Tests.{not-false}
 use Rattle.sheet.specs.Words.{sheetOf}
 use Rattle.profile.specs.Counting.{lowest}
 use Rattle.profile.specs.Verdict.{breaks}

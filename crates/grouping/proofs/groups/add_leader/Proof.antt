@@ -1,12 +1,7 @@
 -- It is one, or none. Assumes nothing.
-use Prim.Native.Nat.{ℕ, suc, _+_, _-_, _≤_, _<_}
-use mathlib.Core.Path.{_≡_, refl, sym, ap, ap₂, _∙_}
-use mathlib.Core.Bool.{true, false, true≢false, cond, not}
+use mathlib.Core.Path.{refl, sym, _∙_}
 use native.Mathlib.Omega.{arith}
-use native.Mathlib.Numerals.{add-one}
-use borrow.Author.Tests.{not-false, not-true}
-use lib.Dec.{eqb, ltb}
-use lib.ListN.{length, getD}
+use borrow.Author.Tests.{not-true}
 use Rattle.sheet.specs.Words.{sheetOf}
 use Rattle.grouping.proofs.PassLaws.{listed-more, listed-same}
 use borrow.Author.Needs.{needs}

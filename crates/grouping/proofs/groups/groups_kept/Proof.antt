@@ -1,18 +1,16 @@
 -- The groups passed are kept. Assumes nothing.
 use borrow.Author.Needs.{needs}
-use Prim.Native.Nat.{ℕ, suc, _+_, _-_, _≤_, _<_}
-use mathlib.Core.Path.{_≡_, refl, sym, ap, ap₂, _∙_}
-use mathlib.Core.Bool.{true, false, true≢false, cond, not}
+use Prim.Native.Nat.{ℕ, _-_, _≤_, _<_}
+use mathlib.Core.Path.{_≡_, sym}
+use mathlib.Core.Bool.{true≢false}
 use native.Mathlib.Omega.{arith}
-use native.Mathlib.Numerals.{add-one}
-use borrow.Author.Tests.{not-false, not-true}
-use lib.Dec.{eqb, ltb}
-use lib.ListN.{length, getD}
+use borrow.Author.Tests.{not-false}
+use lib.ListN.{getD}
 use borrow.Author.Count.{below-more}
 use Rattle.sheet.specs.Words.{sheetOf}
 use Rattle.sheet.specs.Layout.{offset}
 use Rattle.sheet.specs.Fields.{references, valueSets}
-use Rattle.grouping.specs.Groups.{GroupKept, LeadersIn, Partner}
+use Rattle.grouping.specs.Groups.{GroupKept, LeadersIn}
 use Rattle.grouping.proofs.groups.groups_kept.Statement.{statement}
 use Rattle.grouping.proofs.groups.groups_kept.Tie as tie
 

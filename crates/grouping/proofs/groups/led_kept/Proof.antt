@@ -1,15 +1,6 @@
 -- As a group of two, or any. Assumes nothing.
-use Prim.Native.Nat.{ℕ, suc, _+_, _-_, _≤_, _<_}
-use mathlib.Core.Path.{_≡_, refl, sym, ap, ap₂, _∙_}
-use mathlib.Core.Bool.{true, false, true≢false, cond, not}
-use native.Mathlib.Omega.{arith}
-use native.Mathlib.Numerals.{add-one}
-use borrow.Author.Tests.{not-false, not-true}
-use lib.Dec.{eqb, ltb}
-use lib.ListN.{length, getD}
+use mathlib.Core.Path.{sym}
 use Rattle.sheet.specs.Words.{sheetOf}
-use Rattle.profile.specs.Rules.{setsDiffer}
-use Rattle.grouping.specs.Groups.{PairKept}
 use Rattle.grouping.proofs.PassLaws.{pair-group}
 use borrow.Author.Needs.{needs}
 use Rattle.grouping.proofs.groups.led_kept.Statement.{statement}

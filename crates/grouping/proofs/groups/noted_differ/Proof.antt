@@ -1,12 +1,5 @@
 -- A set is noted, or none. Assumes nothing.
-use Prim.Native.Nat.{ℕ, suc, _+_, _-_, _≤_, _<_}
-use mathlib.Core.Path.{_≡_, refl, sym, ap, ap₂, _∙_}
-use mathlib.Core.Bool.{true, false, true≢false, cond, not}
 use native.Mathlib.Omega.{arith}
-use native.Mathlib.Numerals.{add-one}
-use borrow.Author.Tests.{not-false, not-true}
-use lib.Dec.{eqb, ltb}
-use lib.ListN.{length, getD}
 use borrow.Author.Needs.{needs}
 use Rattle.grouping.proofs.groups.noted_differ.Statement.{statement}
 use Rattle.grouping.proofs.groups.noted_differ.Tie as tie

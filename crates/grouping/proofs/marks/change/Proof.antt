@@ -1,7 +1,6 @@
 -- The place is written where the number stands. Assumes nothing.
-use mathlib.Core.Path.{_≡_, refl, sym, ap, _∙_}
+use mathlib.Core.Path.{refl, sym}
 use mathlib.Core.Bool.{true≢false}
-use native.Mathlib.Omega.{arith}
 use lib.ListN.{length-set}
 use Rattle.grouping.proofs.PassLaws.{written}
 use borrow.Author.Needs.{needs}

@@ -1,12 +1,8 @@
 -- By the table, or by the programme before. Assumes nothing.
-use Prim.Native.Nat.{ℕ, suc, _+_, _-_, _≤_, _<_}
-use mathlib.Core.Path.{_≡_, refl, sym, ap, ap₂, _∙_}
-use mathlib.Core.Bool.{true, false, true≢false, cond, not}
-use native.Mathlib.Omega.{arith}
-use native.Mathlib.Numerals.{add-one}
-use borrow.Author.Tests.{not-false, not-true}
-use lib.Dec.{eqb, ltb}
-use lib.ListN.{length, getD}
+use Prim.Native.Nat.{_-_}
+use mathlib.Core.Path.{refl, sym, _∙_}
+use mathlib.Core.Bool.{true≢false}
+use borrow.Author.Tests.{not-false}
 use Rattle.sheet.specs.Words.{sheetOf}
 use Rattle.grouping.proofs.KeptLaws.{groups-kept-21, same-21}
 use borrow.Author.Needs.{needs}

@@ -1,17 +1,14 @@
 -- The programmes passed are kept. Assumes nothing.
 use borrow.Author.Needs.{needs}
-use Prim.Native.Nat.{ℕ, suc, _+_, _-_, _≤_, _<_}
-use mathlib.Core.Path.{_≡_, refl, sym, ap, ap₂, _∙_}
-use mathlib.Core.Bool.{true, false, true≢false, cond, not}
+use Prim.Native.Nat.{ℕ, _-_, _≤_, _<_}
+use mathlib.Core.Path.{_≡_, refl, _∙_}
 use native.Mathlib.Omega.{arith}
-use native.Mathlib.Numerals.{add-one}
-use borrow.Author.Tests.{not-false, not-true}
-use lib.Dec.{eqb, ltb}
-use lib.ListN.{length, getD}
+use borrow.Author.Tests.{not-false}
+use lib.ListN.{length}
 use borrow.Author.Count.{below-more}
 use Rattle.sheet.specs.Words.{sheetOf}
-use Rattle.sheet.specs.Layout.{count, offset}
-use Rattle.sheet.specs.Fields.{programmes, contents, objects, references, valueSets}
+use Rattle.sheet.specs.Layout.{count}
+use Rattle.sheet.specs.Fields.{objects}
 use Rattle.tables.specs.Right.{Owners}
 use Rattle.grouping.specs.Groups.{LeadersIn, OneSpan, ProgrammeKept}
 use Rattle.grouping.proofs.programmes.kept_below.Statement.{statement}

@@ -1,16 +1,9 @@
 -- By the table. Assumes nothing.
-use Prim.Native.Nat.{ℕ, suc, _+_, _-_, _≤_, _<_}
-use mathlib.Core.Path.{_≡_, refl, sym, ap, ap₂, _∙_}
-use mathlib.Core.Bool.{true, false, true≢false, cond, not}
+use mathlib.Core.Path.{sym, _∙_}
+use mathlib.Core.Bool.{true≢false}
 use native.Mathlib.Omega.{arith}
-use native.Mathlib.Numerals.{add-one}
-use borrow.Author.Tests.{not-false, not-true}
-use lib.Dec.{eqb, ltb}
-use lib.ListN.{length, getD}
+use borrow.Author.Tests.{not-false}
 use Rattle.sheet.specs.Words.{sheetOf}
-use Rattle.sheet.specs.Layout.{number}
-use Rattle.sheet.specs.Fields.{programmes, setList}
-use Rattle.profile.specs.Relations.{namedSet}
 use Rattle.grouping.proofs.KeptLaws.{programme-kept}
 use borrow.Author.Needs.{needs}
 use Rattle.grouping.proofs.programmes.programme_passes.Statement.{statement}
