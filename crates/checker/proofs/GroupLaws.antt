@@ -1,17 +1,20 @@
 -- Rules 21 and 22 by the pass over the programmes. Assumes nothing.
-use Prim.Native.Nat.{ℕ, _<_}
+use Prim.Native.Nat.{ℕ, suc, _+_, _<_, _≤_}
 use mathlib.Core.Path.{_≡_, refl, sym, ap, _∙_}
-use mathlib.Core.Bool.{not}
+use mathlib.Core.Bool.{Bool, false, not, true, _&&_}
 use mathlib.Core.List.{List}
-use borrow.Author.Tests.{eq-eqb}
+use borrow.Author.Tests.{eq-eqb, eqb-false, eqb-true}
+use native.Mathlib.Omega.{arith}
+use lib.Dec.{eqb, ltb}
 use lib.ListN.{length, getD}
 use Rattle.sheet.specs.Words.{Sheet}
-use Rattle.sheet.specs.Layout.{count}
-use Rattle.sheet.specs.Fields.{programmes, objects, valueSets}
+use Rattle.sheet.specs.Layout.{count, number}
+use Rattle.sheet.specs.Fields.{complementList, programmes, objects, valueSets}
 use Rattle.profile.specs.Counting.{howMany, lowest}
-use Rattle.profile.specs.Relations.{hasSet}
+use Rattle.profile.specs.Relations.{hasSet, included, includes, leader, member, members, whollyIncluded}
 use Rattle.profile.specs.Rules.{rule11, rule21, rule22}
 use Rattle.profile.specs.Verdict.{breaks, rules}
+use Rattle.profile.proofs.CountingLaws.{howMany-le, lowest-none}
 use Rattle.profile.proofs.SumLaws.{any-nowhere}
 use Rattle.tables.specs.Right.{Spanned, counted}
 use Rattle.tables.proofs.TableLaws.{counted-one}
@@ -32,3 +35,38 @@ lowest-21 s section n = refl
 pub lowest-22 : (s : Sheet) (section n : ℕ) → lowest (λ k. rule22 s programmes k) n ≡ lowest (λ k. breaks s 22 section k) n
 unfolding breaks rules rule22
 lowest-22 s section n = refl
+
+-- a test that fails makes the whole fail
+and-nothing : (b : Bool) → (b && false) ≡ false
+and-nothing true = refl
+and-nothing false = refl
+
+-- of two members one or all
+one-or-all : (m i : ℕ) → m ≤ 1 → i ≤ suc m → (ltb 0 m && not (eqb i 0) && not (eqb i 1) && not (eqb i (suc m))) ≡ false
+one-or-all m i few most =
+    (elim (eqb i (suc m)) as (λ b. eqb i (suc m) ≡ b → (ltb 0 m && not (eqb i 0) && not (eqb i 1) && not b) ≡ false) [
+      | true ↦ λ e. and-nothing (ltb 0 m && not (eqb i 0) && not (eqb i 1))
+      | false ↦ λ e. (elim (eqb i 0) as (λ a. eqb i 0 ≡ a → (ltb 0 m && not a && not (eqb i 1) && true) ≡ false) [
+        | true ↦ λ z. rw (and-nothing (ltb 0 m)) refl
+        | false ↦ λ z. let one : i ≡ 1 = omega (arith, few, most, eqb-false i (suc m) e, eqb-false i 0 z) in rw (eq-eqb i 1 one, and-nothing (ltb 0 m && true)) refl
+      ]) refl
+    ]) refl
+
+-- groups of at most two keep rule 21
+pub pairs-kept : (s : Sheet) (p : ℕ) → ((l : ℕ) → l < count s objects → number s objects l complementList ≤ 1) → rule21 s programmes p ≡ false
+unfolding rule21 leader whollyIncluded included members
+pairs-kept s p few =
+    any-nowhere (λ l. leader s l && not (eqb (included s p l) 0) && not (eqb (included s p l) 1) && not (whollyIncluded s p l)) (count s objects)
+    (λ l h. one-or-all (number s objects l complementList) (included s p l) (few l h) (howMany-le (λ i. includes s p (member s l i)) (suc (number s objects l complementList))))
+
+-- no programme breaks it
+pub none-split : (s : Sheet) (section n : ℕ) → ((l : ℕ) → l < count s objects → number s objects l complementList ≤ 1) → n ≡ lowest (λ k. breaks s 21 section k) n
+none-split s section n few = sym (lowest-none (λ k. rule21 s programmes k) n (λ k l. pairs-kept s k few)) ∙ lowest-21 s section n
+
+-- the objects passed
+pub each-more : (f : ℕ → ℕ) (i : ℕ) → ((k : ℕ) → k < i → f k ≤ 1) → f i ≤ 1 → (k : ℕ) → k < i + 1 → f k ≤ 1
+each-more f i h e k l =
+    (elim (eqb k i) as (λ b. eqb k i ≡ b → f k ≤ 1) [
+      | true ↦ λ q. let z : f k ≡ f i = ap f (eqb-true k i q) in omega (arith, z, e)
+      | false ↦ λ q. h k (omega (arith, l, eqb-false k i q))
+    ]) refl

@@ -5,18 +5,20 @@ use grouping::programmes::keeps_sets;
 use rules::groups::rule21;
 use rules::sets::rule22;
 use screen::records::all_once;
+use sheet::fields::COMPLEMENT_LIST;
 use sheet::fields::CONTENTS;
 use sheet::fields::OBJECTS;
 use sheet::fields::PROGRAMMES;
 use sheet::fields::REFERENCES;
 use sheet::fields::VALUE_SETS;
 use sheet::layout::count;
+use sheet::layout::number;
 use sheet::layout::offset;
 use tables::Naming;
 use tables::marks::count_namings;
 use tables::marks::first_namers;
 use tables::marks::mark_included;
-ghost use Prim.Native.Nat.{_-_, _<_, _≤_};
+ghost use Prim.Native.Nat.{ℕ, _-_, _<_, _≤_};
 ghost use lib.ListN.{length};
 ghost use mathlib.Core.Bool.{false, true};
 ghost use mathlib.Core.Path.{_≡_};
@@ -24,8 +26,8 @@ ghost use Rattle.grouping.specs.Groups.{LeadersIn, OneSpan};
 ghost use Rattle.profile.specs.Counting.{lowest};
 ghost use Rattle.profile.specs.Rules.{rule21, rule22};
 ghost use Rattle.profile.specs.Verdict.{breaks};
-ghost use Rattle.sheet.specs.Fields.{contents, objects, programmes, references, valueSets};
-ghost use Rattle.sheet.specs.Layout.{count, offset};
+ghost use Rattle.sheet.specs.Fields.{complementList, contents, objects, programmes, references, valueSets};
+ghost use Rattle.sheet.specs.Layout.{count, number, offset};
 ghost use Rattle.sheet.specs.Words.{sheetOf};
 ghost use Rattle.tables.specs.Right.{Leaders, Owners};
 
@@ -74,10 +76,28 @@ fn lowest_split(
     n
 }
 
+// Whether no group has more than two members. Then rule 21 can't be broken: of two members one or all are included.
+fn groups_of_two(s: &[u8]) -> bool
+    ensures { λ r. ⌜ (r ≡ true → (l : ℕ) → l < count (sheetOf (now (s .entry))) objects → number (sheetOf (now (s .entry))) objects l complementList ≤ 1) ⌝ }
+{
+    let n = count(s, OBJECTS);
+    let mut l: u16 = 0;
+    while l < n {
+        if 1 < number(s, OBJECTS, l, COMPLEMENT_LIST) {
+            return false;
+        }
+        l += 1;
+    }
+    true
+}
+
 // The same with tables of its own. No sheet has more than 2,046 objects.
 pub fn by_groups(s: &[u8], section: u8, n: u16) -> u16
     ensures { λ r. ⌜ (count (sheetOf (now (s .entry))) objects ≤ 2048 → r ≡ lowest (breaks (sheetOf (now (s .entry))) 21 section) n) ⌝ }
 {
+    if groups_of_two(s) {
+        return n;
+    }
     let mut list: [u16; 2048] = [0; 2048];
     let mut partners: [u16; 2048] = [0; 2048];
     let g = list_leaders(s, &mut list, &mut partners);
@@ -166,11 +186,14 @@ fn lowest_wrong(
     n
 }
 
-// The same with tables of its own.
+// The same with tables of its own, which have places for 2,048 objects.
 pub fn by_sets(s: &[u8], section: u8, n: u16) -> u16
-    requires { ⌜ count (sheetOf (now s)) objects ≤ 2048 ⌝ }
-    ensures { λ r. ⌜ (OneSpan (sheetOf (now (s .entry))) → r ≡ lowest (breaks (sheetOf (now (s .entry))) 22 section) n) ⌝ }
+    ensures { λ r. ⌜ (count (sheetOf (now (s .entry))) objects ≤ 2048 → OneSpan (sheetOf (now (s .entry))) → r ≡ lowest (breaks (sheetOf (now (s .entry))) 22 section) n) ⌝ }
 {
+    let m = count(s, OBJECTS) as usize;
+    if 2048 < m {
+        return n;
+    }
     let mut owners: [u16; 4680] = [0; 4680];
     first_namers(s, Naming::SetSpans, &mut owners);
     let mut leaders: [u16; 2048] = [0; 2048];
@@ -179,7 +202,6 @@ pub fn by_sets(s: &[u8], section: u8, n: u16) -> u16
     let mut partners: [u16; 2048] = [0; 2048];
     let g = list_leaders(s, &mut list, &mut partners);
     let mut included: [u16; 2048] = [0; 2048];
-    let m = count(s, OBJECTS) as usize;
     lowest_wrong(
         s,
         &owners,

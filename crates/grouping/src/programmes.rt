@@ -255,34 +255,32 @@ fn kept_below(
     n
 }
 
-// Whether all programmes can be seen to keep rules 21 and 22 and to name no content twice. What stands in the four tables at the
+// Whether all programmes can be seen to keep rules 21 and 22 and to name no content twice. What stands in the last three tables at the
 // start does not matter; with one that is shorter than the number of objects it can't be seen.
 pub fn programmes_pass(
     s: &[u8],
     owners: &[u16],
-    leaders: &[u16],
     included: &mut [u16],
-    members: &mut [u16],
-    sets: &mut [u16],
-    firsts: &mut [u16],
+    list: &mut [u16],
+    partners: &mut [u16],
 ) -> bool
-    ensures { λ r. ⌜ (length (now (included .exit)) ≡ length (now (included .entry))) × (length (now (members .exit)) ≡ length (now (members .entry))) × (length (now (sets .exit)) ≡ length (now (sets .entry))) × (length (now (firsts .exit)) ≡ length (now (firsts .entry))) × (r ≡ true → Owners (sheetOf (now (s .entry))) (now (owners .entry)) → Leaders (sheetOf (now (s .entry))) (now (leaders .entry)) → GroupsGround (sheetOf (now (s .entry))) → ProgrammesKept (sheetOf (now (s .entry)))) ⌝ }
+    ensures { λ r. ⌜ (length (now (included .exit)) ≡ length (now (included .entry))) × (length (now (list .exit)) ≡ length (now (list .entry))) × (length (now (partners .exit)) ≡ length (now (partners .entry))) × (r ≡ true → Owners (sheetOf (now (s .entry))) (now (owners .entry)) → GroupsGround (sheetOf (now (s .entry))) → ProgrammesKept (sheetOf (now (s .entry)))) ⌝ }
 {
     let n = count(s, OBJECTS) as usize;
     if included.len() < n {
         return false;
     }
-    if members.len() < n {
+    if list.len() < n {
         return false;
     }
-    if sets.len() < n {
+    if partners.len() < n {
         return false;
     }
     kept_below(
         s,
         owners,
-        &mut members[..n],
-        &mut sets[..n],
+        &mut list[..n],
+        &mut partners[..n],
         &mut included[..n],
     )
         == count(s, PROGRAMMES)

@@ -75,12 +75,11 @@ pub record RecordsTabled (s : Sheet) (named listed tops complements : List ℕ) 
   pub tops-right : Tops s tops
   pub complements-right : Complemented s complements
 
--- the seven tables that the screening begins with have only noughts
-pub record Noughts (named spanned listed tops complements owners leaders : List ℕ) : Type 0 where
+-- the six tables that the screening begins with have only noughts
+pub record Noughts (named spanned listed tops complements owners : List ℕ) : Type 0 where
   pub named-nought : Standing (λ x. 0) named
   pub spanned-nought : Standing (λ x. 0) spanned
   pub listed-nought : Standing (λ x. 0) listed
   pub tops-nought : Standing (λ x. 0) tops
   pub complements-nought : Standing (λ x. 0) complements
   pub owners-nought : Standing (λ x. 0) owners
-  pub leaders-nought : Standing (λ x. 0) leaders

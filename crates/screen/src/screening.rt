@@ -68,8 +68,8 @@ fn few_entries(s: &[u8], section: u8) -> bool {
     true
 }
 
-// With tables of noughts for what names each object and content, for the sets' objects and the complements' leaders. Those of the first
-// rules serve the programmes as well, once the records are tested.
+// With tables of noughts for what names each object and content, and for the sets' objects. Those of the first rules serve the programmes
+// as well, once the records are tested.
 fn screened(
     s: &[u8],
     named: &mut [u16],
@@ -78,9 +78,8 @@ fn screened(
     tops: &mut [u16],
     complements: &mut [u16],
     owners: &mut [u16],
-    leaders: &mut [u16],
 ) -> bool
-    ensures { λ r. ⌜ (r ≡ true → Noughts (now (named .entry)) (now (spanned .entry)) (now (listed .entry)) (now (tops .entry)) (now (complements .entry)) (now (owners .entry)) (now (leaders .entry)) → verdict (sheetOf (now (s .entry))) ≡ Accepted) ⌝ }
+    ensures { λ r. ⌜ (r ≡ true → Noughts (now (named .entry)) (now (spanned .entry)) (now (listed .entry)) (now (tops .entry)) (now (complements .entry)) (now (owners .entry)) → verdict (sheetOf (now (s .entry))) ≡ Accepted) ⌝ }
 {
     if s.len() < 32 {
         return false;
@@ -92,7 +91,7 @@ fn screened(
         return false;
     }
     count_tops(s, tops, named);
-    count_lists(s, named, complements, spanned, leaders, owners);
+    count_lists(s, named, complements, spanned, owners);
     count_contents(s, listed);
     if !records_pass(s, named, listed, tops, complements) {
         return false;
@@ -103,7 +102,7 @@ fn screened(
     if totals_break(s, tops, complements) {
         return false;
     }
-    programmes_pass(s, owners, leaders, named, tops, complements, listed)
+    programmes_pass(s, owners, named, tops, complements)
 }
 
 // A sheet under 1,024 bytes has at most 30 objects, 99 contents and 70 value sets.
@@ -116,7 +115,6 @@ fn small_passes(s: &[u8]) -> bool
     let mut tops: [u16; 32] = [0; 32];
     let mut complements: [u16; 32] = [0; 32];
     let mut owners: [u16; 72] = [0; 72];
-    let mut leaders: [u16; 32] = [0; 32];
     screened(
         s,
         &mut named,
@@ -125,7 +123,6 @@ fn small_passes(s: &[u8]) -> bool
         &mut tops,
         &mut complements,
         &mut owners,
-        &mut leaders,
     )
 }
 
@@ -139,7 +136,6 @@ fn middling_passes(s: &[u8]) -> bool
     let mut tops: [u16; 512] = [0; 512];
     let mut complements: [u16; 512] = [0; 512];
     let mut owners: [u16; 1168] = [0; 1168];
-    let mut leaders: [u16; 512] = [0; 512];
     screened(
         s,
         &mut named,
@@ -148,7 +144,6 @@ fn middling_passes(s: &[u8]) -> bool
         &mut tops,
         &mut complements,
         &mut owners,
-        &mut leaders,
     )
 }
 
@@ -162,7 +157,6 @@ fn large_passes(s: &[u8]) -> bool
     let mut tops: [u16; 2048] = [0; 2048];
     let mut complements: [u16; 2048] = [0; 2048];
     let mut owners: [u16; 4680] = [0; 4680];
-    let mut leaders: [u16; 2048] = [0; 2048];
     screened(
         s,
         &mut named,
@@ -171,7 +165,6 @@ fn large_passes(s: &[u8]) -> bool
         &mut tops,
         &mut complements,
         &mut owners,
-        &mut leaders,
     )
 }
 

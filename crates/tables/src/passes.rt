@@ -92,16 +92,15 @@ fn mark_both(s: &[u8], kind: Naming, q: u16, n: u16, counts: &mut [u16], firsts:
 }
 
 // Counts how often child lists and complement lists name each object, and in how many spans each value set is; and writes for each
-// object one more than the number of its group's leader, for each value set one more than that of its object, into tables of noughts.
+// value set one more than the number of its object, into a table of noughts.
 pub fn count_lists(
     s: &[u8],
     named: &mut [u16],
     complements: &mut [u16],
     spanned: &mut [u16],
-    leaders: &mut [u16],
     owners: &mut [u16],
 )
-    ensures { λ r. ⌜ (length (now (named .exit)) ≡ length (now (named .entry))) × Standing (λ x. repeat (marked Count) (namedBy (sheetOf (now (s .entry))) Children x) (getD (now (named .entry)) x 0)) (now (named .exit)) × (length (now (complements .exit)) ≡ length (now (complements .entry))) × Standing (λ x. repeat (marked Count) (namedBy (sheetOf (now (s .entry))) Complements x) (getD (now (complements .entry)) x 0)) (now (complements .exit)) × (length (now (spanned .exit)) ≡ length (now (spanned .entry))) × Standing (λ x. repeat (marked Count) (namedBy (sheetOf (now (s .entry))) SetSpans x) (getD (now (spanned .entry)) x 0)) (now (spanned .exit)) × (length (now (leaders .exit)) ≡ length (now (leaders .entry))) × (Standing (λ x. 0) (now (leaders .entry)) → Standing (λ x. firstBy (sheetOf (now (s .entry))) Complements x 0) (now (leaders .exit))) × (length (now (owners .exit)) ≡ length (now (owners .entry))) × (Standing (λ x. 0) (now (owners .entry)) → Standing (λ x. firstBy (sheetOf (now (s .entry))) SetSpans x 0) (now (owners .exit))) ⌝ }
+    ensures { λ r. ⌜ (length (now (named .exit)) ≡ length (now (named .entry))) × Standing (λ x. repeat (marked Count) (namedBy (sheetOf (now (s .entry))) Children x) (getD (now (named .entry)) x 0)) (now (named .exit)) × (length (now (complements .exit)) ≡ length (now (complements .entry))) × Standing (λ x. repeat (marked Count) (namedBy (sheetOf (now (s .entry))) Complements x) (getD (now (complements .entry)) x 0)) (now (complements .exit)) × (length (now (spanned .exit)) ≡ length (now (spanned .entry))) × Standing (λ x. repeat (marked Count) (namedBy (sheetOf (now (s .entry))) SetSpans x) (getD (now (spanned .entry)) x 0)) (now (spanned .exit)) × (length (now (owners .exit)) ≡ length (now (owners .entry))) × (Standing (λ x. 0) (now (owners .entry)) → Standing (λ x. firstBy (sheetOf (now (s .entry))) SetSpans x 0) (now (owners .exit))) ⌝ }
 {
     let n = count(s, OBJECTS);
     let mut q: u16 = 0;
@@ -114,13 +113,13 @@ pub fn count_lists(
             Mark::Count,
             named,
         );
-        mark_both(
+        mark_some(
             s,
             Naming::Complements,
             q,
             number(s, OBJECTS, q, COMPLEMENT_LIST),
+            Mark::Count,
             complements,
-            leaders,
         );
         mark_both(
             s,

@@ -1,10 +1,16 @@
 -- The lists are right. Assumes nothing.
 use mathlib.Core.Path.{_∙_}
 use Rattle.sheet.specs.Words.{sheetOf}
-use Rattle.checker.proofs.GroupLaws.{lowest-21}
+use Rattle.checker.proofs.GroupLaws.{lowest-21, none-split}
 use borrow.Author.Needs.{needs}
 use Rattle.checker.proofs.groups.by_groups.Statement.{statement}
 use Rattle.checker.proofs.groups.by_groups.Tie as tie
+
+groups-of-two-requires : tie.Need-groups-of-two-requires
+groups-of-two-requires c κs = search needs
+
+returns : tie.Need-returns
+returns c = λ few. none-split (sheetOf (c .before .before .before .args .s .now)) (c .before .before .before .args .section) (c .before .before .before .args .n) (c .before .groups-of-two .ensures (c .if1 .taken))
 
 slice-aggregate-list-leaders : tie.Need-slice-aggregate-list-leaders
 slice-aggregate-list-leaders c = search needs
@@ -27,13 +33,15 @@ slice-aggregate-lowest-split-3 c = search needs
 lowest-split-requires : tie.Need-lowest-split-requires
 lowest-split-requires c κs = search needs
 
-returns : tie.Need-returns
-returns c = λ few. c .before .lowest-split .ensures .1 (c .before .before .before .before .before .before .before .list-leaders .ensures .2 few few) ∙ lowest-21 (sheetOf (c .before .before .before .before .before .before .before .before .before .before .before .args .s .now)) (c .before .before .before .before .before .before .before .before .before .before .before .args .section) (c .before .before .before .before .before .before .before .before .before .before .before .args .n)
+returns-2 : tie.Need-returns-2
+returns-2 c = λ few. c .before .lowest-split .ensures .1 (c .before .before .before .before .before .before .before .list-leaders .ensures .2 few few) ∙ lowest-21 (sheetOf (c .before .before .before .before .before .before .before .before .before .before .before .before .before .args .s .now)) (c .before .before .before .before .before .before .before .before .before .before .before .before .before .args .section) (c .before .before .before .before .before .before .before .before .before .before .before .before .before .args .n)
 
 pub by-groups-spec : {M : Type 1} → statement M
 by-groups-spec =
     tie.close
     (tie.spec
+    groups-of-two-requires
+    returns
     slice-aggregate-list-leaders
     slice-aggregate-list-leaders-2
     list-leaders-requires
@@ -41,4 +49,4 @@ by-groups-spec =
     slice-aggregate-lowest-split-2
     slice-aggregate-lowest-split-3
     lowest-split-requires
-    returns)
+    returns-2)

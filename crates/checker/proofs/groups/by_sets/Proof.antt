@@ -12,6 +12,15 @@ use borrow.Author.Needs.{needs}
 use Rattle.checker.proofs.groups.by_sets.Statement.{statement}
 use Rattle.checker.proofs.groups.by_sets.Tie as tie
 
+count-requires : tie.Need-count-requires
+count-requires c κs = search needs
+
+cast-m : tie.Need-cast-m
+cast-m c = search needs
+
+returns : tie.Need-returns
+returns c = λ few. absurd (omega (arith, few, c .before .count .ensures, c .if1 .taken))
+
 slice-aggregate-first-namers : tie.Need-slice-aggregate-first-namers
 slice-aggregate-first-namers c = search needs
 
@@ -33,12 +42,6 @@ slice-aggregate-list-leaders-2 c = search needs
 list-leaders-requires : tie.Need-list-leaders-requires
 list-leaders-requires c κs = search needs
 
-count-requires : tie.Need-count-requires
-count-requires c κs = search needs
-
-cast-m : tie.Need-cast-m
-cast-m c = search needs
-
 slice-aggregate-lowest-wrong : tie.Need-slice-aggregate-lowest-wrong
 slice-aggregate-lowest-wrong c = search needs
 
@@ -55,18 +58,21 @@ array-borrow-prefix-included : tie.Need-array-borrow-prefix-included
 array-borrow-prefix-included c = search needs
 
 slice-aggregate-lowest-wrong-5 : tie.Need-slice-aggregate-lowest-wrong-5
-slice-aggregate-lowest-wrong-5 c = sym (length-take-le (c .before .before .before .before .before .count .result) (replicate 2048 0) (omega (arith, c .before .before .before .before .before .before .before .before .before .before .before .before .before .before .before .before .before .before .pre, c .before .before .before .before .before .count .ensures)))
+slice-aggregate-lowest-wrong-5 c = sym (length-take-le (c .before .before .before .before .before .before .before .before .before .before .before .before .before .before .before .before .before .count .result) (replicate 2048 0) (omega (arith, c .before .before .before .before .before .before .before .before .before .before .before .before .before .before .before .before .if1 .left)))
 
 lowest-wrong-requires : tie.Need-lowest-wrong-requires
 lowest-wrong-requires c κs = search needs
 
-returns : tie.Need-returns
-returns c = λ spans. c .before .lowest-wrong .ensures .1 (firsts-made (sheetOf (c .before .before .before .before .before .before .before .before .before .before .before .before .before .before .before .before .before .before .before .before .args .s .now)) (replicate 4680 0) (λ x l. nought 4680 x) SetSpans (c .before .before .before .before .before .before .before .before .before .before .before .before .before .before .before .before .before .first-namers .last .1 .1 .0) (c .before .before .before .before .before .before .before .before .before .before .before .before .before .before .before .before .before .first-namers .ensures .0) (c .before .before .before .before .before .before .before .before .before .before .before .before .before .before .before .before .before .first-namers .ensures .1)) (firsts-made (sheetOf (c .before .before .before .before .before .before .before .before .before .before .before .before .before .before .before .before .before .before .before .before .args .s .now)) (replicate 2048 0) (λ x l. nought 2048 x) Complements (c .before .before .before .before .before .before .before .before .before .before .before .before .before .before .first-namers2 .last .1 .1 .0) (c .before .before .before .before .before .before .before .before .before .before .before .before .before .before .first-namers2 .ensures .0) (c .before .before .before .before .before .before .before .before .before .before .before .before .before .before .first-namers2 .ensures .1)) (c .before .before .before .before .before .before .before .before .before .before .list-leaders .ensures .2 (c .before .before .before .before .before .before .before .before .before .before .before .before .before .before .before .before .before .before .before .before .pre) (c .before .before .before .before .before .before .before .before .before .before .before .before .before .before .before .before .before .before .before .before .pre)) (length-take-le (c .before .before .before .before .before .before .before .count .result) (replicate 2048 0) (omega (arith, c .before .before .before .before .before .before .before .before .before .before .before .before .before .before .before .before .before .before .before .before .pre, c .before .before .before .before .before .before .before .count .ensures)) ∙ c .before .before .before .before .before .before .before .count .ensures) spans ∙ lowest-22 (sheetOf (c .before .before .before .before .before .before .before .before .before .before .before .before .before .before .before .before .before .before .before .before .args .s .now)) (c .before .before .before .before .before .before .before .before .before .before .before .before .before .before .before .before .before .before .before .before .args .section) (c .before .before .before .before .before .before .before .before .before .before .before .before .before .before .before .before .before .before .before .before .args .n)
+returns-2 : tie.Need-returns-2
+returns-2 c = λ few spans. c .before .lowest-wrong .ensures .1 (firsts-made (sheetOf (c .before .before .before .before .before .before .before .before .before .before .before .before .before .before .before .before .before .before .before .before .before .args .s .now)) (replicate 4680 0) (λ x l. nought 4680 x) SetSpans (c .before .before .before .before .before .before .before .before .before .before .before .before .before .before .before .before .first-namers .last .1 .1 .0) (c .before .before .before .before .before .before .before .before .before .before .before .before .before .before .before .before .first-namers .ensures .0) (c .before .before .before .before .before .before .before .before .before .before .before .before .before .before .before .before .first-namers .ensures .1)) (firsts-made (sheetOf (c .before .before .before .before .before .before .before .before .before .before .before .before .before .before .before .before .before .before .before .before .before .args .s .now)) (replicate 2048 0) (λ x l. nought 2048 x) Complements (c .before .before .before .before .before .before .before .before .before .before .before .before .before .first-namers2 .last .1 .1 .0) (c .before .before .before .before .before .before .before .before .before .before .before .before .before .first-namers2 .ensures .0) (c .before .before .before .before .before .before .before .before .before .before .before .before .before .first-namers2 .ensures .1)) (c .before .before .before .before .before .before .before .before .before .list-leaders .ensures .2 few few) (length-take-le (c .before .before .before .before .before .before .before .before .before .before .before .before .before .before .before .before .before .before .before .count .result) (replicate 2048 0) (omega (arith, c .before .before .before .before .before .before .before .before .before .before .before .before .before .before .before .before .before .before .if1 .left)) ∙ c .before .before .before .before .before .before .before .before .before .before .before .before .before .before .before .before .before .before .before .count .ensures) spans ∙ lowest-22 (sheetOf (c .before .before .before .before .before .before .before .before .before .before .before .before .before .before .before .before .before .before .before .before .before .args .s .now)) (c .before .before .before .before .before .before .before .before .before .before .before .before .before .before .before .before .before .before .before .before .before .args .section) (c .before .before .before .before .before .before .before .before .before .before .before .before .before .before .before .before .before .before .before .before .before .args .n)
 
 pub by-sets-spec : {M : Type 1} → statement M
 by-sets-spec =
     tie.close
     (tie.spec
+    count-requires
+    cast-m
+    returns
     slice-aggregate-first-namers
     first-namers-requires
     slice-aggregate-first-namers-2
@@ -74,8 +80,6 @@ by-sets-spec =
     slice-aggregate-list-leaders
     slice-aggregate-list-leaders-2
     list-leaders-requires
-    count-requires
-    cast-m
     slice-aggregate-lowest-wrong
     slice-aggregate-lowest-wrong-2
     slice-aggregate-lowest-wrong-3
@@ -83,4 +87,4 @@ by-sets-spec =
     array-borrow-prefix-included
     slice-aggregate-lowest-wrong-5
     lowest-wrong-requires
-    returns)
+    returns-2)

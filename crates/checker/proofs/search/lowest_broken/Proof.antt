@@ -86,7 +86,7 @@ returns-8 : tie.Need-returns-8
 returns-8 c = c .by-groups .ensures (omega (arith, c .before .if2 .left, c .before .before .count .ensures)) ∙ ap (λ (x : ℕ). lowest (breaks (sheetOf (c .before .before .before .before .before .before .args .s .now)) x (c .before .before .before .before .before .before .args .section)) (c .before .before .before .before .before .before .args .n)) (sym (c .before .before .before .match .keys3))
 
 returns-9 : tie.Need-returns-9
-returns-9 c = c .by-sets .ensures (c .before .before .sets-once .ensures (not-false _ (c .before .if4 .left))) ∙ ap (λ (x : ℕ). lowest (breaks (sheetOf (c .before .before .before .before .before .before .before .before .args .s .now)) x (c .before .before .before .before .before .before .before .before .args .section)) (c .before .before .before .before .before .before .before .before .args .n)) (sym (c .before .before .before .before .before .match .keys4))
+returns-9 c = c .by-sets .ensures (omega (arith, c .before .before .before .if3 .left, c .before .before .before .before .count2 .ensures)) (c .before .before .sets-once .ensures (not-false _ (c .before .if4 .left))) ∙ ap (λ (x : ℕ). lowest (breaks (sheetOf (c .before .before .before .before .before .before .before .before .args .s .now)) x (c .before .before .before .before .before .before .before .before .args .section)) (c .before .before .before .before .before .before .before .before .args .n)) (sym (c .before .before .before .before .before .match .keys4))
 
 returns-10 : tie.Need-returns-10
 returns-10 c = search needs
