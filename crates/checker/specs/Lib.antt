@@ -1,3 +1,4 @@
 pub mod Tables
 pub mod Rows
 pub mod Checked
+pub mod Kept

@@ -2,6 +2,7 @@
 use grouping::groups::list_leaders;
 use grouping::programmes::keeps_groups;
 use grouping::programmes::keeps_sets;
+use grouping::programmes::kept_below;
 use rules::groups::rule21;
 use rules::sets::rule22;
 use screen::records::all_once;
@@ -22,6 +23,7 @@ ghost use Prim.Native.Nat.{ℕ, _-_, _<_, _≤_};
 ghost use lib.ListN.{length};
 ghost use mathlib.Core.Bool.{false, true};
 ghost use mathlib.Core.Path.{_≡_};
+ghost use Rattle.checker.specs.Kept.{KeptBelow};
 ghost use Rattle.grouping.specs.Groups.{LeadersIn, OneSpan};
 ghost use Rattle.profile.specs.Counting.{lowest};
 ghost use Rattle.profile.specs.Rules.{rule21, rule22};
@@ -52,21 +54,22 @@ fn splits(
     rule21(s, included, PROGRAMMES, p)
 }
 
-// The lowest of the first n programmes that breaks rule 21, or n.
+// The lowest of the first n programmes that breaks rule 21, or n, where those before `from` keep it.
 fn lowest_split(
     s: &[u8],
     list: &[u16],
     partners: &[u16],
     g: u16,
+    from: u16,
     n: u16,
     included: &mut [u16],
 ) -> u16
-    ensures { λ r. ⌜ (length (now (included .exit)) ≡ length (now (included .entry))) × (LeadersIn (sheetOf (now (s .entry))) (now (list .entry)) (now (partners .entry)) g → r ≡ lowest (rule21 (sheetOf (now (s .entry))) programmes) n) ⌝ }
+    ensures { λ r. ⌜ (length (now (included .exit)) ≡ length (now (included .entry))) × (LeadersIn (sheetOf (now (s .entry))) (now (list .entry)) (now (partners .entry)) g → KeptBelow (sheetOf (now (s .entry))) from → r ≡ lowest (rule21 (sheetOf (now (s .entry))) programmes) n) ⌝ }
 {
     let base = offset(s, REFERENCES);
     let records = offset(s, CONTENTS);
     let sets = offset(s, VALUE_SETS);
-    let mut p: u16 = 0;
+    let mut p: u16 = from;
     while p < n {
         if splits(s, base, records, sets, list, partners, g, p, included) {
             return p;
@@ -92,8 +95,8 @@ fn groups_of_two(s: &[u8]) -> bool
 }
 
 // The same with tables of its own. No sheet has more than 2,046 objects.
-pub fn by_groups(s: &[u8], section: u8, n: u16) -> u16
-    ensures { λ r. ⌜ (count (sheetOf (now (s .entry))) objects ≤ 2048 → r ≡ lowest (breaks (sheetOf (now (s .entry))) 21 section) n) ⌝ }
+pub fn by_groups(s: &[u8], section: u8, from: u16, n: u16) -> u16
+    ensures { λ r. ⌜ (count (sheetOf (now (s .entry))) objects ≤ 2048 → KeptBelow (sheetOf (now (s .entry))) from → r ≡ lowest (breaks (sheetOf (now (s .entry))) 21 section) n) ⌝ }
 {
     if groups_of_two(s) {
         return n;
@@ -102,7 +105,7 @@ pub fn by_groups(s: &[u8], section: u8, n: u16) -> u16
     let mut partners: [u16; 2048] = [0; 2048];
     let g = list_leaders(s, &mut list, &mut partners);
     let mut included: [u16; 2048] = [0; 2048];
-    lowest_split(s, &list, &partners, g, n, &mut included)
+    lowest_split(s, &list, &partners, g, from, n, &mut included)
 }
 
 // Whether each value set can be seen to be in one span. No sheet has more than 4,678.
@@ -148,7 +151,7 @@ fn names_wrong(
     rule22(s, owners, leaders, included, PROGRAMMES, p)
 }
 
-// The lowest of the first n programmes that breaks rule 22, or n.
+// The lowest of the first n programmes that breaks rule 22, or n, where those before `from` keep it.
 fn lowest_wrong(
     s: &[u8],
     owners: &[u16],
@@ -156,15 +159,16 @@ fn lowest_wrong(
     list: &[u16],
     partners: &[u16],
     g: u16,
+    from: u16,
     n: u16,
     included: &mut [u16],
 ) -> u16
-    ensures { λ r. ⌜ (length (now (included .exit)) ≡ length (now (included .entry))) × (Owners (sheetOf (now (s .entry))) (now (owners .entry)) → Leaders (sheetOf (now (s .entry))) (now (leaders .entry)) → LeadersIn (sheetOf (now (s .entry))) (now (list .entry)) (now (partners .entry)) g → length (now (included .entry)) ≡ count (sheetOf (now (s .entry))) objects → OneSpan (sheetOf (now (s .entry))) → r ≡ lowest (rule22 (sheetOf (now (s .entry))) programmes) n) ⌝ }
+    ensures { λ r. ⌜ (length (now (included .exit)) ≡ length (now (included .entry))) × (Owners (sheetOf (now (s .entry))) (now (owners .entry)) → Leaders (sheetOf (now (s .entry))) (now (leaders .entry)) → LeadersIn (sheetOf (now (s .entry))) (now (list .entry)) (now (partners .entry)) g → length (now (included .entry)) ≡ count (sheetOf (now (s .entry))) objects → OneSpan (sheetOf (now (s .entry))) → KeptBelow (sheetOf (now (s .entry))) from → r ≡ lowest (rule22 (sheetOf (now (s .entry))) programmes) n) ⌝ }
 {
     let base = offset(s, REFERENCES);
     let records = offset(s, CONTENTS);
     let sets = offset(s, VALUE_SETS);
-    let mut p: u16 = 0;
+    let mut p: u16 = from;
     while p < n {
         if names_wrong(
             s,
@@ -187,8 +191,8 @@ fn lowest_wrong(
 }
 
 // The same with tables of its own, which have places for 2,048 objects.
-pub fn by_sets(s: &[u8], section: u8, n: u16) -> u16
-    ensures { λ r. ⌜ (count (sheetOf (now (s .entry))) objects ≤ 2048 → OneSpan (sheetOf (now (s .entry))) → r ≡ lowest (breaks (sheetOf (now (s .entry))) 22 section) n) ⌝ }
+pub fn by_sets(s: &[u8], section: u8, from: u16, n: u16) -> u16
+    ensures { λ r. ⌜ (count (sheetOf (now (s .entry))) objects ≤ 2048 → OneSpan (sheetOf (now (s .entry))) → KeptBelow (sheetOf (now (s .entry))) from → r ≡ lowest (breaks (sheetOf (now (s .entry))) 22 section) n) ⌝ }
 {
     let m = count(s, OBJECTS) as usize;
     if 2048 < m {
@@ -209,7 +213,33 @@ pub fn by_sets(s: &[u8], section: u8, n: u16) -> u16
         &list,
         &partners,
         g,
+        from,
         n,
+        &mut included[..m],
+    )
+}
+
+// How many programmes from the first on can be seen to keep both rules, in one pass for the two.
+pub fn kept_programmes(s: &[u8]) -> u16
+    ensures { λ r. ⌜ KeptBelow (sheetOf (now (s .entry))) r ⌝ }
+{
+    let m = count(s, OBJECTS) as usize;
+    if 2048 < m {
+        return 0;
+    }
+    if !sets_once(s) {
+        return 0;
+    }
+    let mut owners: [u16; 4680] = [0; 4680];
+    first_namers(s, Naming::SetSpans, &mut owners);
+    let mut list: [u16; 2048] = [0; 2048];
+    let mut partners: [u16; 2048] = [0; 2048];
+    let mut included: [u16; 2048] = [0; 2048];
+    kept_below(
+        s,
+        &owners,
+        &mut list[..m],
+        &mut partners[..m],
         &mut included[..m],
     )
 }

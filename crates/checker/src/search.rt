@@ -1,6 +1,7 @@
 // The search for the first broken rule, "within one rule the lowest section, then the lowest record".
 use crate::groups::by_groups;
 use crate::groups::by_sets;
+use crate::groups::kept_programmes;
 use crate::groups::sets_once;
 use crate::lent::fill_table;
 use crate::lent::first_table;
@@ -27,6 +28,7 @@ ghost use Prim.Native.Nat.{_≤_};
 ghost use lib.ListN.{length};
 ghost use mathlib.Core.Path.{_≡_};
 ghost use Rattle.checker.specs.Checked.{checked, ruleVerdict};
+ghost use Rattle.checker.specs.Kept.{KeptBelow};
 ghost use Rattle.checker.specs.Tables.{Right, firstTable, secondTable};
 ghost use Rattle.profile.specs.Counting.{lowest};
 ghost use Rattle.profile.specs.Verdict.{breaks};
@@ -126,8 +128,10 @@ fn by_lists(s: &[u8], rule: u8, section: u8, n: u16) -> u16
 }
 
 // The lowest of n records of a section that breaks a rule, or n. A small sheet is searched without tables. Rules that go the same
-// way stand in several arms, so that the compiler keeps the functions with large tables apart (docs/SPEED.md).
-fn lowest_broken(s: &[u8], rule: u8, section: u8, n: u16) -> u16
+// way stand in several arms, so that the compiler keeps the functions with large tables apart (docs/SPEED.md). The programmes before
+// `kept` keep rules 21 and 22.
+fn lowest_broken(s: &[u8], rule: u8, section: u8, n: u16, kept: u16) -> u16
+    requires { ⌜ KeptBelow (sheetOf (now s)) kept ⌝ }
     ensures { λ r. ⌜ r ≡ lowest (breaks (sheetOf (now (s .entry))) rule section) n ⌝ }
 {
     if (s.len() < 1024) | (n == 0) {
@@ -152,7 +156,7 @@ fn lowest_broken(s: &[u8], rule: u8, section: u8, n: u16) -> u16
             if 2048 < count(s, OBJECTS) {
                 return by_tables(s, rule, section, n);
             }
-            by_groups(s, section, n)
+            by_groups(s, section, kept, n)
         }
         22 => {
             if 2048 < count(s, OBJECTS) {
@@ -161,7 +165,7 @@ fn lowest_broken(s: &[u8], rule: u8, section: u8, n: u16) -> u16
             if !sets_once(s) {
                 return by_tables(s, rule, section, n);
             }
-            by_sets(s, section, n)
+            by_sets(s, section, kept, n)
         }
         23 | 24 => by_tables(s, rule, section, n),
         _ => plainly(s, rule, section, n),
@@ -169,7 +173,8 @@ fn lowest_broken(s: &[u8], rule: u8, section: u8, n: u16) -> u16
 }
 
 // The verdict by one rule alone.
-fn rule_verdict(s: &[u8], rule: u8) -> Verdict
+fn rule_verdict(s: &[u8], rule: u8, kept: u16) -> Verdict
+    requires { ⌜ KeptBelow (sheetOf (now s)) kept ⌝ }
     ensures { λ r. ⌜ r ≡ ruleVerdict (sheetOf (now (s .entry))) rule ⌝ }
 {
     let mut row = subject_row(rule);
@@ -179,7 +184,7 @@ fn rule_verdict(s: &[u8], rule: u8) -> Verdict
             return Verdict::Accepted;
         }
         let n = subjects(s, section, row % 4);
-        let k = lowest_broken(s, rule, section, n);
+        let k = lowest_broken(s, rule, section, n, kept);
         if k < n {
             return Verdict::Broken(rule, place_at(section, k));
         }
@@ -189,13 +194,26 @@ fn rule_verdict(s: &[u8], rule: u8) -> Verdict
     Verdict::Accepted
 }
 
+// How many programmes are known to keep rules 21 and 22, when rule i + 1 comes: before rule 21 one pass tells.
+fn kept_at(s: &[u8], i: u8, kept: u16) -> u16
+    requires { ⌜ KeptBelow (sheetOf (now s)) kept ⌝ }
+    ensures { λ r. ⌜ KeptBelow (sheetOf (now (s .entry))) r ⌝ }
+{
+    if i == 20 {
+        return kept_programmes(s);
+    }
+    kept
+}
+
 // The verdict by the search: the rules in their order.
 fn first_broken(sheet: &[u8]) -> Verdict
     ensures { λ r. ⌜ r ≡ checked (now (sheet .entry)) ⌝ }
 {
+    let mut kept: u16 = 0;
     let mut i: u8 = 0;
     while i < 24 {
-        let v = rule_verdict(sheet, i + 1);
+        kept = kept_at(sheet, i, kept);
+        let v = rule_verdict(sheet, i + 1, kept);
         match v {
             Verdict::Broken(rule, place) => return Verdict::Broken(rule, place),
             Verdict::Accepted => {}

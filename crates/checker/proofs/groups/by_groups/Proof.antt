@@ -10,7 +10,7 @@ groups-of-two-requires : tie.Need-groups-of-two-requires
 groups-of-two-requires c κs = search needs
 
 returns : tie.Need-returns
-returns c = λ few. none-split (sheetOf (c .before .before .before .args .s .now)) (c .before .before .before .args .section) (c .before .before .before .args .n) (c .before .groups-of-two .ensures (c .if1 .taken))
+returns c = λ few kept. none-split (sheetOf (c .before .before .before .args .s .now)) (c .before .before .before .args .section) (c .before .before .before .args .n) (c .before .groups-of-two .ensures (c .if1 .taken))
 
 slice-aggregate-list-leaders : tie.Need-slice-aggregate-list-leaders
 slice-aggregate-list-leaders c = search needs
@@ -34,7 +34,7 @@ lowest-split-requires : tie.Need-lowest-split-requires
 lowest-split-requires c κs = search needs
 
 returns-2 : tie.Need-returns-2
-returns-2 c = λ few. c .before .lowest-split .ensures .1 (c .before .before .before .before .before .before .before .list-leaders .ensures .2 few few) ∙ lowest-21 (sheetOf (c .before .before .before .before .before .before .before .before .before .before .before .before .before .args .s .now)) (c .before .before .before .before .before .before .before .before .before .before .before .before .before .args .section) (c .before .before .before .before .before .before .before .before .before .before .before .before .before .args .n)
+returns-2 c = λ few kept. c .before .lowest-split .ensures .1 (c .before .before .before .before .before .before .before .list-leaders .ensures .2 few few) kept ∙ lowest-21 (sheetOf (c .before .before .before .before .before .before .before .before .before .before .before .before .before .args .s .now)) (c .before .before .before .before .before .before .before .before .before .before .before .before .before .args .section) (c .before .before .before .before .before .before .before .before .before .before .before .before .before .args .n)
 
 pub by-groups-spec : {M : Type 1} → statement M
 by-groups-spec =

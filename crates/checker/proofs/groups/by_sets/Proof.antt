@@ -64,7 +64,7 @@ lowest-wrong-requires : tie.Need-lowest-wrong-requires
 lowest-wrong-requires c κs = search needs
 
 returns-2 : tie.Need-returns-2
-returns-2 c = λ few spans. c .before .lowest-wrong .ensures .1 (firsts-made (sheetOf (c .before .before .before .before .before .before .before .before .before .before .before .before .before .before .before .before .before .before .before .before .before .args .s .now)) (replicate 4680 0) (λ x l. nought 4680 x) SetSpans (c .before .before .before .before .before .before .before .before .before .before .before .before .before .before .before .before .first-namers .last .1 .1 .0) (c .before .before .before .before .before .before .before .before .before .before .before .before .before .before .before .before .first-namers .ensures .0) (c .before .before .before .before .before .before .before .before .before .before .before .before .before .before .before .before .first-namers .ensures .1)) (firsts-made (sheetOf (c .before .before .before .before .before .before .before .before .before .before .before .before .before .before .before .before .before .before .before .before .before .args .s .now)) (replicate 2048 0) (λ x l. nought 2048 x) Complements (c .before .before .before .before .before .before .before .before .before .before .before .before .before .first-namers2 .last .1 .1 .0) (c .before .before .before .before .before .before .before .before .before .before .before .before .before .first-namers2 .ensures .0) (c .before .before .before .before .before .before .before .before .before .before .before .before .before .first-namers2 .ensures .1)) (c .before .before .before .before .before .before .before .before .before .list-leaders .ensures .2 few few) (length-take-le (c .before .before .before .before .before .before .before .before .before .before .before .before .before .before .before .before .before .before .before .count .result) (replicate 2048 0) (omega (arith, c .before .before .before .before .before .before .before .before .before .before .before .before .before .before .before .before .before .before .if1 .left)) ∙ c .before .before .before .before .before .before .before .before .before .before .before .before .before .before .before .before .before .before .before .count .ensures) spans ∙ lowest-22 (sheetOf (c .before .before .before .before .before .before .before .before .before .before .before .before .before .before .before .before .before .before .before .before .before .args .s .now)) (c .before .before .before .before .before .before .before .before .before .before .before .before .before .before .before .before .before .before .before .before .before .args .section) (c .before .before .before .before .before .before .before .before .before .before .before .before .before .before .before .before .before .before .before .before .before .args .n)
+returns-2 c = λ few spans kept. c .before .lowest-wrong .ensures .1 (firsts-made (sheetOf (c .before .before .before .before .before .before .before .before .before .before .before .before .before .before .before .before .before .before .before .before .before .args .s .now)) (replicate 4680 0) (λ x l. nought 4680 x) SetSpans (c .before .before .before .before .before .before .before .before .before .before .before .before .before .before .before .before .first-namers .last .1 .1 .0) (c .before .before .before .before .before .before .before .before .before .before .before .before .before .before .before .before .first-namers .ensures .0) (c .before .before .before .before .before .before .before .before .before .before .before .before .before .before .before .before .first-namers .ensures .1)) (firsts-made (sheetOf (c .before .before .before .before .before .before .before .before .before .before .before .before .before .before .before .before .before .before .before .before .before .args .s .now)) (replicate 2048 0) (λ x l. nought 2048 x) Complements (c .before .before .before .before .before .before .before .before .before .before .before .before .before .first-namers2 .last .1 .1 .0) (c .before .before .before .before .before .before .before .before .before .before .before .before .before .first-namers2 .ensures .0) (c .before .before .before .before .before .before .before .before .before .before .before .before .before .first-namers2 .ensures .1)) (c .before .before .before .before .before .before .before .before .before .list-leaders .ensures .2 few few) (length-take-le (c .before .before .before .before .before .before .before .before .before .before .before .before .before .before .before .before .before .before .before .count .result) (replicate 2048 0) (omega (arith, c .before .before .before .before .before .before .before .before .before .before .before .before .before .before .before .before .before .before .if1 .left)) ∙ c .before .before .before .before .before .before .before .before .before .before .before .before .before .before .before .before .before .before .before .count .ensures) spans kept ∙ lowest-22 (sheetOf (c .before .before .before .before .before .before .before .before .before .before .before .before .before .before .before .before .before .before .before .before .before .args .s .now)) (c .before .before .before .before .before .before .before .before .before .before .before .before .before .before .before .before .before .before .before .before .before .args .section) (c .before .before .before .before .before .before .before .before .before .before .before .before .before .before .before .before .before .before .before .before .before .args .n)
 
 pub by-sets-spec : {M : Type 1} → statement M
 by-sets-spec =

@@ -1,6 +1,6 @@
 -- No programme passed breaks the rule. Assumes nothing.
 use borrow.Author.Needs.{needs}
-use Prim.Native.Nat.{ℕ, _-_, _≤_, _<_}
+use Prim.Native.Nat.{ℕ, _-_, _<_}
 use mathlib.Core.Path.{_≡_, refl, sym, _∙_}
 use mathlib.Core.Bool.{false}
 use native.Mathlib.Omega.{arith}
@@ -13,14 +13,15 @@ use Rattle.profile.proofs.CountingLaws.{lowest-at, lowest-none}
 use Rattle.profile.specs.Rules.{rule22}
 use Rattle.tables.specs.Right.{Leaders, Owners}
 use Rattle.grouping.specs.Groups.{LeadersIn, OneSpan}
+use Rattle.checker.specs.Kept.{KeptBelow}
 use Rattle.checker.proofs.groups.lowest_wrong.Statement.{statement}
 use Rattle.checker.proofs.groups.lowest_wrong.Tie as tie
 
 abbrev Inv-loop : tie.InvT-loop
-Inv-loop s owners leaders list partners g n included₀ base records sets p₀ included p = (p ≤ n) × (length included ≡ length included₀) × (Owners (sheetOf s) owners → Leaders (sheetOf s) leaders → LeadersIn (sheetOf s) list partners g → length included₀ ≡ count (sheetOf s) objects → OneSpan (sheetOf s) → (q : ℕ) → q < p → rule22 (sheetOf s) programmes q ≡ false)
+Inv-loop s owners leaders list partners g from n included₀ base records sets p₀ included p = (length included ≡ length included₀) × (Owners (sheetOf s) owners → Leaders (sheetOf s) leaders → LeadersIn (sheetOf s) list partners g → length included₀ ≡ count (sheetOf s) objects → OneSpan (sheetOf s) → KeptBelow (sheetOf s) from → (q : ℕ) → q < p → rule22 (sheetOf s) programmes q ≡ false)
 
 abbrev μ-loop : tie.MeasureT-loop
-μ-loop s owners leaders list partners g n included₀ base records sets p₀ included p = n - p
+μ-loop s owners leaders list partners g from n included₀ base records sets p₀ included p = n - p
 
 offset-requires : tie.Need-offset-requires Inv-loop μ-loop
 offset-requires c κs = search needs
@@ -32,16 +33,16 @@ offset-requires-3 : tie.Need-offset-requires-3 Inv-loop μ-loop
 offset-requires-3 c κs = search needs
 
 loop-holds : tie.Need-loop-holds Inv-loop μ-loop
-loop-holds c = (search needs, refl, λ owns leads listed full spans q l. absurd (omega arith))
+loop-holds c = (refl, λ owns leads listed full spans kept q l. kept q l .1)
 
 names-wrong-requires : tie.Need-names-wrong-requires Inv-loop μ-loop
 names-wrong-requires c κs = search needs
 
 same-length : tie.Need-same-length Inv-loop μ-loop
-same-length c = c .before .before .before .names-wrong .ensures .0 ∙ c .before .before .before .before .before .before .loop .inv .1
+same-length c = c .before .before .before .names-wrong .ensures .0 ∙ c .before .before .before .before .before .before .loop .inv .0
 
 returns : tie.Need-returns Inv-loop μ-loop
-returns c = (c .before .before .before .names-wrong .ensures .0 ∙ c .before .before .before .before .before .before .loop .inv .1, λ owns leads listed full spans. sym (lowest-at (rule22 (sheetOf (c .before .before .before .before .before .before .before .before .before .before .before .before .before .before .before .before .args .s .now)) programmes) (c .before .before .before .before .before .before .before .before .before .before .before .before .before .before .before .before .args .n) (c .before .before .before .before .before .before .loop .p) (c .before .before .before .before .before .loop-test .taken) (c .before .before .before .before .before .before .loop .inv .2 owns leads listed full spans) (sym (c .before .before .before .names-wrong .ensures .1 (c .before .before .before .before .before .before .before .before .before .offset .ensures) (c .before .before .before .before .before .before .before .before .offset2 .ensures) (c .before .before .before .before .before .before .before .offset3 .ensures) owns leads listed (c .before .before .before .before .before .before .loop .inv .1 ∙ full) spans (λ l. c .before .before .before .before .before .before .loop .inv .2 owns leads listed full spans (c .before .before .before .before .before .before .loop .p - 1) (omega arith))) ∙ c .if1 .taken)))
+returns c = (c .before .before .before .names-wrong .ensures .0 ∙ c .before .before .before .before .before .before .loop .inv .0, λ owns leads listed full spans kept. sym (lowest-at (rule22 (sheetOf (c .before .before .before .before .before .before .before .before .before .before .before .before .before .before .before .before .args .s .now)) programmes) (c .before .before .before .before .before .before .before .before .before .before .before .before .before .before .before .before .args .n) (c .before .before .before .before .before .before .loop .p) (c .before .before .before .before .before .loop-test .taken) (c .before .before .before .before .before .before .loop .inv .1 owns leads listed full spans kept) (sym (c .before .before .before .names-wrong .ensures .1 (c .before .before .before .before .before .before .before .before .before .offset .ensures) (c .before .before .before .before .before .before .before .before .offset2 .ensures) (c .before .before .before .before .before .before .before .offset3 .ensures) owns leads listed (c .before .before .before .before .before .before .loop .inv .0 ∙ full) spans (λ l. c .before .before .before .before .before .before .loop .inv .1 owns leads listed full spans kept (c .before .before .before .before .before .before .loop .p - 1) (omega arith))) ∙ c .if1 .taken)))
 
 add-p : tie.Need-add-p Inv-loop μ-loop
 add-p c = search needs
@@ -50,13 +51,13 @@ loop-less : tie.Need-loop-less Inv-loop μ-loop
 loop-less c = search needs
 
 loop-again : tie.Need-loop-again Inv-loop μ-loop
-loop-again c = (search needs, c .before .before .before .names-wrong .ensures .0 ∙ c .before .before .before .before .before .before .loop .inv .1, λ owns leads listed full spans. below-more (λ q. rule22 (sheetOf (c .before .before .before .before .before .before .before .before .before .before .before .before .before .before .before .before .args .s .now)) programmes q ≡ false) (c .before .before .before .before .before .before .loop .p) (c .before .before .before .before .before .before .loop .inv .2 owns leads listed full spans) (sym (c .before .before .before .names-wrong .ensures .1 (c .before .before .before .before .before .before .before .before .before .offset .ensures) (c .before .before .before .before .before .before .before .before .offset2 .ensures) (c .before .before .before .before .before .before .before .offset3 .ensures) owns leads listed (c .before .before .before .before .before .before .loop .inv .1 ∙ full) spans (λ l. c .before .before .before .before .before .before .loop .inv .2 owns leads listed full spans (c .before .before .before .before .before .before .loop .p - 1) (omega arith))) ∙ c .if1 .left))
+loop-again c = (c .before .before .before .names-wrong .ensures .0 ∙ c .before .before .before .before .before .before .loop .inv .0, λ owns leads listed full spans kept. below-more (λ q. rule22 (sheetOf (c .before .before .before .before .before .before .before .before .before .before .before .before .before .before .before .before .args .s .now)) programmes q ≡ false) (c .before .before .before .before .before .before .loop .p) (c .before .before .before .before .before .before .loop .inv .1 owns leads listed full spans kept) (sym (c .before .before .before .names-wrong .ensures .1 (c .before .before .before .before .before .before .before .before .before .offset .ensures) (c .before .before .before .before .before .before .before .before .offset2 .ensures) (c .before .before .before .before .before .before .before .offset3 .ensures) owns leads listed (c .before .before .before .before .before .before .loop .inv .0 ∙ full) spans (λ l. c .before .before .before .before .before .before .loop .inv .1 owns leads listed full spans kept (c .before .before .before .before .before .before .loop .p - 1) (omega arith))) ∙ c .if1 .left))
 
 same-length-2 : tie.Need-same-length-2 Inv-loop μ-loop
-same-length-2 c = c .before .loop .inv .1
+same-length-2 c = c .before .loop .inv .0
 
 returns-2 : tie.Need-returns-2 Inv-loop μ-loop
-returns-2 c = (c .before .loop .inv .1, λ owns leads listed full spans. sym (lowest-none (rule22 (sheetOf (c .before .before .before .before .before .before .before .before .before .before .before .args .s .now)) programmes) (c .before .before .before .before .before .before .before .before .before .before .before .args .n) (λ q l. c .before .loop .inv .2 owns leads listed full spans q (omega (arith, c .loop-test .left, l)))))
+returns-2 c = (c .before .loop .inv .0, λ owns leads listed full spans kept. sym (lowest-none (rule22 (sheetOf (c .before .before .before .before .before .before .before .before .before .before .before .args .s .now)) programmes) (c .before .before .before .before .before .before .before .before .before .before .before .args .n) (λ q l. c .before .loop .inv .1 owns leads listed full spans kept q (omega (arith, c .loop-test .left, l)))))
 
 pub lowest-wrong-spec : {M : Type 1} → statement M
 lowest-wrong-spec =

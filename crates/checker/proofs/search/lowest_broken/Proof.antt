@@ -50,7 +50,7 @@ returns-4 : tie.Need-returns-4
 returns-4 c = search needs
 
 by-sets-requires : tie.Need-by-sets-requires
-by-sets-requires c κs = omega (arith, c .before .before .if3 .left, c .before .before .before .count2 .ensures)
+by-sets-requires c κs = search needs
 
 by-lists-requires : tie.Need-by-lists-requires
 by-lists-requires c κs = search needs
@@ -83,10 +83,10 @@ returns-7 : tie.Need-returns-7
 returns-7 c = search needs
 
 returns-8 : tie.Need-returns-8
-returns-8 c = c .by-groups .ensures (omega (arith, c .before .if2 .left, c .before .before .count .ensures)) ∙ ap (λ (x : ℕ). lowest (breaks (sheetOf (c .before .before .before .before .before .before .args .s .now)) x (c .before .before .before .before .before .before .args .section)) (c .before .before .before .before .before .before .args .n)) (sym (c .before .before .before .match .keys3))
+returns-8 c = c .by-groups .ensures (omega (arith, c .before .if2 .left, c .before .before .count .ensures)) (c .before .before .before .before .before .before .pre) ∙ ap (λ (x : ℕ). lowest (breaks (sheetOf (c .before .before .before .before .before .before .args .s .now)) x (c .before .before .before .before .before .before .args .section)) (c .before .before .before .before .before .before .args .n)) (sym (c .before .before .before .match .keys3))
 
 returns-9 : tie.Need-returns-9
-returns-9 c = c .by-sets .ensures (omega (arith, c .before .before .before .if3 .left, c .before .before .before .before .count2 .ensures)) (c .before .before .sets-once .ensures (not-false _ (c .before .if4 .left))) ∙ ap (λ (x : ℕ). lowest (breaks (sheetOf (c .before .before .before .before .before .before .before .before .args .s .now)) x (c .before .before .before .before .before .before .before .before .args .section)) (c .before .before .before .before .before .before .before .before .args .n)) (sym (c .before .before .before .before .before .match .keys4))
+returns-9 c = c .by-sets .ensures (omega (arith, c .before .before .before .if3 .left, c .before .before .before .before .count2 .ensures)) (c .before .before .sets-once .ensures (not-false _ (c .before .if4 .left))) (c .before .before .before .before .before .before .before .before .pre) ∙ ap (λ (x : ℕ). lowest (breaks (sheetOf (c .before .before .before .before .before .before .before .before .args .s .now)) x (c .before .before .before .before .before .before .before .before .args .section)) (c .before .before .before .before .before .before .before .before .args .n)) (sym (c .before .before .before .before .before .match .keys4))
 
 returns-10 : tie.Need-returns-10
 returns-10 c = search needs

@@ -13,10 +13,10 @@ use Rattle.checker.proofs.search.rule_verdict.Statement.{statement}
 use Rattle.checker.proofs.search.rule_verdict.Tie as tie
 
 abbrev Inv-loop : tie.InvT-loop
-Inv-loop s rule row₀ section₀ row section = (section ≤ 8) × ((j : ℕ) → j < section → sectionBroken (sheetOf s) rule j ≡ false) × Rest rule section row
+Inv-loop s rule kept row₀ section₀ row section = (section ≤ 8) × ((j : ℕ) → j < section → sectionBroken (sheetOf s) rule j ≡ false) × Rest rule section row
 
 abbrev μ-loop : tie.MeasureT-loop
-μ-loop s rule row₀ section₀ row section = 8 - section
+μ-loop s rule kept row₀ section₀ row section = 8 - section
 
 subject-row-requires : tie.Need-subject-row-requires Inv-loop μ-loop
 subject-row-requires c κs = search needs
@@ -31,7 +31,7 @@ subjects-requires : tie.Need-subjects-requires Inv-loop μ-loop
 subjects-requires c κs = search needs
 
 lowest-broken-requires : tie.Need-lowest-broken-requires Inv-loop μ-loop
-lowest-broken-requires c κs = search needs
+lowest-broken-requires c κs = c .before .before .before .before .before .before .pre
 
 place-at-requires : tie.Need-place-at-requires Inv-loop μ-loop
 place-at-requires c κs = search needs

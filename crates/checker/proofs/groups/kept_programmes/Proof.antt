@@ -1,0 +1,82 @@
+-- The tables are right, and the pass tells the rest. Assumes nothing.
+use mathlib.Core.Path.{sym, _∙_}
+use native.Mathlib.Omega.{arith}
+use borrow.Author.Tests.{not-false}
+use lib.ListN.{replicate}
+use lib.Seq.{length-take-le}
+use Rattle.sheet.specs.Words.{sheetOf}
+use Rattle.tables.specs.declared.Naming.the-variants.{SetSpans}
+use Rattle.tables.proofs.MarkLaws.{nought}
+use Rattle.checker.proofs.SearchLaws.{firsts-made}
+use borrow.Author.Needs.{needs}
+use Rattle.checker.proofs.groups.kept_programmes.Statement.{statement}
+use Rattle.checker.proofs.groups.kept_programmes.Tie as tie
+
+count-requires : tie.Need-count-requires
+count-requires c κs = search needs
+
+cast-m : tie.Need-cast-m
+cast-m c = search needs
+
+returns : tie.Need-returns
+returns c = λ p l. absurd (omega (arith, l))
+
+sets-once-requires : tie.Need-sets-once-requires
+sets-once-requires c κs = search needs
+
+returns-2 : tie.Need-returns-2
+returns-2 c = λ p l. absurd (omega (arith, l))
+
+slice-aggregate-first-namers : tie.Need-slice-aggregate-first-namers
+slice-aggregate-first-namers c = search needs
+
+first-namers-requires : tie.Need-first-namers-requires
+first-namers-requires c κs = search needs
+
+slice-aggregate-kept-below : tie.Need-slice-aggregate-kept-below
+slice-aggregate-kept-below c = search needs
+
+array-borrow-prefix-list : tie.Need-array-borrow-prefix-list
+array-borrow-prefix-list c = search needs
+
+slice-aggregate-kept-below-2 : tie.Need-slice-aggregate-kept-below-2
+slice-aggregate-kept-below-2 c = sym (length-take-le (c .before .before .before .before .before .before .before .before .count .result) (replicate 2048 0) (omega (arith, c .before .before .before .before .before .before .before .if1 .left)))
+
+array-borrow-prefix-partners : tie.Need-array-borrow-prefix-partners
+array-borrow-prefix-partners c = search needs
+
+slice-aggregate-kept-below-3 : tie.Need-slice-aggregate-kept-below-3
+slice-aggregate-kept-below-3 c = sym (length-take-le (c .before .before .before .before .before .before .before .before .before .count .result) (replicate 2048 0) (omega (arith, c .before .before .before .before .before .before .before .before .if1 .left)))
+
+array-borrow-prefix-included : tie.Need-array-borrow-prefix-included
+array-borrow-prefix-included c = search needs
+
+slice-aggregate-kept-below-4 : tie.Need-slice-aggregate-kept-below-4
+slice-aggregate-kept-below-4 c = sym (length-take-le (c .before .before .before .before .before .before .before .before .before .before .count .result) (replicate 2048 0) (omega (arith, c .before .before .before .before .before .before .before .before .before .if1 .left)))
+
+kept-below-requires : tie.Need-kept-below-requires
+kept-below-requires c κs = search needs
+
+returns-3 : tie.Need-returns-3
+returns-3 c = λ p l. let kept = c .before .before .before .kept-below .ensures .3 (firsts-made (sheetOf (c .before .before .before .before .before .before .before .before .before .before .before .before .before .before .before .before .args .s .now)) (replicate 4680 0) (λ x h. nought 4680 x) SetSpans (c .before .before .before .before .before .before .before .before .before .first-namers .last .1 .1 .0) (c .before .before .before .before .before .before .before .before .before .first-namers .ensures .0) (c .before .before .before .before .before .before .before .before .before .first-namers .ensures .1)) (length-take-le (c .before .before .before .before .before .before .before .before .before .before .before .before .before .before .count .result) (replicate 2048 0) (omega (arith, c .before .before .before .before .before .before .before .before .before .before .before .before .before .if1 .left)) ∙ c .before .before .before .before .before .before .before .before .before .before .before .before .before .before .count .ensures) (length-take-le (c .before .before .before .before .before .before .before .before .before .before .before .before .before .before .count .result) (replicate 2048 0) (omega (arith, c .before .before .before .before .before .before .before .before .before .before .before .before .before .if1 .left)) ∙ c .before .before .before .before .before .before .before .before .before .before .before .before .before .before .count .ensures) (length-take-le (c .before .before .before .before .before .before .before .before .before .before .before .before .before .before .count .result) (replicate 2048 0) (omega (arith, c .before .before .before .before .before .before .before .before .before .before .before .before .before .if1 .left)) ∙ c .before .before .before .before .before .before .before .before .before .before .before .before .before .before .count .ensures) (c .before .before .before .before .before .before .before .before .before .before .before .before .sets-once .ensures (not-false _ (c .before .before .before .before .before .before .before .before .before .before .before .if2 .left))) p l in (kept .1, kept .2)
+
+pub kept-programmes-spec : {M : Type 1} → statement M
+kept-programmes-spec =
+    tie.close
+    (tie.spec
+    count-requires
+    cast-m
+    returns
+    sets-once-requires
+    returns-2
+    slice-aggregate-first-namers
+    first-namers-requires
+    slice-aggregate-kept-below
+    array-borrow-prefix-list
+    slice-aggregate-kept-below-2
+    array-borrow-prefix-partners
+    slice-aggregate-kept-below-3
+    array-borrow-prefix-included
+    slice-aggregate-kept-below-4
+    kept-below-requires
+    returns-3)
