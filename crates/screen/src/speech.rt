@@ -26,7 +26,7 @@ ghost use Rattle.screen.specs.Screened.{contentBroken, programmeBroken, 
 ghost use Rattle.sheet.specs.Words.{sheetOf};
 
 // A list of so many labels is compared by pairs; a longer one is left to the search.
-const LONGEST: u16 = 48;
+const LONGEST: u16 = 16;
 
 // The language and the loudness of a content without labels.
 fn unlabelled_breaks(s: &[u8], lang: u16, first: u16, loud: u16) -> bool

@@ -3,8 +3,8 @@
 
 use super::shared::languages;
 use super::{
-    a_with_run, broken, copy_programme, copy_top_object, generated, set_lists, top_objects,
-    with_lists, Generated, Size,
+    a_with_run, broken, copy_content, copy_programme, copy_top_object, generated, set_lists,
+    top_objects, with_lists, Generated, Size,
 };
 use crate::build::{bytes, word, Pack, Plan, Track, ValueSet};
 use crate::second::view::{content, object, programme, CONTENT, OBJECT, PROGRAMME};
@@ -13,6 +13,10 @@ use crate::second::Verdict::{self, Accepted};
 /// The sheets with shifted or alternating lists.
 pub fn sheets(size: Size) -> Vec<Generated> {
     let mut sheets = vec![complements(size), alternating_packs(size), jumping_sets(size)];
+    sheets.push(groups_with_sets("sets of groups of three", 3, size.part(180), size));
+    sheets.push(groups_with_sets("sets of one group", size.part(540), 1, size));
+    sheets.push(short_lists(size));
+    sheets.push(falling_labels(size));
     sheets.extend(labels(size));
     sheets.extend(contents(size));
     sheets.extend(sets(size));
@@ -33,6 +37,16 @@ fn labels(size: Size) -> [Generated; 2] {
         sheet("shifted programme labels", copy_programme, (PROGRAMME, programme::LABELS)),
         sheet("shifted content labels", copy_top_object, (CONTENT, content::LABELS)),
     ]
+}
+
+/// Contents of one object with 48 labels each, in falling order.
+fn falling_labels(size: Size) -> Generated {
+    let mut run: Vec<u16> = languages().take(48).collect();
+    run.sort_unstable_by(|a, b| b.cmp(a));
+    let mut plan = a_with_run(size, run, |_, _| ());
+    copy_content(&mut plan, 5 * size.part(5400));
+    let words = with_lists(&plan, (CONTENT, content::LABELS), |_| (0, 48));
+    generated("falling labels", bytes(&words), broken(11, 3, 0))
 }
 
 fn complements(size: Size) -> Generated {
@@ -131,6 +145,44 @@ fn pairs_with_sets(size: Size) -> Plan {
         }
     }
     plan
+}
+
+/// Programmes that include all objects of some groups, and name the one set of each; their
+/// lists begin at the first content and set, or the second, in turn.
+fn groups_with_sets(name: &str, members: usize, groups: usize, size: Size) -> Generated {
+    let mut plan = top_objects(members * groups);
+    let objects = plan.objects.len();
+    for object in 0..objects {
+        plan.add_sets(word(object), &[ValueSet::NONE]);
+        if object % members == 0 {
+            let others = word(object + 1)..word(object + members);
+            plan.objects[object].complements = others.collect();
+        }
+    }
+    let entries: Vec<u16> = (0..word(objects)).chain([0]).collect();
+    let plan = with_programmes(plan, entries.repeat(2), size);
+    let contents = |number| (number % 2, objects);
+    let sets = |number| (objects + 1 + number % 2, objects);
+    let mut words = with_lists(&plan, (PROGRAMME, programme::CONTENTS), contents);
+    set_lists(&mut words, 2 * entries.len(), (PROGRAMME, programme::SETS), sets);
+    generated(name, bytes(&words), Accepted)
+}
+
+/// Pairs of objects: the first programme includes all, each other one the first object or
+/// the second.
+fn short_lists(size: Size) -> Generated {
+    let mut plan = top_objects(2 * size.part(190));
+    let objects = plan.objects.len();
+    for leader in (0..objects).step_by(2) {
+        plan.objects[leader].complements = vec![word(leader + 1)];
+    }
+    let plan = with_programmes(plan, (0..word(objects)).collect(), size);
+    let list = |number| match number {
+        0 => (0, objects),
+        _ => (number % 2, 1),
+    };
+    let words = with_lists(&plan, (PROGRAMME, programme::CONTENTS), list);
+    generated("short lists beside many pairs", bytes(&words), Accepted)
 }
 
 /// Top objects as many as leave space for the run, on packs of so many channels in turn.
