@@ -220,14 +220,14 @@ pub fn keeps_sets(
 }
 
 // How many programmes from the first on can be seen to keep the rules, in tables with a place for each object.
-fn kept_below(
+pub fn kept_below(
     s: &[u8],
     owners: &[u16],
     list: &mut [u16],
     partners: &mut [u16],
     included: &mut [u16],
 ) -> u16
-    ensures { λ r. ⌜ (length (now (list .exit)) ≡ length (now (list .entry))) × (length (now (partners .exit)) ≡ length (now (partners .entry))) × (length (now (included .exit)) ≡ length (now (included .entry))) × (Owners (sheetOf (now (s .entry))) (now (owners .entry)) → length (now (list .entry)) ≡ count (sheetOf (now (s .entry))) objects → length (now (partners .entry)) ≡ count (sheetOf (now (s .entry))) objects → length (now (included .entry)) ≡ count (sheetOf (now (s .entry))) objects → GroupsGround (sheetOf (now (s .entry))) → (p : ℕ) → p < r → ProgrammeKept (sheetOf (now (s .entry))) p) ⌝ }
+    ensures { λ r. ⌜ (length (now (list .exit)) ≡ length (now (list .entry))) × (length (now (partners .exit)) ≡ length (now (partners .entry))) × (length (now (included .exit)) ≡ length (now (included .entry))) × (Owners (sheetOf (now (s .entry))) (now (owners .entry)) → length (now (list .entry)) ≡ count (sheetOf (now (s .entry))) objects → length (now (partners .entry)) ≡ count (sheetOf (now (s .entry))) objects → length (now (included .entry)) ≡ count (sheetOf (now (s .entry))) objects → OneSpan (sheetOf (now (s .entry))) → (p : ℕ) → p < r → ProgrammeKept (sheetOf (now (s .entry))) p) ⌝ }
 {
     let base = offset(s, REFERENCES);
     let records = offset(s, CONTENTS);

@@ -51,7 +51,7 @@ same-length-3 : tie.Need-same-length-3 Inv-loop μ-loop
 same-length-3 c = c .before .before .before .programme-kept .ensures .0 ∙ c .before .before .before .before .before .before .before .before .loop .inv .1
 
 returns : tie.Need-returns Inv-loop μ-loop
-returns c = (c .before .before .before .before .before .before .before .before .before .before .before .before .before .before .list-leaders .ensures .0, c .before .before .before .before .before .before .before .before .before .before .before .before .before .before .list-leaders .ensures .1, c .before .before .before .programme-kept .ensures .0 ∙ c .before .before .before .before .before .before .before .before .loop .inv .1, λ owns long also full ground. c .before .before .before .before .before .before .before .before .loop .inv .2 owns (c .before .before .before .before .before .before .before .before .before .before .before .before .before .before .list-leaders .ensures .2 (omega (arith, long)) (omega (arith, also))) full (ground .1))
+returns c = (c .before .before .before .before .before .before .before .before .before .before .before .before .before .before .list-leaders .ensures .0, c .before .before .before .before .before .before .before .before .before .before .before .before .before .before .list-leaders .ensures .1, c .before .before .before .programme-kept .ensures .0 ∙ c .before .before .before .before .before .before .before .before .loop .inv .1, λ owns long also full spans. c .before .before .before .before .before .before .before .before .loop .inv .2 owns (c .before .before .before .before .before .before .before .before .before .before .before .before .before .before .list-leaders .ensures .2 (omega (arith, long)) (omega (arith, also))) full spans)
 
 add-p : tie.Need-add-p Inv-loop μ-loop
 add-p c = search needs
@@ -72,7 +72,7 @@ same-length-6 : tie.Need-same-length-6 Inv-loop μ-loop
 same-length-6 c = c .before .loop .inv .1
 
 returns-2 : tie.Need-returns-2 Inv-loop μ-loop
-returns-2 c = let z : c .before .loop .p ≡ c .before .before .count .result = omega (arith, c .before .loop .inv .0, c .loop-test .left) in (c .before .before .before .before .before .before .before .list-leaders .ensures .0, c .before .before .before .before .before .before .before .list-leaders .ensures .1, c .before .loop .inv .1, λ owns long also full ground. rw z at (c .before .loop .inv .2 owns (c .before .before .before .before .before .before .before .list-leaders .ensures .2 (omega (arith, long)) (omega (arith, also))) full (ground .1)))
+returns-2 c = let z : c .before .loop .p ≡ c .before .before .count .result = omega (arith, c .before .loop .inv .0, c .loop-test .left) in (c .before .before .before .before .before .before .before .list-leaders .ensures .0, c .before .before .before .before .before .before .before .list-leaders .ensures .1, c .before .loop .inv .1, λ owns long also full spans. rw z at (c .before .loop .inv .2 owns (c .before .before .before .before .before .before .before .list-leaders .ensures .2 (omega (arith, long)) (omega (arith, also))) full spans))
 
 pub kept-below-spec : {M : Type 1} → statement M
 kept-below-spec =

@@ -57,7 +57,7 @@ same-length-3 : tie.Need-same-length-3
 same-length-3 c = search needs
 
 returns-4 : tie.Need-returns-4
-returns-4 c = (search needs, search needs, search needs, λ e owns ground p l. c .before .before .before .before .before .before .before .kept-below .ensures .3 owns (length-take-le (c .before .before .before .before .before .before .before .before .before .before .before .before .before .before .count .result) (c .before .before .before .before .before .before .before .before .before .before .before .before .before .before .before .before .before .before .before .before .args .list .now) (c .before .before .before .before .before .before .before .before .before .before .before .before .if2 .left) ∙ c .before .before .before .before .before .before .before .before .before .before .before .before .before .before .count .ensures) (length-take-le (c .before .before .before .before .before .before .before .before .before .before .before .before .before .before .count .result) (c .before .before .before .before .before .before .before .before .before .before .before .before .before .before .before .before .before .before .before .before .args .partners .now) (c .before .before .before .before .before .before .before .before .before .before .before .if3 .left) ∙ c .before .before .before .before .before .before .before .before .before .before .before .before .before .before .count .ensures) (length-take-le (c .before .before .before .before .before .before .before .before .before .before .before .before .before .before .count .result) (c .before .before .before .before .before .before .before .before .before .before .before .before .before .before .before .before .before .before .before .before .args .included .now) (c .before .before .before .before .before .before .before .before .before .before .before .before .before .if1 .left) ∙ c .before .before .before .before .before .before .before .before .before .before .before .before .before .before .count .ensures) ground p (omega (arith, eqb-true (c .before .before .before .before .before .before .before .kept-below .result) (c .count2 .result) e, c .count2 .ensures, l)))
+returns-4 c = (search needs, search needs, search needs, λ e owns ground p l. c .before .before .before .before .before .before .before .kept-below .ensures .3 owns (length-take-le (c .before .before .before .before .before .before .before .before .before .before .before .before .before .before .count .result) (c .before .before .before .before .before .before .before .before .before .before .before .before .before .before .before .before .before .before .before .before .args .list .now) (c .before .before .before .before .before .before .before .before .before .before .before .before .if2 .left) ∙ c .before .before .before .before .before .before .before .before .before .before .before .before .before .before .count .ensures) (length-take-le (c .before .before .before .before .before .before .before .before .before .before .before .before .before .before .count .result) (c .before .before .before .before .before .before .before .before .before .before .before .before .before .before .before .before .before .before .before .before .args .partners .now) (c .before .before .before .before .before .before .before .before .before .before .before .if3 .left) ∙ c .before .before .before .before .before .before .before .before .before .before .before .before .before .before .count .ensures) (length-take-le (c .before .before .before .before .before .before .before .before .before .before .before .before .before .before .count .result) (c .before .before .before .before .before .before .before .before .before .before .before .before .before .before .before .before .before .before .before .before .args .included .now) (c .before .before .before .before .before .before .before .before .before .before .before .before .before .if1 .left) ∙ c .before .before .before .before .before .before .before .before .before .before .before .before .before .before .count .ensures) (ground .1) p (omega (arith, eqb-true (c .before .before .before .before .before .before .before .kept-below .result) (c .count2 .result) e, c .count2 .ensures, l)))
 
 pub programmes-pass-spec : {M : Type 1} → statement M
 programmes-pass-spec =
