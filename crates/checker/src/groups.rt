@@ -136,6 +136,7 @@ fn names_wrong(
         records,
         sets,
         owners,
+        &owners[..0],
         list,
         partners,
         g,

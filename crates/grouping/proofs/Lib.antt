@@ -1,3 +1,4 @@
+mod AlikeLaws
 mod CountLaws
 mod KeptLaws
 mod MemberLaws
