@@ -1,4 +1,5 @@
 // Rules 21 and 22, for large sheets: a programme is put to the rule itself only where the pass over the programmes can't tell.
+use grouping::alike::fill_alike;
 use grouping::groups::list_leaders;
 use grouping::programmes::keeps_groups;
 use grouping::programmes::keeps_sets;
@@ -139,6 +140,7 @@ fn names_wrong(
         records,
         sets,
         owners,
+        &owners[..0],
         list,
         partners,
         g,
@@ -232,12 +234,17 @@ pub fn kept_programmes(s: &[u8]) -> u16
     }
     let mut owners: [u16; 4680] = [0; 4680];
     first_namers(s, Naming::SetSpans, &mut owners);
+    let mut leaders: [u16; 2048] = [0; 2048];
+    first_namers(s, Naming::Complements, &mut leaders);
+    let mut alike: [u16; 4680] = [0; 4680];
+    fill_alike(s, &owners, &leaders, &mut alike);
     let mut list: [u16; 2048] = [0; 2048];
     let mut partners: [u16; 2048] = [0; 2048];
     let mut included: [u16; 2048] = [0; 2048];
     kept_below(
         s,
         &owners,
+        &alike,
         &mut list[..m],
         &mut partners[..m],
         &mut included[..m],

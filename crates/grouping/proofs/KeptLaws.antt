@@ -66,9 +66,9 @@ leader-inside s o m =
       | false ↦ λ e. rw (own-leader s o e) m
     ]) refl
 
-module _ (s : Sheet) (p : ℕ) (t₀ t₁ t₂ : List ℕ) (noughts : Standing (λ x. 0) t₀) (long : length t₁ ≡ length t₀) (long₂ : length t₂ ≡ length t₁)
+module _ (s : Sheet) (p : ℕ) (t₀ t₁ t₂ : List ℕ) (put : ℕ → ℕ) (noughts : Standing (λ x. 0) t₀) (long : length t₁ ≡ length t₀) (long₂ : length t₂ ≡ length t₁)
     (entered : Changed (objectAt s p) (number s programmes p contentList) 0 1 t₀ t₁)
-    (named : Noted (ownerAt s p) (namedSet s p) (number s programmes p setList) t₁ t₂) where
+    (named : Noted (ownerAt s p) put (number s programmes p setList) t₁ t₂) where
   abbrev n : ℕ
   n = number s programmes p contentList
 
@@ -106,7 +106,7 @@ module _ (s : Sheet) (p : ℕ) (t₀ t₁ t₂ : List ℕ) (noughts : Standing (
   noted : (x : ℕ) → any (λ j. eqb (ownerAt s p j) x) m ≡ true → 1 < getD t₂ x 0
   noted x some =
       let w = any-witness (λ j. eqb (ownerAt s p j) x) m some in
-      let z : getD t₂ x 0 ≡ namedSet s p (w .0) + 2 = ap (λ (y : ℕ). getD t₂ y 0) (sym (eqb-true _ _ (w .2))) ∙ named .3 (w .0) (w .1) in
+      let z : getD t₂ x 0 ≡ put (w .0) + 2 = ap (λ (y : ℕ). getD t₂ y 0) (sym (eqb-true _ _ (w .2))) ∙ named .3 (w .0) (w .1) in
       omega (arith, z)
 
   -- so the table tells what the programme includes
@@ -136,7 +136,8 @@ module _ (s : Sheet) (p : ℕ) (t₀ t₁ t₂ : List ℕ) (noughts : Standing (
       small true = refl
       small false = refl
 
-  module _ (full : length t₀ ≡ count s objects) (spans : OneSpan s) (inside : (j : ℕ) → j < number s programmes p setList → namedSet s p j < count s valueSets) (list partners : List ℕ) (g : ℕ)
+  module _ (full : length t₀ ≡ count s objects) (spans : OneSpan s) (inside : (j : ℕ) → j < number s programmes p setList → namedSet s p j < count s valueSets)
+      (same : (j : ℕ) → j < number s programmes p setList → setsDiffer s (put j) (namedSet s p j) ≡ false) (list partners : List ℕ) (g : ℕ)
       (all : LeadersIn s list partners g) (each : (i : ℕ) → i < g → GroupKept s t₂ (getD list i 0)) where
     -- contents of different objects are different
     no-repeat : Apart (objectAt s p) n → repeats s programmes p contentList ≡ false
@@ -246,7 +247,7 @@ module _ (s : Sheet) (p : ℕ) (t₀ t₁ t₂ : List ℕ) (noughts : Standing (
           ]) refl
 
       -- the member that a named set is of
-      has : (x : ℕ) → x < m → (k : ℕ) → member s u k ≡ ownerAt s p x → getD t₂ (member s u k) 0 ≡ namedSet s p x + 2
+      has : (x : ℕ) → x < m → (k : ℕ) → member s u k ≡ ownerAt s p x → getD t₂ (member s u k) 0 ≡ put x + 2
       has x h k e = ap (λ (y : ℕ). getD t₂ y 0) e ∙ named .3 x h
 
       pub alike : setsDiffer s (namedSet s p i) (namedSet s p j) ≡ false
@@ -254,8 +255,8 @@ module _ (s : Sheet) (p : ℕ) (t₀ t₁ t₂ : List ℕ) (noughts : Standing (
       alike =
           let a = member-at s (ownerAt s p i) u z led in
           let b = member-at s (ownerAt s p j) u refl led in
-          let va : getD t₂ (member s u (a .0)) 0 ≡ namedSet s p i + 2 = has i (omega arith) (a .0) (a .2) in
-          let vb : getD t₂ (member s u (b .0)) 0 ≡ namedSet s p j + 2 = has j l (b .0) (b .2) in
+          let va : getD t₂ (member s u (a .0)) 0 ≡ put i + 2 = has i (omega arith) (a .0) (a .2) in
+          let vb : getD t₂ (member s u (b .0)) 0 ≡ put j + 2 = has j l (b .0) (b .2) in
           let whole = kept u (leader-inside s (ownerAt s p j) (owner-inside j l)) led in
           let other : a .0 ≡ b .0 → ⊥ = λ q. apart (sym (a .2) ∙ ap (member s u) q ∙ b .2) in
           let ia : not (eqb (getD t₂ (member s u (a .0)) 0) 0) ≡ true = ap not (ne-eqb (getD t₂ (member s u (a .0)) 0) 0 (λ q. let y : getD t₂ (member s u (a .0)) 0 ≡ 0 = q in absurd (omega (arith, va)))) in
@@ -266,11 +267,12 @@ module _ (s : Sheet) (p : ℕ) (t₀ t₁ t₂ : List ℕ) (noughts : Standing (
           let some : 1 < howMany (λ x. ltb 1 (getD t₂ (member s u x) 0)) (members s u) = two-counted (λ x. ltb 1 (getD t₂ (member s u x) 0)) (members s u) (a .0) (b .0) other (a .1) (b .1) sa sb in
           let full : howMany (λ x. ltb 1 (getD t₂ (member s u x) 0)) (members s u) ≡ members s u = all-set (howMany (λ x. not (eqb (getD t₂ (member s u x) 0) 0)) (members s u)) (members s u) (howMany (λ x. ltb 1 (getD t₂ (member s u x) 0)) (members s u)) many (omega (arith, some)) (whole .0) in
           let first : 1 < getD t₂ u 0 = subst (λ (y : ℕ). 1 < getD t₂ y 0) (member-zero s u) (ltb-true 1 (getD t₂ (member s u 0) 0) (howMany-all (λ x. ltb 1 (getD t₂ (member s u x) 0)) (members s u) full 0 (omega (arith, a .1)))) in
-          let da : getD t₂ (member s u (a .0)) 0 - 2 ≡ namedSet s p i = omega (arith, va) in
-          let db : getD t₂ (member s u (b .0)) 0 - 2 ≡ namedSet s p j = omega (arith, vb) in
-          sets-alike s (getD t₂ u 0 - 2) (namedSet s p i) (namedSet s p j)
+          let da : getD t₂ (member s u (a .0)) 0 - 2 ≡ put i = omega (arith, va) in
+          let db : getD t₂ (member s u (b .0)) 0 - 2 ≡ put j = omega (arith, vb) in
+          let both : setsDiffer s (put i) (put j) ≡ false = sets-alike s (getD t₂ u 0 - 2) (put i) (put j)
           (ap (setsDiffer s (getD t₂ u 0 - 2)) (sym da) ∙ whole .1 first (a .0) (a .1) (omega (arith, va)))
-          (ap (setsDiffer s (getD t₂ u 0 - 2)) (sym db) ∙ whole .1 first (b .0) (b .1) (omega (arith, vb)))
+          (ap (setsDiffer s (getD t₂ u 0 - 2)) (sym db) ∙ whole .1 first (b .0) (b .1) (omega (arith, vb))) in
+          sets-alike s (put j) (namedSet s p i) (namedSet s p j) (sets-alike s (put i) (put j) (namedSet s p i) both (same i (omega arith))) (same j l)
 
     none-differ : twoOf (λ i j. eqb (leaderOf s (ownerAt s p i)) (leaderOf s (ownerAt s p j)) && setsDiffer s (namedSet s p i) (namedSet s p j)) m ≡ false
     unfolding twoOf

@@ -1,3 +1,4 @@
+pub mod AlikeLaws
 mod CountLaws
 mod KeptLaws
 mod MemberLaws

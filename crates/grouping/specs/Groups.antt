@@ -12,6 +12,7 @@ use Rattle.profile.specs.Counting.{any, howMany}
 use Rattle.profile.specs.Relations.{leader, member, members}
 use Rattle.profile.specs.Rules.{repeats, rule5, rule11, rule19, rule21, rule22, setsDiffer}
 use Rattle.tables.specs.Marks.{Standing}
+use Rattle.tables.specs.Right.{told}
 
 -- a programme names no content twice and keeps rules 21 and 22
 abbrev pub ProgrammeKept : Sheet → ℕ → Type 0
@@ -31,6 +32,14 @@ GroupsGround s =
 -- each value set is in one span
 abbrev pub OneSpan : Sheet → Type 0
 OneSpan s = any (rule11 s valueSets) (count s valueSets) ≡ false
+
+-- the set that stands for a set by a table: one less than the number at its place, or itself where that is 0 or the table ends before it
+unfoldable pub representative : List ℕ → ℕ → ℕ
+representative t v = told v (getD t v 0)
+
+-- each has the words of the set that it stands for
+abbrev pub Alike : Sheet → List ℕ → Type 0
+Alike s t = (v : ℕ) → setsDiffer s (representative t v) v ≡ false
 
 -- a programme has the same list at a position as another
 abbrev pub SameList : Sheet → ℕ → ℕ → ℕ → Type 0

@@ -11,6 +11,7 @@ use sheet::layout::entry;
 use sheet::layout::field;
 use sheet::layout::number;
 use sheet::words::word;
+use sheet::words::word_count;
 use tables::Mark;
 use tables::marks::mark_at;
 ghost use Prim.Native.Nat.{ℕ, suc, _+_, _-_, _<_, _≤_};
@@ -25,45 +26,41 @@ ghost use Rattle.sheet.specs.Fields.{objects, references, valueSets};
 ghost use Rattle.sheet.specs.Layout.{count, offset};
 ghost use Rattle.sheet.specs.Words.{sheetOf, word};
 
-// Of a group whose leader has e in the table, and whose n complements are listed from `first` on: one at most is included, or all are,
-// and sets are named for all or none. Section 6 begins at `base`.
-fn group_whole(s: &[u8], base: u16, first: u16, n: u16, included: &[u16], e: u16) -> bool
-    ensures { λ r. ⌜ r ≡ groupWhole (suc n) (cond (not (eqb e 0)) 1 0 + howMany (λ i. not (eqb (getD (now (included .entry)) (word (sheetOf (now (s .entry))) (base + (first + i))) 0) 0)) n) (cond (ltb 1 e) 1 0 + howMany (λ i. ltb 1 (getD (now (included .entry)) (word (sheetOf (now (s .entry))) (base + (first + i))) 0)) n) ⌝ }
-{
-    let mut many: u32 = one(e != 0) as u32;
-    let mut sets: u32 = one(1 < e) as u32;
-    let mut i: u16 = 0;
-    while i < n {
-        let c = at(
-            included,
-            word(s, base as usize + (first as usize + i as usize)),
-        );
-        many += one(c != 0) as u32;
-        sets += one(1 < c) as u32;
-        i += 1;
-    }
-    let all = n as u32 + 1;
-    (many <= 1) | ((many == all) & ((sets == 0) | (sets == all)))
-}
-
-// Whether the sets of two members may differ, by what the table has for them; the second may have none.
+// Whether the sets of two members may differ, by what the table has for them; either may have none.
 fn noted_differ(s: &[u8], sets: u16, e: u16, c: u16) -> bool
-    requires { ⌜ 1 < e ⌝ }
-    ensures { λ r. ⌜ (r ≡ false → sets ≡ offset (sheetOf (now (s .entry))) valueSets → 1 < c → setsDiffer (sheetOf (now (s .entry))) (e - 2) (c - 2) ≡ false) ⌝ }
+    ensures { λ r. ⌜ (r ≡ false → sets ≡ offset (sheetOf (now (s .entry))) valueSets → 1 < e → 1 < c → setsDiffer (sheetOf (now (s .entry))) (e - 2) (c - 2) ≡ false) ⌝ }
 {
+    if e == c {
+        return false;
+    }
+    if e <= 1 {
+        return false;
+    }
     if c <= 1 {
         return false;
     }
     sets_differ(s, sets, e - 2, c - 2)
 }
 
-// Whether the set of a leader, which has e in the table, has the words of those of its complements.
-fn sets_agree(s: &[u8], base: u16, sets: u16, first: u16, n: u16, included: &[u16], e: u16) -> bool
-    ensures { λ r. ⌜ (r ≡ true → sets ≡ offset (sheetOf (now (s .entry))) valueSets → 1 < e → (i : ℕ) → i < n → 1 < getD (now (included .entry)) (word (sheetOf (now (s .entry))) (base + (first + i))) 0 → setsDiffer (sheetOf (now (s .entry))) (e - 2) (getD (now (included .entry)) (word (sheetOf (now (s .entry))) (base + (first + i))) 0 - 2) ≡ false) ⌝ }
+// Of a group whose leader has e in the table, and whose n complements are listed from `first` on: one at most is included, or all are,
+// sets are named for all or none, and those of the complements have the words of the leader's. Section 6 begins at `base`, section 7 at
+// `sets`.
+fn members_kept(
+    s: &[u8],
+    base: u16,
+    sets: u16,
+    first: u16,
+    n: u16,
+    included: &[u16],
+    e: u16,
+) -> bool
+    ensures { λ r. ⌜ (r ≡ true → sets ≡ offset (sheetOf (now (s .entry))) valueSets → (groupWhole (suc n) (cond (not (eqb e 0)) 1 0 + howMany (λ i. not (eqb (getD (now (included .entry)) (word (sheetOf (now (s .entry))) (base + (first + i))) 0) 0)) n) (cond (ltb 1 e) 1 0 + howMany (λ i. ltb 1 (getD (now (included .entry)) (word (sheetOf (now (s .entry))) (base + (first + i))) 0)) n) ≡ true) × (1 < e → (i : ℕ) → i < n → 1 < getD (now (included .entry)) (word (sheetOf (now (s .entry))) (base + (first + i))) 0 → setsDiffer (sheetOf (now (s .entry))) (e - 2) (getD (now (included .entry)) (word (sheetOf (now (s .entry))) (base + (first + i))) 0 - 2) ≡ false)) ⌝ }
 {
-    if e <= 1 {
-        return true;
+    if word_count(s) < base as usize + (first as usize + n as usize) {
+        return false;
     }
+    let mut many: u32 = one(e != 0) as u32;
+    let mut noted: u32 = one(1 < e) as u32;
     let mut i: u16 = 0;
     while i < n {
         let c = at(
@@ -73,22 +70,21 @@ fn sets_agree(s: &[u8], base: u16, sets: u16, first: u16, n: u16, included: &[u1
         if noted_differ(s, sets, e, c) {
             return false;
         }
+        many += one(c != 0) as u32;
+        noted += one(1 < c) as u32;
         i += 1;
     }
-    true
+    let all = n as u32 + 1;
+    (many <= 1) | ((many == all) & ((noted == 0) | (noted == all)))
 }
 
-// Both for the group of a leader.
+// The same for the group of a leader.
 fn group_kept(s: &[u8], base: u16, sets: u16, included: &[u16], l: u16) -> bool
     ensures { λ r. ⌜ (r ≡ true → base ≡ offset (sheetOf (now (s .entry))) references → sets ≡ offset (sheetOf (now (s .entry))) valueSets → GroupKept (sheetOf (now (s .entry))) (now (included .entry)) l) ⌝ }
 {
     let first = field(s, OBJECTS, l, COMPLEMENT_LIST);
     let n = number(s, OBJECTS, l, COMPLEMENT_LIST);
-    let e = at(included, l);
-    if !group_whole(s, base, first, n, included, e) {
-        return false;
-    }
-    sets_agree(s, base, sets, first, n, included, e)
+    members_kept(s, base, sets, first, n, included, at(included, l))
 }
 
 // A group of two, by what the table has for both.

@@ -1,4 +1,5 @@
 // What a programme includes and the sets that it names, in a table by object (see groups).
+use crate::alike::representative;
 use crate::groups::groups_kept;
 use crate::groups::list_leaders;
 use crate::marks::at;
@@ -15,12 +16,13 @@ use sheet::layout::field;
 use sheet::layout::number;
 use sheet::layout::offset;
 use sheet::words::word;
+use sheet::words::word_count;
 use tables::marks::clear;
 ghost use Prim.Native.Nat.{ℕ, _-_, _<_};
 ghost use lib.ListN.{getD, length};
 ghost use mathlib.Core.Bool.{false, true};
 ghost use mathlib.Core.Path.{_≡_};
-ghost use Rattle.grouping.specs.Groups.{Changed, GroupsGround, LeadersIn, Noted, OneSpan, ProgrammeKept, ProgrammesKept, SameList, objectAt, objectFrom};
+ghost use Rattle.grouping.specs.Groups.{Alike, Changed, GroupsGround, LeadersIn, Noted, OneSpan, ProgrammeKept, ProgrammesKept, SameList, objectAt, objectFrom, representative};
 ghost use Rattle.profile.specs.Relations.{namedSet};
 ghost use Rattle.profile.specs.Rules.{ownerAt, rule21, rule22};
 ghost use Rattle.sheet.specs.Fields.{contentList, contents, objects, programmes, references, setList, valueSets};
@@ -42,6 +44,9 @@ fn enter_objects(s: &[u8], base: u16, records: u16, p: u16, included: &mut [u16]
 {
     let from = field(s, PROGRAMMES, p, CONTENT_LIST);
     let n = number(s, PROGRAMMES, p, CONTENT_LIST);
+    if word_count(s) < base as usize + (from as usize + n as usize) {
+        return false;
+    }
     let mut i: u16 = 0;
     while i < n {
         if !change(included, object_from(s, base, records, from, i), 0, 1) {
@@ -52,13 +57,22 @@ fn enter_objects(s: &[u8], base: u16, records: u16, p: u16, included: &mut [u16]
     true
 }
 
-// Notes the sets that the programme names at their objects, where 1 stood. Each has to be one of the sheet's, of which there are `total`.
-fn enter_sets(s: &[u8], base: u16, total: u16, owners: &[u16], p: u16, included: &mut [u16]) -> bool
-    ensures { λ r. ⌜ (length (now (included .exit)) ≡ length (now (included .entry))) × (r ≡ true → base ≡ offset (sheetOf (now (s .entry))) references → Owners (sheetOf (now (s .entry))) (now (owners .entry)) → Noted (ownerAt (sheetOf (now (s .entry))) p) (namedSet (sheetOf (now (s .entry))) p) (number (sheetOf (now (s .entry))) programmes p setList) (now (included .entry)) (now (included .exit)) × ((j : ℕ) → j < number (sheetOf (now (s .entry))) programmes p setList → namedSet (sheetOf (now (s .entry))) p j < total)) ⌝ }
+// Notes the sets that the programme names at their objects, where 1 stood, each by the set that stands for it. Each has to be one of the
+// sheet's, of which there are `total`.
+fn enter_sets(
+    s: &[u8],
+    base: u16,
+    total: u16,
+    owners: &[u16],
+    alike: &[u16],
+    p: u16,
+    included: &mut [u16],
+) -> bool
+    ensures { λ r. ⌜ (length (now (included .exit)) ≡ length (now (included .entry))) × (r ≡ true → base ≡ offset (sheetOf (now (s .entry))) references → Owners (sheetOf (now (s .entry))) (now (owners .entry)) → Noted (ownerAt (sheetOf (now (s .entry))) p) (λ j. representative (now (alike .entry)) (namedSet (sheetOf (now (s .entry))) p j)) (number (sheetOf (now (s .entry))) programmes p setList) (now (included .entry)) (now (included .exit)) × ((j : ℕ) → j < number (sheetOf (now (s .entry))) programmes p setList → namedSet (sheetOf (now (s .entry))) p j < total)) ⌝ }
 {
     let from = field(s, PROGRAMMES, p, SET_LIST);
     let n = number(s, PROGRAMMES, p, SET_LIST);
-    if 65533 < total {
+    if word_count(s) < base as usize + (from as usize + n as usize) {
         return false;
     }
     let mut j: u16 = 0;
@@ -71,7 +85,11 @@ fn enter_sets(s: &[u8], base: u16, total: u16, owners: &[u16], p: u16, included:
         if c == 0 {
             return false;
         }
-        if !change(included, c - 1, 1, v + 2) {
+        let u = representative(alike, v);
+        if 65533 < u {
+            return false;
+        }
+        if !change(included, c - 1, 1, u + 2) {
             return false;
         }
         j += 1;
@@ -110,19 +128,20 @@ fn programme_passes(
     records: u16,
     sets: u16,
     owners: &[u16],
+    alike: &[u16],
     list: &[u16],
     partners: &[u16],
     g: u16,
     p: u16,
     included: &mut [u16],
 ) -> bool
-    ensures { λ r. ⌜ (length (now (included .exit)) ≡ length (now (included .entry))) × (r ≡ true → base ≡ offset (sheetOf (now (s .entry))) references → records ≡ offset (sheetOf (now (s .entry))) contents → sets ≡ offset (sheetOf (now (s .entry))) valueSets → Owners (sheetOf (now (s .entry))) (now (owners .entry)) → LeadersIn (sheetOf (now (s .entry))) (now (list .entry)) (now (partners .entry)) g → length (now (included .entry)) ≡ count (sheetOf (now (s .entry))) objects → OneSpan (sheetOf (now (s .entry))) → ProgrammeKept (sheetOf (now (s .entry))) p) ⌝ }
+    ensures { λ r. ⌜ (length (now (included .exit)) ≡ length (now (included .entry))) × (r ≡ true → base ≡ offset (sheetOf (now (s .entry))) references → records ≡ offset (sheetOf (now (s .entry))) contents → sets ≡ offset (sheetOf (now (s .entry))) valueSets → Owners (sheetOf (now (s .entry))) (now (owners .entry)) → Alike (sheetOf (now (s .entry))) (now (alike .entry)) → LeadersIn (sheetOf (now (s .entry))) (now (list .entry)) (now (partners .entry)) g → length (now (included .entry)) ≡ count (sheetOf (now (s .entry))) objects → OneSpan (sheetOf (now (s .entry))) → ProgrammeKept (sheetOf (now (s .entry))) p) ⌝ }
 {
     clear(included);
     if !enter_objects(s, base, records, p, included) {
         return false;
     }
-    if !enter_sets(s, base, count(s, VALUE_SETS), owners, p, included) {
+    if !enter_sets(s, base, count(s, VALUE_SETS), owners, alike, p, included) {
         return false;
     }
     groups_kept(s, base, sets, list, partners, g, included)
@@ -135,13 +154,14 @@ fn programme_kept(
     records: u16,
     sets: u16,
     owners: &[u16],
+    alike: &[u16],
     list: &[u16],
     partners: &[u16],
     g: u16,
     p: u16,
     included: &mut [u16],
 ) -> bool
-    ensures { λ r. ⌜ (length (now (included .exit)) ≡ length (now (included .entry))) × (r ≡ true → base ≡ offset (sheetOf (now (s .entry))) references → records ≡ offset (sheetOf (now (s .entry))) contents → sets ≡ offset (sheetOf (now (s .entry))) valueSets → Owners (sheetOf (now (s .entry))) (now (owners .entry)) → LeadersIn (sheetOf (now (s .entry))) (now (list .entry)) (now (partners .entry)) g → length (now (included .entry)) ≡ count (sheetOf (now (s .entry))) objects → OneSpan (sheetOf (now (s .entry))) → (0 < p → ProgrammeKept (sheetOf (now (s .entry))) (p - 1)) → ProgrammeKept (sheetOf (now (s .entry))) p) ⌝ }
+    ensures { λ r. ⌜ (length (now (included .exit)) ≡ length (now (included .entry))) × (r ≡ true → base ≡ offset (sheetOf (now (s .entry))) references → records ≡ offset (sheetOf (now (s .entry))) contents → sets ≡ offset (sheetOf (now (s .entry))) valueSets → Owners (sheetOf (now (s .entry))) (now (owners .entry)) → Alike (sheetOf (now (s .entry))) (now (alike .entry)) → LeadersIn (sheetOf (now (s .entry))) (now (list .entry)) (now (partners .entry)) g → length (now (included .entry)) ≡ count (sheetOf (now (s .entry))) objects → OneSpan (sheetOf (now (s .entry))) → (0 < p → ProgrammeKept (sheetOf (now (s .entry))) (p - 1)) → ProgrammeKept (sheetOf (now (s .entry))) p) ⌝ }
 {
     if same_lists(s, p) {
         return true;
@@ -152,6 +172,7 @@ fn programme_kept(
         records,
         sets,
         owners,
+        alike,
         list,
         partners,
         g,
@@ -191,13 +212,14 @@ pub fn keeps_sets(
     records: u16,
     sets: u16,
     owners: &[u16],
+    alike: &[u16],
     list: &[u16],
     partners: &[u16],
     g: u16,
     p: u16,
     included: &mut [u16],
 ) -> bool
-    ensures { λ r. ⌜ (length (now (included .exit)) ≡ length (now (included .entry))) × (r ≡ true → base ≡ offset (sheetOf (now (s .entry))) references → records ≡ offset (sheetOf (now (s .entry))) contents → sets ≡ offset (sheetOf (now (s .entry))) valueSets → Owners (sheetOf (now (s .entry))) (now (owners .entry)) → LeadersIn (sheetOf (now (s .entry))) (now (list .entry)) (now (partners .entry)) g → length (now (included .entry)) ≡ count (sheetOf (now (s .entry))) objects → OneSpan (sheetOf (now (s .entry))) → (0 < p → rule22 (sheetOf (now (s .entry))) programmes (p - 1) ≡ false) → rule22 (sheetOf (now (s .entry))) programmes p ≡ false) ⌝ }
+    ensures { λ r. ⌜ (length (now (included .exit)) ≡ length (now (included .entry))) × (r ≡ true → base ≡ offset (sheetOf (now (s .entry))) references → records ≡ offset (sheetOf (now (s .entry))) contents → sets ≡ offset (sheetOf (now (s .entry))) valueSets → Owners (sheetOf (now (s .entry))) (now (owners .entry)) → Alike (sheetOf (now (s .entry))) (now (alike .entry)) → LeadersIn (sheetOf (now (s .entry))) (now (list .entry)) (now (partners .entry)) g → length (now (included .entry)) ≡ count (sheetOf (now (s .entry))) objects → OneSpan (sheetOf (now (s .entry))) → (0 < p → rule22 (sheetOf (now (s .entry))) programmes (p - 1) ≡ false) → rule22 (sheetOf (now (s .entry))) programmes p ≡ false) ⌝ }
 {
     if number(s, PROGRAMMES, p, SET_LIST) == 0 {
         return true;
@@ -211,6 +233,7 @@ pub fn keeps_sets(
         records,
         sets,
         owners,
+        alike,
         list,
         partners,
         g,
@@ -223,11 +246,12 @@ pub fn keeps_sets(
 pub fn kept_below(
     s: &[u8],
     owners: &[u16],
+    alike: &[u16],
     list: &mut [u16],
     partners: &mut [u16],
     included: &mut [u16],
 ) -> u16
-    ensures { λ r. ⌜ (length (now (list .exit)) ≡ length (now (list .entry))) × (length (now (partners .exit)) ≡ length (now (partners .entry))) × (length (now (included .exit)) ≡ length (now (included .entry))) × (Owners (sheetOf (now (s .entry))) (now (owners .entry)) → length (now (list .entry)) ≡ count (sheetOf (now (s .entry))) objects → length (now (partners .entry)) ≡ count (sheetOf (now (s .entry))) objects → length (now (included .entry)) ≡ count (sheetOf (now (s .entry))) objects → OneSpan (sheetOf (now (s .entry))) → (p : ℕ) → p < r → ProgrammeKept (sheetOf (now (s .entry))) p) ⌝ }
+    ensures { λ r. ⌜ (length (now (list .exit)) ≡ length (now (list .entry))) × (length (now (partners .exit)) ≡ length (now (partners .entry))) × (length (now (included .exit)) ≡ length (now (included .entry))) × (Owners (sheetOf (now (s .entry))) (now (owners .entry)) → Alike (sheetOf (now (s .entry))) (now (alike .entry)) → length (now (list .entry)) ≡ count (sheetOf (now (s .entry))) objects → length (now (partners .entry)) ≡ count (sheetOf (now (s .entry))) objects → length (now (included .entry)) ≡ count (sheetOf (now (s .entry))) objects → OneSpan (sheetOf (now (s .entry))) → (p : ℕ) → p < r → ProgrammeKept (sheetOf (now (s .entry))) p) ⌝ }
 {
     let base = offset(s, REFERENCES);
     let records = offset(s, CONTENTS);
@@ -242,6 +266,7 @@ pub fn kept_below(
             records,
             sets,
             owners,
+            alike,
             list,
             partners,
             g,
@@ -279,6 +304,7 @@ pub fn programmes_pass(
     kept_below(
         s,
         owners,
+        &owners[..0],
         &mut list[..n],
         &mut partners[..n],
         &mut included[..n],

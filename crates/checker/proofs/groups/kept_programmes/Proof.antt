@@ -33,32 +33,53 @@ slice-aggregate-first-namers c = search needs
 first-namers-requires : tie.Need-first-namers-requires
 first-namers-requires c κs = search needs
 
+slice-aggregate-first-namers-2 : tie.Need-slice-aggregate-first-namers-2
+slice-aggregate-first-namers-2 c = search needs
+
+first-namers-requires-2 : tie.Need-first-namers-requires-2
+first-namers-requires-2 c κs = search needs
+
+slice-aggregate-fill-alike : tie.Need-slice-aggregate-fill-alike
+slice-aggregate-fill-alike c = search needs
+
+slice-aggregate-fill-alike-2 : tie.Need-slice-aggregate-fill-alike-2
+slice-aggregate-fill-alike-2 c = search needs
+
+slice-aggregate-fill-alike-3 : tie.Need-slice-aggregate-fill-alike-3
+slice-aggregate-fill-alike-3 c = search needs
+
+fill-alike-requires : tie.Need-fill-alike-requires
+fill-alike-requires c κs = search needs
+
 slice-aggregate-kept-below : tie.Need-slice-aggregate-kept-below
 slice-aggregate-kept-below c = search needs
+
+slice-aggregate-kept-below-2 : tie.Need-slice-aggregate-kept-below-2
+slice-aggregate-kept-below-2 c = search needs
 
 array-borrow-prefix-list : tie.Need-array-borrow-prefix-list
 array-borrow-prefix-list c = search needs
 
-slice-aggregate-kept-below-2 : tie.Need-slice-aggregate-kept-below-2
-slice-aggregate-kept-below-2 c = sym (length-take-le (c .before .before .before .before .before .before .before .before .count .result) (replicate 2048 0) (omega (arith, c .before .before .before .before .before .before .before .if1 .left)))
+slice-aggregate-kept-below-3 : tie.Need-slice-aggregate-kept-below-3
+slice-aggregate-kept-below-3 c = sym (length-take-le (c .before .before .before .before .before .before .before .before .before .before .before .before .before .before .before .before .before .count .result) (replicate 2048 0) (omega (arith, c .before .before .before .before .before .before .before .before .before .before .before .before .before .before .before .before .if1 .left)))
 
 array-borrow-prefix-partners : tie.Need-array-borrow-prefix-partners
 array-borrow-prefix-partners c = search needs
 
-slice-aggregate-kept-below-3 : tie.Need-slice-aggregate-kept-below-3
-slice-aggregate-kept-below-3 c = sym (length-take-le (c .before .before .before .before .before .before .before .before .before .count .result) (replicate 2048 0) (omega (arith, c .before .before .before .before .before .before .before .before .if1 .left)))
+slice-aggregate-kept-below-4 : tie.Need-slice-aggregate-kept-below-4
+slice-aggregate-kept-below-4 c = sym (length-take-le (c .before .before .before .before .before .before .before .before .before .before .before .before .before .before .before .before .before .before .count .result) (replicate 2048 0) (omega (arith, c .before .before .before .before .before .before .before .before .before .before .before .before .before .before .before .before .before .if1 .left)))
 
 array-borrow-prefix-included : tie.Need-array-borrow-prefix-included
 array-borrow-prefix-included c = search needs
 
-slice-aggregate-kept-below-4 : tie.Need-slice-aggregate-kept-below-4
-slice-aggregate-kept-below-4 c = sym (length-take-le (c .before .before .before .before .before .before .before .before .before .before .count .result) (replicate 2048 0) (omega (arith, c .before .before .before .before .before .before .before .before .before .if1 .left)))
+slice-aggregate-kept-below-5 : tie.Need-slice-aggregate-kept-below-5
+slice-aggregate-kept-below-5 c = sym (length-take-le (c .before .before .before .before .before .before .before .before .before .before .before .before .before .before .before .before .before .before .before .count .result) (replicate 2048 0) (omega (arith, c .before .before .before .before .before .before .before .before .before .before .before .before .before .before .before .before .before .before .if1 .left)))
 
 kept-below-requires : tie.Need-kept-below-requires
 kept-below-requires c κs = search needs
 
 returns-3 : tie.Need-returns-3
-returns-3 c = λ p l. let kept = c .before .before .before .kept-below .ensures .3 (firsts-made (sheetOf (c .before .before .before .before .before .before .before .before .before .before .before .before .before .before .before .before .args .s .now)) (replicate 4680 0) (λ x h. nought 4680 x) SetSpans (c .before .before .before .before .before .before .before .before .before .first-namers .last .1 .1 .0) (c .before .before .before .before .before .before .before .before .before .first-namers .ensures .0) (c .before .before .before .before .before .before .before .before .before .first-namers .ensures .1)) (length-take-le (c .before .before .before .before .before .before .before .before .before .before .before .before .before .before .count .result) (replicate 2048 0) (omega (arith, c .before .before .before .before .before .before .before .before .before .before .before .before .before .if1 .left)) ∙ c .before .before .before .before .before .before .before .before .before .before .before .before .before .before .count .ensures) (length-take-le (c .before .before .before .before .before .before .before .before .before .before .before .before .before .before .count .result) (replicate 2048 0) (omega (arith, c .before .before .before .before .before .before .before .before .before .before .before .before .before .if1 .left)) ∙ c .before .before .before .before .before .before .before .before .before .before .before .before .before .before .count .ensures) (length-take-le (c .before .before .before .before .before .before .before .before .before .before .before .before .before .before .count .result) (replicate 2048 0) (omega (arith, c .before .before .before .before .before .before .before .before .before .before .before .before .before .if1 .left)) ∙ c .before .before .before .before .before .before .before .before .before .before .before .before .before .before .count .ensures) (c .before .before .before .before .before .before .before .before .before .before .before .before .sets-once .ensures (not-false _ (c .before .before .before .before .before .before .before .before .before .before .before .if2 .left))) p l in (kept .1, kept .2)
+returns-3 c = λ p l. let kept = c .before .before .before .kept-below .ensures .3 (firsts-made (sheetOf (c .before .before .before .before .before .before .before .before .before .before .before .before .before .before .before .before .before .before .before .before .before .before .before .before .before .args .s .now)) (replicate 4680 0) (λ x h. nought 4680 x) SetSpans (c .before .before .before .before .before .before .before .before .before .before .before .before .before .before .before .before .before .before .first-namers .last .1 .1 .0) (c .before .before .before .before .before .before .before .before .before .before .before .before .before .before .before .before .before .before .first-namers .ensures .0) (c .before .before .before .before .before .before .before .before .before .before .before .before .before .before .before .before .before .before .first-namers .ensures .1)) (c .before .before .before .before .before .before .before .before .before .before .fill-alike .ensures .1 (λ x h. nought 4680 x)) (length-take-le (c .before .before .before .before .before .before .before .before .before .before .before .before .before .before .before .before .before .before .before .before .before .before .before .count .result) (replicate 2048 0) (omega (arith, c .before .before .before .before .before .before .before .before .before .before .before .before .before .before .before .before .before .before .before .before .before .before .if1 .left)) ∙ c .before .before .before .before .before .before .before .before .before .before .before .before .before .before .before .before .before .before .before .before .before .before .before .count .ensures) (length-take-le (c .before .before .before .before .before .before .before .before .before .before .before .before .before .before .before .before .before .before .before .before .before .before .before .count .result) (replicate 2048 0) (omega (arith, c .before .before .before .before .before .before .before .before .before .before .before .before .before .before .before .before .before .before .before .before .before .before .if1 .left)) ∙ c .before .before .before .before .before .before .before .before .before .before .before .before .before .before .before .before .before .before .before .before .before .before .before .count .ensures) (length-take-le (c .before .before .before .before .before .before .before .before .before .before .before .before .before .before .before .before .before .before .before .before .before .before .before .count .result) (replicate 2048 0) (omega (arith, c .before .before .before .before .before .before .before .before .before .before .before .before .before .before .before .before .before .before .before .before .before .before .if1 .left)) ∙ c .before .before .before .before .before .before .before .before .before .before .before .before .before .before .before .before .before .before .before .before .before .before .before .count .ensures) (c .before .before .before .before .before .before .before .before .before .before .before .before .before .before .before .before .before .before .before .before .before .sets-once .ensures (not-false _ (c .before .before .before .before .before .before .before .before .before .before .before .before .before .before .before .before .before .before .before .before .if2 .left))) p l in (kept .1, kept .2)
 
 pub kept-programmes-spec : {M : Type 1} → statement M
 kept-programmes-spec =
@@ -71,12 +92,19 @@ kept-programmes-spec =
     returns-2
     slice-aggregate-first-namers
     first-namers-requires
+    slice-aggregate-first-namers-2
+    first-namers-requires-2
+    slice-aggregate-fill-alike
+    slice-aggregate-fill-alike-2
+    slice-aggregate-fill-alike-3
+    fill-alike-requires
     slice-aggregate-kept-below
-    array-borrow-prefix-list
     slice-aggregate-kept-below-2
-    array-borrow-prefix-partners
+    array-borrow-prefix-list
     slice-aggregate-kept-below-3
-    array-borrow-prefix-included
+    array-borrow-prefix-partners
     slice-aggregate-kept-below-4
+    array-borrow-prefix-included
+    slice-aggregate-kept-below-5
     kept-below-requires
     returns-3)

@@ -13,16 +13,16 @@ use Rattle.sheet.specs.Fields.{programmes, references, setList}
 use Rattle.profile.specs.Relations.{namedSet, owner}
 use Rattle.profile.specs.Rules.{ownerAt}
 use Rattle.tables.specs.Right.{Owners}
-use Rattle.grouping.specs.Groups.{Noted}
+use Rattle.grouping.specs.Groups.{Noted, representative}
 use Rattle.grouping.proofs.PassLaws.{noted-none, noted-more, owner-read, set-entry}
 use Rattle.grouping.proofs.programmes.enter_sets.Statement.{statement}
 use Rattle.grouping.proofs.programmes.enter_sets.Tie as tie
 
 abbrev Inv-loop : tie.InvT-loop
-Inv-loop s base total owners p included₀ from n j₀ included j = (j ≤ n) × (length included ≡ length included₀) × (base ≡ offset (sheetOf s) references → Owners (sheetOf s) owners → Noted (ownerAt (sheetOf s) p) (namedSet (sheetOf s) p) j included₀ included × ((k : ℕ) → k < j → namedSet (sheetOf s) p k < total))
+Inv-loop s base total owners alike p included₀ from n j₀ included j = (j ≤ n) × (length included ≡ length included₀) × (base ≡ offset (sheetOf s) references → Owners (sheetOf s) owners → Noted (ownerAt (sheetOf s) p) (λ k. representative alike (namedSet (sheetOf s) p k)) j included₀ included × ((k : ℕ) → k < j → namedSet (sheetOf s) p k < total))
 
 abbrev μ-loop : tie.MeasureT-loop
-μ-loop s base total owners p included₀ from n j₀ included j = n - j
+μ-loop s base total owners alike p included₀ from n j₀ included j = n - j
 
 field-requires : tie.Need-field-requires Inv-loop μ-loop
 field-requires c κs = search needs
@@ -30,11 +30,26 @@ field-requires c κs = search needs
 number-requires : tie.Need-number-requires Inv-loop μ-loop
 number-requires c κs = search needs
 
+word-count-requires : tie.Need-word-count-requires Inv-loop μ-loop
+word-count-requires c κs = search needs
+
+cast-if1 : tie.Need-cast-if1 Inv-loop μ-loop
+cast-if1 c = search needs
+
+cast-if1-2 : tie.Need-cast-if1-2 Inv-loop μ-loop
+cast-if1-2 c = search needs
+
+add-if1 : tie.Need-add-if1 Inv-loop μ-loop
+add-if1 c = search needs
+
+add-if1-2 : tie.Need-add-if1-2 Inv-loop μ-loop
+add-if1-2 c = search needs
+
 returns : tie.Need-returns Inv-loop μ-loop
 returns c = (refl, λ e. absurd (true≢false (sym e)))
 
 loop-holds : tie.Need-loop-holds Inv-loop μ-loop
-loop-holds c = (search needs, refl, λ a b. (noted-none (ownerAt (sheetOf (c .before .before .before .before .before .before .args .s .now)) (c .before .before .before .before .before .before .args .p)) (namedSet (sheetOf (c .before .before .before .before .before .before .args .s .now)) (c .before .before .before .before .before .before .args .p)) (c .before .before .before .before .before .before .args .included .now), λ k l. absurd (omega arith)))
+loop-holds c = (search needs, refl, λ a b. (noted-none (ownerAt (sheetOf (c .before .before .before .before .before .before .before .before .args .s .now)) (c .before .before .before .before .before .before .before .before .args .p)) (λ k. representative (c .before .before .before .before .before .before .before .before .args .alike .now) (namedSet (sheetOf (c .before .before .before .before .before .before .before .before .args .s .now)) (c .before .before .before .before .before .before .before .before .args .p) k)) (c .before .before .before .before .before .before .before .before .args .included .now), λ k l. absurd (omega arith)))
 
 cast-word : tie.Need-cast-word Inv-loop μ-loop
 cast-word c = search needs
@@ -66,6 +81,15 @@ same-length-2 c = c .before .before .before .before .before .loop .inv .1
 returns-3 : tie.Need-returns-3 Inv-loop μ-loop
 returns-3 c = (c .before .before .before .before .before .loop .inv .1, λ e. absurd (true≢false (sym e)))
 
+representative-requires : tie.Need-representative-requires Inv-loop μ-loop
+representative-requires c κs = search needs
+
+same-length-3 : tie.Need-same-length-3 Inv-loop μ-loop
+same-length-3 c = c .before .before .before .before .before .before .before .loop .inv .1
+
+returns-4 : tie.Need-returns-4 Inv-loop μ-loop
+returns-4 c = (c .before .before .before .before .before .before .before .loop .inv .1, λ e. absurd (true≢false (sym e)))
+
 sub-change : tie.Need-sub-change Inv-loop μ-loop
 sub-change c = search needs
 
@@ -75,11 +99,11 @@ add-change c = search needs
 change-requires : tie.Need-change-requires Inv-loop μ-loop
 change-requires c κs = search needs
 
-same-length-3 : tie.Need-same-length-3 Inv-loop μ-loop
-same-length-3 c = c .before .before .before .change .ensures .0 ∙ c .before .before .before .before .before .before .before .before .before .before .loop .inv .1
+same-length-4 : tie.Need-same-length-4 Inv-loop μ-loop
+same-length-4 c = c .before .before .before .change .ensures .0 ∙ c .before .before .before .before .before .before .before .before .before .before .before .before .loop .inv .1
 
-returns-4 : tie.Need-returns-4 Inv-loop μ-loop
-returns-4 c = (c .before .before .before .change .ensures .0 ∙ c .before .before .before .before .before .before .before .before .before .before .loop .inv .1, λ e. absurd (true≢false (sym e)))
+returns-5 : tie.Need-returns-5 Inv-loop μ-loop
+returns-5 c = (c .before .before .before .change .ensures .0 ∙ c .before .before .before .before .before .before .before .before .before .before .before .before .loop .inv .1, λ e. absurd (true≢false (sym e)))
 
 add-j : tie.Need-add-j Inv-loop μ-loop
 add-j c = search needs
@@ -89,13 +113,13 @@ loop-less c = search needs
 
 loop-again : tie.Need-loop-again Inv-loop μ-loop
 unfolding ownerAt
-loop-again c = (search needs, c .before .before .before .change .ensures .0 ∙ c .before .before .before .before .before .before .before .before .before .before .loop .inv .1, λ a owns. let now = c .before .before .before .change .ensures .1 (not-false _ (c .if4 .left)) in let before = c .before .before .before .before .before .before .before .before .before .before .loop .inv .2 a owns in let set = c .before .before .before .before .before .before .before .before .word .ensures ∙ set-entry (sheetOf (c .before .before .before .before .before .before .before .before .before .before .before .before .before .before .before .before .before .args .s .now)) (c .before .before .before .before .before .before .before .before .before .before .before .before .before .before .before .before .before .args .base) (c .before .before .before .before .before .before .before .before .before .before .before .before .before .field .result) (c .before .before .before .before .before .before .before .before .before .before .before .before .before .before .before .before .before .args .p) (c .before .before .before .before .before .before .before .before .before .before .loop .j) a (c .before .before .before .before .before .before .before .before .before .before .before .before .before .field .ensures) in (noted-more (ownerAt (sheetOf (c .before .before .before .before .before .before .before .before .before .before .before .before .before .before .before .before .before .args .s .now)) (c .before .before .before .before .before .before .before .before .before .before .before .before .before .before .before .before .before .args .p)) (namedSet (sheetOf (c .before .before .before .before .before .before .before .before .before .before .before .before .before .before .before .before .before .args .s .now)) (c .before .before .before .before .before .before .before .before .before .before .before .before .before .before .before .before .before .args .p)) (c .before .before .before .before .before .before .before .before .before .before .before .before .before .before .before .before .before .args .included .now) (c .before .before .before .before .before .before .before .before .before .before .loop .included) (c .before .before .before .change .last .0) (c .before .before .before .before .before .before .before .before .before .before .loop .j) (c .before .before .before .before .before .before .at .result - 1) (c .before .before .before .before .before .before .before .before .word .result) (owner-read (sheetOf (c .before .before .before .before .before .before .before .before .before .before .before .before .before .before .before .before .before .args .s .now)) (c .before .before .before .before .before .before .before .before .before .before .before .before .before .before .before .before .before .args .owners .now) (c .before .before .before .before .before .before .before .before .word .result) (c .before .before .before .before .before .before .at .result) owns (c .before .before .before .before .before .before .at .ensures) (c .before .before .before .before .before .if3 .left) ∙ ap (owner (sheetOf (c .before .before .before .before .before .before .before .before .before .before .before .before .before .before .before .before .before .args .s .now))) set) set (c .before .before .before .before .before .before .before .before .before .before .loop .inv .1) (c .before .before .before .change .ensures .0) (before .0) (now .0) (now .1) (now .2), below-more (λ k. namedSet (sheetOf (c .before .before .before .before .before .before .before .before .before .before .before .before .before .before .before .before .before .args .s .now)) (c .before .before .before .before .before .before .before .before .before .before .before .before .before .before .before .before .before .args .p) k < c .before .before .before .before .before .before .before .before .before .before .before .before .before .before .before .before .before .args .total) (c .before .before .before .before .before .before .before .before .before .before .loop .j) (before .1) (rw (sym set) (c .before .before .before .before .before .before .before .if2 .left))))
+loop-again c = (search needs, c .before .before .before .change .ensures .0 ∙ c .before .before .before .before .before .before .before .before .before .before .before .before .loop .inv .1, λ a owns. let now = c .before .before .before .change .ensures .1 (not-false _ (c .if5 .left)) in let before = c .before .before .before .before .before .before .before .before .before .before .before .before .loop .inv .2 a owns in let set = c .before .before .before .before .before .before .before .before .before .before .word .ensures ∙ set-entry (sheetOf (c .before .before .before .before .before .before .before .before .before .before .before .before .before .before .before .before .before .before .before .before .before .args .s .now)) (c .before .before .before .before .before .before .before .before .before .before .before .before .before .before .before .before .before .before .before .before .before .args .base) (c .before .before .before .before .before .before .before .before .before .before .before .before .before .before .before .before .field .result) (c .before .before .before .before .before .before .before .before .before .before .before .before .before .before .before .before .before .before .before .before .before .args .p) (c .before .before .before .before .before .before .before .before .before .before .before .before .loop .j) a (c .before .before .before .before .before .before .before .before .before .before .before .before .before .before .before .before .field .ensures) in (noted-more (ownerAt (sheetOf (c .before .before .before .before .before .before .before .before .before .before .before .before .before .before .before .before .before .before .before .before .before .args .s .now)) (c .before .before .before .before .before .before .before .before .before .before .before .before .before .before .before .before .before .before .before .before .before .args .p)) (λ k. representative (c .before .before .before .before .before .before .before .before .before .before .before .before .before .before .before .before .before .before .before .before .before .args .alike .now) (namedSet (sheetOf (c .before .before .before .before .before .before .before .before .before .before .before .before .before .before .before .before .before .before .before .before .before .args .s .now)) (c .before .before .before .before .before .before .before .before .before .before .before .before .before .before .before .before .before .before .before .before .before .args .p) k)) (c .before .before .before .before .before .before .before .before .before .before .before .before .before .before .before .before .before .before .before .before .before .args .included .now) (c .before .before .before .before .before .before .before .before .before .before .before .before .loop .included) (c .before .before .before .change .last .0) (c .before .before .before .before .before .before .before .before .before .before .before .before .loop .j) (c .before .before .before .before .before .before .before .before .at .result - 1) (c .before .before .before .before .before .before .representative .result) (owner-read (sheetOf (c .before .before .before .before .before .before .before .before .before .before .before .before .before .before .before .before .before .before .before .before .before .args .s .now)) (c .before .before .before .before .before .before .before .before .before .before .before .before .before .before .before .before .before .before .before .before .before .args .owners .now) (c .before .before .before .before .before .before .before .before .before .before .word .result) (c .before .before .before .before .before .before .before .before .at .result) owns (c .before .before .before .before .before .before .before .before .at .ensures) (c .before .before .before .before .before .before .before .if3 .left) ∙ ap (owner (sheetOf (c .before .before .before .before .before .before .before .before .before .before .before .before .before .before .before .before .before .before .before .before .before .args .s .now))) set) (c .before .before .before .before .before .before .representative .ensures ∙ ap (representative (c .before .before .before .before .before .before .before .before .before .before .before .before .before .before .before .before .before .before .before .before .before .args .alike .now)) set) (c .before .before .before .before .before .before .before .before .before .before .before .before .loop .inv .1) (c .before .before .before .change .ensures .0) (before .0) (now .0) (now .1) (now .2), below-more (λ k. namedSet (sheetOf (c .before .before .before .before .before .before .before .before .before .before .before .before .before .before .before .before .before .before .before .before .before .args .s .now)) (c .before .before .before .before .before .before .before .before .before .before .before .before .before .before .before .before .before .before .before .before .before .args .p) k < c .before .before .before .before .before .before .before .before .before .before .before .before .before .before .before .before .before .before .before .before .before .args .total) (c .before .before .before .before .before .before .before .before .before .before .before .before .loop .j) (before .1) (rw (sym set) (c .before .before .before .before .before .before .before .before .before .if2 .left))))
 
-same-length-4 : tie.Need-same-length-4 Inv-loop μ-loop
-same-length-4 c = c .before .loop .inv .1
+same-length-5 : tie.Need-same-length-5 Inv-loop μ-loop
+same-length-5 c = c .before .loop .inv .1
 
-returns-5 : tie.Need-returns-5 Inv-loop μ-loop
-returns-5 c = let z : c .before .loop .j ≡ number (sheetOf (c .before .before .before .before .before .before .before .before .args .s .now)) programmes (c .before .before .before .before .before .before .before .before .args .p) setList = omega (arith, c .before .loop .inv .0, c .before .before .before .number .ensures, c .loop-test .left) in (c .before .loop .inv .1, λ e a b. rw z at (c .before .loop .inv .2 a b))
+returns-6 : tie.Need-returns-6 Inv-loop μ-loop
+returns-6 c = let z : c .before .loop .j ≡ number (sheetOf (c .before .before .before .before .before .before .before .before .before .before .args .s .now)) programmes (c .before .before .before .before .before .before .before .before .before .before .args .p) setList = omega (arith, c .before .loop .inv .0, c .before .before .before .before .number .ensures, c .loop-test .left) in (c .before .loop .inv .1, λ e a b. rw z at (c .before .loop .inv .2 a b))
 
 pub enter-sets-spec : {M : Type 1} → statement M
 enter-sets-spec =
@@ -105,6 +129,11 @@ enter-sets-spec =
     μ-loop
     field-requires
     number-requires
+    word-count-requires
+    cast-if1
+    cast-if1-2
+    add-if1
+    add-if1-2
     returns
     loop-holds
     cast-word
@@ -117,13 +146,16 @@ enter-sets-spec =
     at-requires
     same-length-2
     returns-3
+    representative-requires
+    same-length-3
+    returns-4
     sub-change
     add-change
     change-requires
-    same-length-3
-    returns-4
+    same-length-4
+    returns-5
     add-j
     loop-less
     loop-again
-    same-length-4
-    returns-5)
+    same-length-5
+    returns-6)

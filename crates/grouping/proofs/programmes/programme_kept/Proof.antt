@@ -11,7 +11,7 @@ same-lists-requires : tie.Need-same-lists-requires
 same-lists-requires c κs = search needs
 
 returns : tie.Need-returns
-returns c = (refl, λ e a b d owns listed full spans before. let same = c .before .same-lists .ensures (c .if1 .taken) in same-kept (sheetOf (c .before .before .before .before .before .before .before .args .s .now)) (c .before .before .before .before .before .before .before .args .p) (c .before .before .before .before .before .before .before .args .p - 1) (same .1) (same .2) (before (same .0)))
+returns c = (refl, λ e a b d owns likes listed full spans before. let same = c .before .same-lists .ensures (c .if1 .taken) in same-kept (sheetOf (c .before .before .before .before .before .before .before .before .args .s .now)) (c .before .before .before .before .before .before .before .before .args .p) (c .before .before .before .before .before .before .before .before .args .p - 1) (same .1) (same .2) (before (same .0)))
 
 programme-passes-requires : tie.Need-programme-passes-requires
 programme-passes-requires c κs = search needs
@@ -20,7 +20,7 @@ same-length : tie.Need-same-length
 same-length c = c .before .before .programme-passes .ensures .0
 
 returns-2 : tie.Need-returns-2
-returns-2 c = (c .before .before .programme-passes .ensures .0, λ e a b d owns listed full spans before. c .before .before .programme-passes .ensures .1 e a b d owns listed full spans)
+returns-2 c = (c .before .before .programme-passes .ensures .0, λ e a b d owns likes listed full spans before. c .before .before .programme-passes .ensures .1 e a b d owns likes listed full spans)
 
 pub programme-kept-spec : {M : Type 1} → statement M
 programme-kept-spec =
