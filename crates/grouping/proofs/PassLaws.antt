@@ -232,11 +232,11 @@ module _ (s : Sheet) (e c : ℕ) where
       (λ q. let z : c ≡ 0 = eqb-true c 0 q in (pair-whole (not (eqb e 0)) (not (eqb c 0)) (ltb 1 e) (ltb 1 c) (λ a b. absurd (true≢false (sym b ∙ ap not q))), λ l m. absurd (omega arith)))
       (or-either (eqb e 0) (eqb c 0) h)
 
-  -- no set is named
-  pub pair-plain : (eqb e 1 || eqb c 1) ≡ true → e ≡ c → PairKept s e c
-  pair-plain h z = (
+  -- both have one number
+  pub pair-same : e ≡ c → PairKept s e c
+  pair-same z = (
     pair-whole (not (eqb e 0)) (not (eqb c 0)) (ltb 1 e) (ltb 1 c) (λ a b. ap (ltb 1) z),
-    λ l m. ⊎-elim (λ q. let y : e ≡ 1 = eqb-true e 1 q in absurd (omega arith)) (λ q. let y : c ≡ 1 = eqb-true c 1 q in absurd (omega arith)) (or-either (eqb e 1) (eqb c 1) h),
+    λ l m. ap (λ (x : ℕ). setsDiffer s (x - 2) (c - 2)) z ∙ sets-own s (c - 2),
   )
 
   -- both are named

@@ -91,11 +91,14 @@ fn group_kept(s: &[u8], base: u16, sets: u16, included: &[u16], l: u16) -> bool
 fn pair_kept(s: &[u8], sets: u16, e: u16, c: u16) -> bool
     ensures { λ r. ⌜ (r ≡ true → sets ≡ offset (sheetOf (now (s .entry))) valueSets → PairKept (sheetOf (now (s .entry))) e c) ⌝ }
 {
+    if e == c {
+        return true;
+    }
     if (e == 0) | (c == 0) {
         return true;
     }
     if (e == 1) | (c == 1) {
-        return e == c;
+        return false;
     }
     !noted_differ(s, sets, e, c)
 }

@@ -19,7 +19,7 @@ use sheet::words::word;
 use sheet::words::word_count;
 use tables::marks::clear;
 ghost use Prim.Native.Nat.{ℕ, _-_, _<_};
-ghost use lib.ListN.{getD, length};
+ghost use lib.ListN.{length};
 ghost use mathlib.Core.Bool.{false, true};
 ghost use mathlib.Core.Path.{_≡_};
 ghost use Rattle.grouping.specs.Groups.{Alike, Changed, GroupsGround, LeadersIn, Noted, OneSpan, ProgrammeKept, ProgrammesKept, SameList, objectAt, objectFrom, representative};
@@ -28,7 +28,7 @@ ghost use Rattle.profile.specs.Rules.{ownerAt, rule21, rule22};
 ghost use Rattle.sheet.specs.Fields.{contentList, contents, objects, programmes, references, setList, valueSets};
 ghost use Rattle.sheet.specs.Layout.{count, number, offset};
 ghost use Rattle.sheet.specs.Words.{sheetOf};
-ghost use Rattle.tables.specs.Right.{Leaders, Owners};
+ghost use Rattle.tables.specs.Right.{Owners};
 
 // The object of the content that an entry of a content list names, where section 6 begins at `base` and section 2 at `records`.
 fn object_from(s: &[u8], base: u16, records: u16, from: u16, i: u16) -> u16

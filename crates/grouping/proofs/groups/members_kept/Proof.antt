@@ -1,7 +1,7 @@
 -- The members passed are counted, and their sets agree. Assumes nothing.
 use borrow.Author.Needs.{needs}
 use Prim.Native.Nat.{ℕ, _+_, _-_, _≤_, _<_}
-use mathlib.Core.Path.{_≡_, refl, sym, ap, _∙_}
+use mathlib.Core.Path.{_≡_, sym, ap, _∙_}
 use mathlib.Core.Bool.{cond, false, not, true≢false}
 use native.Mathlib.Omega.{arith}
 use native.Mathlib.Numerals.{add-one}
