@@ -30,6 +30,10 @@ use Rattle.listener.specs.Steps.{flaggedSound}
 pub leaders-made : (s : Sheet) (n : ℕ) (t : List ℕ) → Standing (λ x. firstBy s Complements x (getD (replicate n 0) x 0)) t → Leaders s t
 leaders-made s n t h x l = h x l ∙ ap (firstBy s Complements x) (nought n x)
 
+pub and-assoc : (a b c : Bool) → ((a && b) && c) ≡ (a && (b && c))
+and-assoc false b c = refl
+and-assoc true b c = refl
+
 pub every-eq : (p q : ℕ → Bool) (n : ℕ) → ((k : ℕ) → k < n → p k ≡ q k) → every p n ≡ every q n
 unfolding every
 every-eq p q zero h = refl
