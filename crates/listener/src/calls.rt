@@ -23,7 +23,7 @@ use tables::reads::leader_by;
 use values::Gain;
 use values::Sort;
 ghost use mathlib.Core.Path.{_≡_};
-ghost use Rattle.listener.specs.Calls.{behind, chosenObject, chosenProgramme, gainSet, groupAnswer, moved, numberAnswer, offsetSet, opened, opens, rangeAnswer, replyBy};
+ghost use Rattle.listener.specs.Calls.{behind, chosenObject, chosenProgramme, gainSet, groupAnswer, moved, numberAnswer, offsetSet, opened, opens, rangeAnswer};
 ghost use Rattle.granted.specs.Fitting.{gainFits, offsetFits};
 ghost use Rattle.listener.specs.State.{restingState};
 ghost use Rattle.listener.specs.Steps.{isDone, movedFrom, rangeAnswerBy};
@@ -40,22 +40,6 @@ pub fn opens(s: &[u8]) -> bool
     match verdict {
         Verdict::Accepted => level(s) != 0,
         Verdict::Broken(_, _) => false,
-    }
-}
-
-// A refused call hands back the state that it was given, one that is done another.
-fn reply_by(answer: Answer, given: State, made: State) -> Reply
-    ensures { λ r. ⌜ r ≡ replyBy answer given made ⌝ }
-{
-    match answer {
-        Answer::Done => Reply {
-            answer: Answer::Done,
-            state: made,
-        },
-        Answer::Refused(refusal) => Reply {
-            answer: Answer::Refused(refusal),
-            state: given,
-        },
     }
 }
 
@@ -161,6 +145,7 @@ fn offset_answer(s: &[u8], p: u16, o: u16, offset: i16) -> Answer
     range_answer(s, p, o, is_range(range), offset_within(range, offset))
 }
 
+// A call that is done gives a new state, a refused one that which it was given.
 fn is_done(answer: Answer) -> bool
     ensures { λ r. ⌜ r ≡ isDone answer ⌝ }
 {
@@ -234,7 +219,10 @@ impl State {
                 answer: Answer::Done,
                 state: started(s, p),
             },
-            Answer::Refused(refusal) => reply_by(Answer::Refused(refusal), self, self),
+            Answer::Refused(refusal) => Reply {
+                answer: Answer::Refused(refusal),
+                state: self,
+            },
         }
     }
 
@@ -248,7 +236,10 @@ impl State {
                 answer: Answer::Done,
                 state: moved(s, self, o),
             },
-            Answer::Refused(refusal) => reply_by(Answer::Refused(refusal), self, self),
+            Answer::Refused(refusal) => Reply {
+                answer: Answer::Refused(refusal),
+                state: self,
+            },
         }
     }
 

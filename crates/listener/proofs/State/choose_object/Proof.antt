@@ -21,16 +21,13 @@ moved-requires c κs = search needs
 enum-known-answer : tie.Need-enum-known-answer
 enum-known-answer c = search needs
 
-reply-by-requires : tie.Need-reply-by-requires
-reply-by-requires c κs = search needs
-
 returns : tie.Need-returns
 unfolding replyBy
 returns c = rw (c .moved .ensures) (sym (object-reply (sheetOf (c .before .before .before .before .before .args .s .now)) (c .before .before .before .before .before .args .self) (c .before .before .before .before .before .args .o) Done (sym (c .before .before .before .object-answer .ensures) ∙ c .before .enum-told .given .1)))
 
 returns-2 : tie.Need-returns-2
 unfolding replyBy
-returns-2 c = let r : Refusal = c .before .before .answer .given .0 .0 in c .reply-by .ensures ∙ sym (object-reply (sheetOf (c .before .before .before .before .before .before .args .s .now)) (c .before .before .before .before .before .before .args .self) (c .before .before .before .before .before .before .args .o) (Refused r) (sym (c .before .before .before .before .object-answer .ensures) ∙ c .before .before .answer .given .1))
+returns-2 c = let r : Refusal = c .before .answer .given .0 .0 in sym (object-reply (sheetOf (c .before .before .before .before .before .args .s .now)) (c .before .before .before .before .before .args .self) (c .before .before .before .before .before .args .o) (Refused r) (sym (c .before .before .before .object-answer .ensures) ∙ c .before .answer .given .1))
 
 pub choose-object-spec : {M : Type 1} → statement M
 choose-object-spec =
@@ -40,6 +37,5 @@ choose-object-spec =
     enum-told
     moved-requires
     enum-known-answer
-    reply-by-requires
     returns
     returns-2)
