@@ -34,6 +34,13 @@ pub and-assoc : (a b c : Bool) → ((a && b) && c) ≡ (a && (b && c))
 and-assoc false b c = refl
 and-assoc true b c = refl
 
+-- a test, and another that is known only behind it
+pub and-behind : (a b r : Bool) → (r ≡ true → a ≡ b) → (a && r) ≡ (r && b)
+and-behind true b true h = h refl
+and-behind false b true h = h refl
+and-behind true b false h = refl
+and-behind false b false h = refl
+
 pub every-eq : (p q : ℕ → Bool) (n : ℕ) → ((k : ℕ) → k < n → p k ≡ q k) → every p n ≡ every q n
 unfolding every
 every-eq p q zero h = refl

@@ -70,7 +70,7 @@ fn sound_at(
 }
 
 // Whether a state is sound for the sheet. What the programme doesn't include is at rest, so it has no part in a group. The loops stand
-// in one function, since a call that takes a state copies it; the tables are made first, since they don't wait for that copy.
+// in one function, since a call that takes a state copies it; the long one comes last, when that copy is long done.
 pub fn sound(s: &[u8], state: State) -> bool
     ensures { λ r. ⌜ r ≡ sound (sheetOf (now (s .entry))) state ⌝ }
 {
@@ -82,27 +82,24 @@ pub fn sound(s: &[u8], state: State) -> bool
     find_leaders(s, &mut leaders);
     let mut marks: [u16; 84] = [0; 84];
     let n = enter_included(s, p, &mut marks);
-    let mut good = true;
-    let mut o: u16 = n;
-    while o < 84 {
-        let x = state.objects[o as usize];
-        good = good & is_resting(x);
-        o += 1;
-    }
-    if !good {
-        return false;
-    }
     let mut active: [u16; 84] = [0; 84];
-    o = 0;
+    let mut o: u16 = 0;
     while o < n {
         let x = state.objects[o as usize];
         active[o as usize] = one(x.active);
         o += 1;
     }
+    let mut good = true;
     o = 0;
     while o < n {
         let x = state.objects[o as usize];
         good = good & sound_at(s, p, &leaders, &marks, &active, o, x);
+        o += 1;
+    }
+    o = n;
+    while o < 84 {
+        let x = state.objects[o as usize];
+        good = good & is_resting(x);
         o += 1;
     }
     good
