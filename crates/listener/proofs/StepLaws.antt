@@ -8,8 +8,8 @@ use borrow.Author.Tests.{lt-ltb, ltb-true, ltb-false}
 use lib.Dec.{eqb, ltb}
 use lib.ListN.{length, getD, replicate, List·getD-eq-default}
 use Rattle.sheet.specs.Words.{Sheet}
-use Rattle.profile.specs.Counting.{howMany, every, tabulate}
-use Rattle.profile.specs.Relations.{member, members, leaderOf, includes}
+use Rattle.profile.specs.Counting.{every, tabulate}
+use Rattle.profile.specs.Relations.{member, members, leaderOf}
 use Rattle.profile.proofs.SumLaws.{howMany-eq}
 use Rattle.profile.proofs.ListLaws.{length-tabulate, getD-tabulate}
 use Rattle.tables.specs.declared.Naming.the-variants.{Complements}
@@ -19,9 +19,7 @@ use Rattle.tables.proofs.MarkLaws.{nought}
 use Rattle.tables.proofs.TableLaws.{flag}
 use Rattle.listener.specs.declared.Setting.{Setting}
 use Rattle.listener.specs.declared.State.{State}
-use Rattle.listener.specs.State.{stateObjects, blank, setting, active, isResting}
-use Rattle.granted.specs.Granted.{inWholeGroup}
-use Rattle.granted.specs.Fitting.{soundGain, soundOffset}
+use Rattle.listener.specs.State.{stateObjects, blank, setting, active}
 use Rattle.listener.specs.Sound.{activeMembers, soundActivity, soundAt}
 use Rattle.granted.specs.Steps.{flagged, flaggedMembers, flaggedActivity}
 use Rattle.listener.specs.Steps.{flaggedSound}

@@ -1,5 +1,5 @@
 -- Found so far is whether one of the entries passed names the object. Assumes nothing.
-use Prim.Native.Nat.{ℕ, _-_, _≤_}
+use Prim.Native.Nat.{_-_, _≤_}
 use mathlib.Core.Path.{_≡_, refl, ap, _∙_}
 use native.Mathlib.Omega.{arith}
 use native.Mathlib.Numerals.{add-one}

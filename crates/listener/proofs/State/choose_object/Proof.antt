@@ -1,9 +1,9 @@
 -- The machine's reply, with its refusals up to 29. Assumes nothing.
-use mathlib.Core.Path.{_≡_, refl, sym, ap, _∙_}
+use mathlib.Core.Path.{sym, _∙_}
 use Rattle.sheet.specs.Words.{sheetOf}
 use Rattle.listener.specs.declared.Refusal.{Refusal}
 use Rattle.listener.specs.declared.Answer.the-variants.{Done, Refused}
-use Rattle.listener.specs.Calls.{replyBy, behind}
+use Rattle.listener.specs.Calls.{replyBy}
 use Rattle.listener.proofs.BehindLaws.{object-reply}
 use borrow.Author.Needs.{needs}
 use Rattle.listener.proofs.State.choose_object.Statement.{statement}

@@ -1,5 +1,5 @@
 -- The machine's reply, with its refusals up to 27. Assumes nothing.
-use mathlib.Core.Path.{_≡_, refl, sym, ap, _∙_}
+use mathlib.Core.Path.{sym, _∙_}
 use Rattle.sheet.specs.Words.{sheetOf}
 use Rattle.listener.specs.declared.Refusal.{Refusal}
 use Rattle.listener.specs.declared.Answer.the-variants.{Done, Refused}

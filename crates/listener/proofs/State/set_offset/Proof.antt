@@ -5,14 +5,13 @@ use mathlib.Core.Logic.{⊎-elim}
 use native.Mathlib.Omega.{arith}
 use borrow.Author.Tests.{ltb-true}
 use lib.Dec.{ltb}
-use lib.ListN.{getD}
 use mir.Val.{toZ, ofZ}
 use mir.Syntax.{w16}
 use Rattle.sheet.specs.Words.{sheetOf}
 use Rattle.values.specs.declared.Sort.the-variants.{Offsets}
 use Rattle.profile.proofs.BoolLaws.{and-both}
 use Rattle.granted.specs.Fitting.{offsetFits}
-use Rattle.listener.specs.State.{stateObjects, blank, setting}
+use Rattle.listener.specs.State.{stateObjects, setting}
 use Rattle.listener.specs.Calls.{offsetSet, withOffset, behind, rangeAnswer}
 use Rattle.listener.proofs.StepLaws.{element-setting}
 use Rattle.listener.proofs.BehindLaws.{behind-sound, behind-unsound, behind-shut, value-stored, value-kept}

@@ -1,5 +1,5 @@
 -- An included object, or rest. Assumes nothing.
-use mathlib.Core.Path.{_≡_, refl, sym, ap, _∙_}
+use mathlib.Core.Path.{_≡_, sym, _∙_}
 use mir.Val.{toZ, ofZ}
 use mir.Syntax.{w16}
 use Rattle.listener.specs.Steps.{flaggedSound}
