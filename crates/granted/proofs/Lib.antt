@@ -1,2 +1,3 @@
 mod PlaceLaws
+mod NamedLaws
 mod SameLaws

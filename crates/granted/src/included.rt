@@ -1,15 +1,47 @@
-// What a programme includes, read from tables: `leaders` has the leader of each object's group, `marks` what the programme includes.
+// What a programme includes, also read from tables: `leaders` has the leader of each object's group, `marks` what the programme includes.
 use relations::entries::one;
 use relations::groups::member;
 use relations::groups::members;
 use relations::objects::leader;
+use sheet::fields::CONTENT_LIST;
+use sheet::fields::CONTENT_OBJECT;
+use sheet::fields::CONTENTS;
+use sheet::fields::OBJECTS;
+use sheet::fields::PROGRAMMES;
+use sheet::layout::count;
+use sheet::layout::entry;
+use sheet::layout::field;
+use sheet::layout::number;
+use tables::Mark;
+use tables::Naming;
+use tables::marks::mark_items;
 use tables::reads::included_by;
 use tables::reads::leader_by;
+ghost use Prim.Native.Nat.{_+_, _<_};
+ghost use lib.ListN.{getD, length};
 ghost use mathlib.Core.Path.{_≡_};
 ghost use Rattle.granted.specs.Granted.{inWholeGroup};
-ghost use Rattle.profile.specs.Relations.{included};
+ghost use Rattle.profile.specs.Relations.{included, includes};
 ghost use Rattle.sheet.specs.Words.{sheetOf};
+ghost use Rattle.tables.specs.Marks.{Standing, firstBy, marked, repeat, timesBy};
 ghost use Rattle.tables.specs.Right.{Included, Leaders};
+ghost use Rattle.tables.specs.declared.Mark.the-variants.{Store};
+ghost use Rattle.tables.specs.declared.Naming.the-variants.{Complements};
+
+// "A programme includes the top objects of its contents": one loop, without a call for each entry.
+pub fn includes_object(s: &[u8], p: u16, o: u16) -> bool
+    ensures { λ r. ⌜ r ≡ includes (sheetOf (now (s .entry))) p o ⌝ }
+{
+    let n = number(s, PROGRAMMES, p, CONTENT_LIST);
+    let mut found = false;
+    let mut i: u16 = 0;
+    while i < n {
+        let c = entry(s, PROGRAMMES, p, CONTENT_LIST, i);
+        found = found | (field(s, CONTENTS, c, CONTENT_OBJECT) == o);
+        i += 1;
+    }
+    found
+}
 
 // How many members of a leader's group the programme includes.
 fn included_members(s: &[u8], p: u16, marks: &[u16], l: u16) -> u32
@@ -34,5 +66,26 @@ pub fn in_whole_group_by(s: &[u8], p: u16, leaders: &[u16], marks: &[u16], o: u1
         included_members(s, p, marks, l) == members(s, l)
     } else {
         false
+    }
+}
+
+// Writes for each object that a leader lists one more than the leader's number. Most objects lead no group.
+fn mark_led(s: &[u8], q: u16, table: &mut [u16])
+    requires { ⌜ q < 65535 ⌝ }
+    ensures { λ r. ⌜ (length (now (table .exit)) ≡ length (now (table .entry))) × Standing (λ x. repeat (marked (Store (q + 1))) (timesBy (sheetOf (now (s .entry))) Complements q x) (getD (now (table .entry)) x 0)) (now (table .exit)) ⌝ }
+{
+    if leader(s, q) {
+        mark_items(s, Naming::Complements, q, Mark::Store(q + 1), table);
+    }
+}
+
+// Writes for each object one more than the number of its group's leader, into a table of noughts.
+pub fn find_leaders(s: &[u8], table: &mut [u16])
+    ensures { λ r. ⌜ (length (now (table .exit)) ≡ length (now (table .entry))) × Standing (λ x. firstBy (sheetOf (now (s .entry))) Complements x (getD (now (table .entry)) x 0)) (now (table .exit)) ⌝ }
+{
+    let mut q: u16 = count(s, OBJECTS);
+    while 0 < q {
+        mark_led(s, q - 1, table);
+        q -= 1;
     }
 }

@@ -1,4 +1,6 @@
 // What a programme gives its objects.
+use crate::Named;
+use crate::Range;
 use crate::included::in_whole_group_by;
 use relations::groups::leader_of;
 use relations::groups::wholly_included;
@@ -18,10 +20,9 @@ use sheet::layout::field;
 use sheet::layout::number;
 use sheet::layout::reference;
 use values::Sort;
-use values::values::is_absent;
 ghost use mathlib.Core.Path.{_≡_};
-ghost use Rattle.granted.specs.Granted.{grantedMaximum, grantedMinimum, grants, inWholeGroup, startValue, startsActive};
-ghost use Rattle.granted.specs.Steps.{setPlace};
+ghost use Rattle.granted.specs.Granted.{inWholeGroup, startValue, startsActive};
+ghost use Rattle.granted.specs.Steps.{grantedRange, namedFor, rangeBy, setPlace, startBy};
 ghost use Rattle.sheet.specs.Words.{sheetOf};
 ghost use Rattle.tables.specs.Right.{Included, Leaders};
 
@@ -48,46 +49,60 @@ fn set_place(s: &[u8], p: u16, o: u16) -> u16
     n
 }
 
-// "included objects take the effective gain and offset of the set that the programme names, or their own, or 0"
-pub fn start_value(s: &[u8], p: u16, o: u16, sort: Sort) -> u16
-    ensures { λ r. ⌜ r ≡ startValue (sheetOf (now (s .entry))) p o sort ⌝ }
+// The set that the programme names for the object.
+pub fn named_for(s: &[u8], p: u16, o: u16) -> Named
+    ensures { λ r. ⌜ r ≡ namedFor (sheetOf (now (s .entry))) p o ⌝ }
 {
     let i = set_place(s, p, o);
     if i < number(s, PROGRAMMES, p, SET_LIST) {
-        effective_value(s, o, named_set(s, p, i), sort)
+        Named {
+            any: true,
+            set: named_set(s, p, i),
+        }
+    } else {
+        Named { any: false, set: 0 }
+    }
+}
+
+// "included objects take the effective gain and offset of the set that the programme names, or their own, or 0"
+pub fn start_by(s: &[u8], o: u16, named: Named, sort: Sort) -> u16
+    ensures { λ r. ⌜ r ≡ startBy (sheetOf (now (s .entry))) o named sort ⌝ }
+{
+    if named.any {
+        effective_value(s, o, named.set, sort)
     } else {
         own_value(s, o, sort)
     }
 }
 
+pub fn start_value(s: &[u8], p: u16, o: u16, sort: Sort) -> u16
+    ensures { λ r. ⌜ r ≡ startValue (sheetOf (now (s .entry))) p o sort ⌝ }
+{
+    start_by(s, o, named_for(s, p, o), sort)
+}
+
 // "ranges come from the programme's set, else the object"
-pub fn granted_minimum(s: &[u8], p: u16, o: u16, sort: Sort) -> u16
-    ensures { λ r. ⌜ r ≡ grantedMinimum (sheetOf (now (s .entry))) p o sort ⌝ }
+pub fn range_by(s: &[u8], o: u16, named: Named, sort: Sort) -> Range
+    ensures { λ r. ⌜ r ≡ rangeBy (sheetOf (now (s .entry))) o named sort ⌝ }
 {
-    let i = set_place(s, p, o);
-    if i < number(s, PROGRAMMES, p, SET_LIST) {
-        effective_minimum(s, o, named_set(s, p, i), sort)
+    if named.any {
+        Range {
+            minimum: effective_minimum(s, o, named.set, sort),
+            maximum: effective_maximum(s, o, named.set, sort),
+        }
     } else {
-        field(s, OBJECTS, o, object_minimum(sort))
+        Range {
+            minimum: field(s, OBJECTS, o, object_minimum(sort)),
+            maximum: field(s, OBJECTS, o, object_maximum(sort)),
+        }
     }
 }
 
-pub fn granted_maximum(s: &[u8], p: u16, o: u16, sort: Sort) -> u16
-    ensures { λ r. ⌜ r ≡ grantedMaximum (sheetOf (now (s .entry))) p o sort ⌝ }
+// The range that the sheet grants the object.
+pub fn granted_range(s: &[u8], p: u16, o: u16, sort: Sort) -> Range
+    ensures { λ r. ⌜ r ≡ grantedRange (sheetOf (now (s .entry))) p o sort ⌝ }
 {
-    let i = set_place(s, p, o);
-    if i < number(s, PROGRAMMES, p, SET_LIST) {
-        effective_maximum(s, o, named_set(s, p, i), sort)
-    } else {
-        field(s, OBJECTS, o, object_maximum(sort))
-    }
-}
-
-// Whether the sheet grants the object a range of that sort.
-pub fn grants(s: &[u8], p: u16, o: u16, sort: Sort) -> bool
-    ensures { λ r. ⌜ r ≡ grants (sheetOf (now (s .entry))) p o sort ⌝ }
-{
-    !is_absent(granted_minimum(s, p, o, sort))
+    range_by(s, o, named_for(s, p, o), sort)
 }
 
 // Whether the object is in a group that the programme wholly includes.

@@ -8,8 +8,8 @@ use borrow.Author.Tests.{lt-ltb, ltb-true, ltb-false}
 use lib.Dec.{eqb, ltb}
 use lib.ListN.{length, getD, replicate, List·getD-eq-default}
 use Rattle.sheet.specs.Words.{Sheet}
-use Rattle.profile.specs.Counting.{howMany, every, tabulate}
-use Rattle.profile.specs.Relations.{member, members, leaderOf, includes}
+use Rattle.profile.specs.Counting.{every, tabulate}
+use Rattle.profile.specs.Relations.{member, members, leaderOf}
 use Rattle.profile.proofs.SumLaws.{howMany-eq}
 use Rattle.profile.proofs.ListLaws.{length-tabulate, getD-tabulate}
 use Rattle.tables.specs.declared.Naming.the-variants.{Complements}
@@ -19,9 +19,7 @@ use Rattle.tables.proofs.MarkLaws.{nought}
 use Rattle.tables.proofs.TableLaws.{flag}
 use Rattle.listener.specs.declared.Setting.{Setting}
 use Rattle.listener.specs.declared.State.{State}
-use Rattle.listener.specs.State.{stateObjects, blank, setting, active, isResting}
-use Rattle.granted.specs.Granted.{inWholeGroup}
-use Rattle.granted.specs.Fitting.{soundGain, soundOffset}
+use Rattle.listener.specs.State.{stateObjects, blank, setting, active}
 use Rattle.listener.specs.Sound.{activeMembers, soundActivity, soundAt}
 use Rattle.granted.specs.Steps.{flagged, flaggedMembers, flaggedActivity}
 use Rattle.listener.specs.Steps.{flaggedSound}
@@ -29,6 +27,17 @@ use Rattle.listener.specs.Steps.{flaggedSound}
 -- a pass over a table of noughts
 pub leaders-made : (s : Sheet) (n : ℕ) (t : List ℕ) → Standing (λ x. firstBy s Complements x (getD (replicate n 0) x 0)) t → Leaders s t
 leaders-made s n t h x l = h x l ∙ ap (firstBy s Complements x) (nought n x)
+
+pub and-assoc : (a b c : Bool) → ((a && b) && c) ≡ (a && (b && c))
+and-assoc false b c = refl
+and-assoc true b c = refl
+
+-- a test, and another that is known only behind it
+pub and-behind : (a b r : Bool) → (r ≡ true → a ≡ b) → (a && r) ≡ (r && b)
+and-behind true b true h = h refl
+and-behind false b true h = h refl
+and-behind true b false h = refl
+and-behind false b false h = refl
 
 pub every-eq : (p q : ℕ → Bool) (n : ℕ) → ((k : ℕ) → k < n → p k ≡ q k) → every p n ≡ every q n
 unfolding every

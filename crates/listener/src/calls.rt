@@ -6,28 +6,28 @@ use crate::Setting;
 use crate::State;
 use crate::programme::started;
 use crate::settings::resting;
-use crate::settings::setting;
 use crate::sounding::sound;
 use checker::search::check;
-use granted::fitting::gain_fits;
-use granted::fitting::offset_fits;
-use granted::programme::grants;
+use granted::fitting::gain_within;
+use granted::fitting::is_range;
+use granted::fitting::offset_within;
+use granted::included::find_leaders;
+use granted::included::includes_object;
+use granted::programme::granted_range;
 use granted::programme::in_whole_group;
 use profile::Verdict;
-use relations::programmes::includes;
 use sheet::fields::PROGRAMMES;
 use sheet::layout::count;
 use sheet::layout::level;
-use tables::Naming;
-use tables::marks::first_namers;
 use tables::reads::leader_by;
 use values::Gain;
 use values::Sort;
 ghost use mathlib.Core.Path.{_≡_};
-ghost use Rattle.listener.specs.Calls.{behind, chosenObject, chosenProgramme, gainSet, groupAnswer, moved, numberAnswer, offsetSet, opened, opens, rangeAnswer, replyBy, withGain, withOffset, withSetting};
+ghost use Rattle.listener.specs.Calls.{behind, chosenObject, chosenProgramme, gainSet, groupAnswer, moved, numberAnswer, offsetSet, opened, opens, rangeAnswer};
 ghost use Rattle.granted.specs.Fitting.{gainFits, offsetFits};
 ghost use Rattle.listener.specs.State.{restingState};
-ghost use Rattle.listener.specs.Steps.{movedFrom};
+ghost use Rattle.listener.specs.Steps.{isDone, movedFrom, rangeAnswerBy};
+ghost use Rattle.profile.specs.Relations.{includes};
 ghost use Rattle.sheet.specs.Words.{sheetOf};
 ghost use Rattle.tables.specs.Right.{Leaders};
 ghost use Rattle.values.specs.declared.Sort.the-variants.{Gains, Offsets};
@@ -40,22 +40,6 @@ pub fn opens(s: &[u8]) -> bool
     match verdict {
         Verdict::Accepted => level(s) != 0,
         Verdict::Broken(_, _) => false,
-    }
-}
-
-// A refused call hands back the state that it was given, one that is done another.
-fn reply_by(answer: Answer, given: State, made: State) -> Reply
-    ensures { λ r. ⌜ r ≡ replyBy answer given made ⌝ }
-{
-    match answer {
-        Answer::Done => Reply {
-            answer: Answer::Done,
-            state: made,
-        },
-        Answer::Refused(refusal) => Reply {
-            answer: Answer::Refused(refusal),
-            state: given,
-        },
     }
 }
 
@@ -117,7 +101,7 @@ fn number_answer(s: &[u8], p: u16) -> Answer
 fn group_answer(s: &[u8], p: u16, o: u16) -> Answer
     ensures { λ r. ⌜ r ≡ groupAnswer (sheetOf (now (s .entry))) p o ⌝ }
 {
-    if includes(s, p, o) {
+    if includes_object(s, p, o) {
         if in_whole_group(s, p, o) {
             Answer::Done
         } else {
@@ -129,11 +113,11 @@ fn group_answer(s: &[u8], p: u16, o: u16) -> Answer
 }
 
 // 28, 30 and 31.
-fn range_answer(s: &[u8], p: u16, o: u16, sort: Sort, fits: bool) -> Answer
-    ensures { λ r. ⌜ r ≡ rangeAnswer (sheetOf (now (s .entry))) p o sort fits ⌝ }
+fn range_answer(s: &[u8], p: u16, o: u16, granted: bool, fits: bool) -> Answer
+    ensures { λ r. ⌜ r ≡ rangeAnswerBy (includes (sheetOf (now (s .entry))) p o) granted fits ⌝ }
 {
-    if includes(s, p, o) {
-        if grants(s, p, o, sort) {
+    if includes_object(s, p, o) {
+        if granted {
             if fits {
                 Answer::Done
             } else {
@@ -147,6 +131,30 @@ fn range_answer(s: &[u8], p: u16, o: u16, sort: Sort, fits: bool) -> Answer
     }
 }
 
+fn gain_answer(s: &[u8], p: u16, o: u16, gain: Gain) -> Answer
+    ensures { λ r. ⌜ r ≡ rangeAnswer (sheetOf (now (s .entry))) p o Gains (gainFits (sheetOf (now (s .entry))) p o gain) ⌝ }
+{
+    let range = granted_range(s, p, o, Sort::Gains);
+    range_answer(s, p, o, is_range(range), gain_within(range, gain))
+}
+
+fn offset_answer(s: &[u8], p: u16, o: u16, offset: i16) -> Answer
+    ensures { λ r. ⌜ r ≡ rangeAnswer (sheetOf (now (s .entry))) p o Offsets (offsetFits (sheetOf (now (s .entry))) p o offset) ⌝ }
+{
+    let range = granted_range(s, p, o, Sort::Offsets);
+    range_answer(s, p, o, is_range(range), offset_within(range, offset))
+}
+
+// A call that is done gives a new state, a refused one that which it was given.
+fn is_done(answer: Answer) -> bool
+    ensures { λ r. ⌜ r ≡ isDone answer ⌝ }
+{
+    match answer {
+        Answer::Done => true,
+        Answer::Refused(_) => false,
+    }
+}
+
 // An object choice: 28 and 29 are asked only behind 25 and 26.
 fn object_answer(s: &[u8], state: State, o: u16) -> Answer
     ensures { λ r. ⌜ r ≡ behind (sheetOf (now (s .entry))) state (groupAnswer (sheetOf (now (s .entry))) (state .programme) o) ⌝ }
@@ -155,30 +163,6 @@ fn object_answer(s: &[u8], state: State, o: u16) -> Answer
     let first = behind(s, state, Answer::Done);
     match first {
         Answer::Done => group_answer(s, p, o),
-        Answer::Refused(refusal) => Answer::Refused(refusal),
-    }
-}
-
-// A gain call: 28, 30 and 31 are asked only behind 25 and 26.
-fn gain_answer(s: &[u8], state: State, o: u16, gain: Gain) -> Answer
-    ensures { λ r. ⌜ r ≡ behind (sheetOf (now (s .entry))) state (rangeAnswer (sheetOf (now (s .entry))) (state .programme) o Gains (gainFits (sheetOf (now (s .entry))) (state .programme) o gain)) ⌝ }
-{
-    let p = state.programme;
-    let first = behind(s, state, Answer::Done);
-    match first {
-        Answer::Done => range_answer(s, p, o, Sort::Gains, gain_fits(s, p, o, gain)),
-        Answer::Refused(refusal) => Answer::Refused(refusal),
-    }
-}
-
-// An offset call: the same.
-fn offset_answer(s: &[u8], state: State, o: u16, offset: i16) -> Answer
-    ensures { λ r. ⌜ r ≡ behind (sheetOf (now (s .entry))) state (rangeAnswer (sheetOf (now (s .entry))) (state .programme) o Offsets (offsetFits (sheetOf (now (s .entry))) (state .programme) o offset)) ⌝ }
-{
-    let p = state.programme;
-    let first = behind(s, state, Answer::Done);
-    match first {
-        Answer::Done => range_answer(s, p, o, Sort::Offsets, offset_fits(s, p, o, offset)),
         Answer::Refused(refusal) => Answer::Refused(refusal),
     }
 }
@@ -220,53 +204,8 @@ fn moved(s: &[u8], state: State, o: u16) -> State
     ensures { λ r. ⌜ r ≡ moved (sheetOf (now (s .entry))) state o ⌝ }
 {
     let mut leaders: [u16; 84] = [0; 84];
-    first_namers(s, Naming::Complements, &mut leaders);
+    find_leaders(s, &mut leaders);
     moved_by(s, state, &leaders, o)
-}
-
-// The state with another setting for an object.
-fn with_setting(state: State, o: u16, x: Setting) -> State
-    ensures { λ r. ⌜ r ≡ withSetting state o x ⌝ }
-{
-    let i = o as usize;
-    if i < 84 {
-        let mut next = state;
-        next.objects[i] = x;
-        next
-    } else {
-        state
-    }
-}
-
-fn with_gain(state: State, o: u16, gain: Gain) -> State
-    ensures { λ r. ⌜ r ≡ withGain state o gain ⌝ }
-{
-    let x = setting(state, o);
-    with_setting(
-        state,
-        o,
-        Setting {
-            active: x.active,
-            gain,
-            offset: x.offset,
-        },
-    )
-}
-
-fn with_offset(state: State, o: u16, offset: i16) -> State
-    ensures { λ r. ⌜ r ≡ withOffset state o offset ⌝ }
-{
-    let x = setting(state, o);
-    let gain = x.gain;
-    with_setting(
-        state,
-        o,
-        Setting {
-            active: x.active,
-            gain,
-            offset,
-        },
-    )
 }
 
 impl State {
@@ -280,7 +219,10 @@ impl State {
                 answer: Answer::Done,
                 state: started(s, p),
             },
-            Answer::Refused(refusal) => reply_by(Answer::Refused(refusal), self, self),
+            Answer::Refused(refusal) => Reply {
+                answer: Answer::Refused(refusal),
+                state: self,
+            },
         }
     }
 
@@ -294,23 +236,69 @@ impl State {
                 answer: Answer::Done,
                 state: moved(s, self, o),
             },
-            Answer::Refused(refusal) => reply_by(Answer::Refused(refusal), self, self),
+            Answer::Refused(refusal) => Reply {
+                answer: Answer::Refused(refusal),
+                state: self,
+            },
         }
     }
 
     // Stores a gain in an object, active or not.
-    pub fn set_gain(self, s: &[u8], o: u16, gain: Gain) -> Reply
+    pub fn set_gain(mut self, s: &[u8], o: u16, gain: Gain) -> Reply
         ensures { λ r. ⌜ r ≡ gainSet (sheetOf (now (s .entry))) self o gain ⌝ }
     {
-        let answer = gain_answer(s, self, o, gain);
-        reply_by(answer, self, with_gain(self, o, gain))
+        let p = self.programme;
+        let answer = if opens(s) {
+            if sound(s, self) {
+                gain_answer(s, p, o, gain)
+            } else {
+                Answer::Refused(Refusal::Unsound)
+            }
+        } else {
+            Answer::Refused(Refusal::NotAccepted)
+        };
+        let i = o as usize;
+        if is_done(answer) & (i < 84) {
+            let x = self.objects[i];
+            self.objects[i] = Setting {
+                active: x.active,
+                gain,
+                offset: x.offset,
+            };
+        }
+        Reply {
+            answer,
+            state: self,
+        }
     }
 
     // Stores an offset in an object, active or not.
-    pub fn set_offset(self, s: &[u8], o: u16, offset: i16) -> Reply
+    pub fn set_offset(mut self, s: &[u8], o: u16, offset: i16) -> Reply
         ensures { λ r. ⌜ r ≡ offsetSet (sheetOf (now (s .entry))) self o offset ⌝ }
     {
-        let answer = offset_answer(s, self, o, offset);
-        reply_by(answer, self, with_offset(self, o, offset))
+        let p = self.programme;
+        let answer = if opens(s) {
+            if sound(s, self) {
+                offset_answer(s, p, o, offset)
+            } else {
+                Answer::Refused(Refusal::Unsound)
+            }
+        } else {
+            Answer::Refused(Refusal::NotAccepted)
+        };
+        let i = o as usize;
+        if is_done(answer) & (i < 84) {
+            let x = self.objects[i];
+            let kept = x.gain;
+            self.objects[i] = Setting {
+                active: x.active,
+                gain: kept,
+                offset,
+            };
+        }
+        Reply {
+            answer,
+            state: self,
+        }
     }
 }

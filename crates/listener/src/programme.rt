@@ -2,18 +2,19 @@
 use crate::Setting;
 use crate::State;
 use crate::settings::resting;
-use crate::sounding::past_included;
+use crate::sounding::enter_included;
+use granted::included::find_leaders;
 use granted::programme::start_value;
 use granted::programme::starts_active;
-use tables::Naming;
-use tables::marks::first_namers;
-use tables::marks::mark_included;
 use tables::reads::included_by;
 use values::Sort;
 use values::gains::gain_of;
 use values::signed::signed;
+ghost use Prim.Native.Nat.{ℕ, _<_, _≤_};
+ghost use mathlib.Core.Bool.{false};
 ghost use mathlib.Core.Path.{_≡_};
 ghost use Rattle.listener.specs.Programme.{startSetting, started};
+ghost use Rattle.profile.specs.Relations.{includes};
 ghost use Rattle.sheet.specs.Words.{sheetOf};
 ghost use Rattle.tables.specs.Right.{Included, Leaders};
 
@@ -32,13 +33,13 @@ fn start_setting(s: &[u8], p: u16, leaders: &[u16], marks: &[u16], o: u16) -> Se
     }
 }
 
-// The settings of a programme as it starts; those of numbers that it doesn't include are at rest.
-fn start_settings(s: &[u8], p: u16, leaders: &[u16], marks: &[u16]) -> State
+// The settings of a programme as it starts. Those of numbers that it doesn't include, as all from n on, are at rest.
+fn start_settings(s: &[u8], p: u16, leaders: &[u16], marks: &[u16], n: u16) -> State
+    requires { ⌜ (n ≤ 84) × ((o : ℕ) → n ≤ o → o < 84 → includes (sheetOf (now s)) p o ≡ false) ⌝ }
     ensures { λ r. ⌜ (Leaders (sheetOf (now (s .entry))) (now (leaders .entry)) → Included (sheetOf (now (s .entry))) p (now (marks .entry)) → r ≡ started (sheetOf (now (s .entry))) p) ⌝ }
 {
     let x = resting();
     let mut objects = [x; 84];
-    let n = past_included(s, p);
     let mut o: u16 = 0;
     while o < n {
         objects[o as usize] = start_setting(s, p, leaders, marks, o);
@@ -55,8 +56,8 @@ pub fn started(s: &[u8], p: u16) -> State
     ensures { λ r. ⌜ r ≡ started (sheetOf (now (s .entry))) p ⌝ }
 {
     let mut leaders: [u16; 84] = [0; 84];
-    first_namers(s, Naming::Complements, &mut leaders);
+    find_leaders(s, &mut leaders);
     let mut marks: [u16; 84] = [0; 84];
-    mark_included(s, p, &mut marks);
-    start_settings(s, p, &leaders, &marks)
+    let n = enter_included(s, p, &mut marks);
+    start_settings(s, p, &leaders, &marks, n)
 }

@@ -3,8 +3,8 @@ use crate::Setting;
 use crate::State;
 use crate::settings::is_resting;
 use granted::activity::sound_activity;
-use granted::fitting::sound_gain;
-use granted::fitting::sound_offset;
+use granted::fitting::sound_values;
+use granted::included::find_leaders;
 use relations::entries::one;
 use sheet::fields::CONTENT_LIST;
 use sheet::fields::CONTENT_OBJECT;
@@ -14,22 +14,24 @@ use sheet::layout::count;
 use sheet::layout::entry;
 use sheet::layout::field;
 use sheet::layout::number;
-use tables::Naming;
-use tables::marks::first_namers;
-use tables::marks::mark_included;
+use tables::Mark;
+use tables::marks::mark_at;
 use tables::reads::included_by;
 ghost use Prim.Native.Nat.{ℕ, _<_, _≤_};
+ghost use lib.ListN.{length};
 ghost use mathlib.Core.Bool.{false};
 ghost use mathlib.Core.Path.{_≡_};
 ghost use Rattle.listener.specs.Sound.{sound};
 ghost use Rattle.listener.specs.Steps.{flaggedSound};
 ghost use Rattle.profile.specs.Relations.{includes};
 ghost use Rattle.sheet.specs.Words.{sheetOf};
+ghost use Rattle.tables.specs.Marks.{Standing};
 ghost use Rattle.tables.specs.Right.{Included, Leaders};
 
-// One more than the highest number, below 84, of an object that the programme includes; 0 where there is none.
-pub fn past_included(s: &[u8], p: u16) -> u16
-    ensures { λ r. ⌜ (r ≤ 84) × ((o : ℕ) → r ≤ o → o < 84 → includes (sheetOf (now (s .entry))) p o ≡ false) ⌝ }
+// Writes 1 for the objects that the programme includes, into a table of noughts. Gives one more than the highest number of one below 84,
+// 0 where there is none.
+pub fn enter_included(s: &[u8], p: u16, marks: &mut [u16]) -> u16
+    ensures { λ r. ⌜ (length (now (marks .exit)) ≡ length (now (marks .entry))) × (r ≤ 84) × ((o : ℕ) → r ≤ o → o < 84 → includes (sheetOf (now (s .entry))) p o ≡ false) × (Standing (λ x. 0) (now (marks .entry)) → Included (sheetOf (now (s .entry))) p (now (marks .exit))) ⌝ }
 {
     let n = number(s, PROGRAMMES, p, CONTENT_LIST);
     let mut past: u16 = 0;
@@ -37,6 +39,7 @@ pub fn past_included(s: &[u8], p: u16) -> u16
     while i < n {
         let c = entry(s, PROGRAMMES, p, CONTENT_LIST, i);
         let o = field(s, CONTENTS, c, CONTENT_OBJECT);
+        mark_at(marks, o as u32, Mark::Store(1));
         if (past <= o) & (o < 84) {
             past = o + 1;
         }
@@ -60,16 +63,14 @@ fn sound_at(
     if included_by(s, p, marks, o) {
         let gain = x.gain;
         let offset = x.offset;
-        sound_activity(s, p, leaders, marks, active, o)
-            & sound_gain(s, p, o, gain)
-            & sound_offset(s, p, o, offset)
+        sound_activity(s, p, leaders, marks, active, o) & sound_values(s, p, o, gain, offset)
     } else {
         is_resting(x)
     }
 }
 
 // Whether a state is sound for the sheet. What the programme doesn't include is at rest, so it has no part in a group. The loops stand
-// in one function, since a call that takes a state copies it.
+// in one function, since a call that takes a state copies it; the long one comes last, when that copy is long done.
 pub fn sound(s: &[u8], state: State) -> bool
     ensures { λ r. ⌜ r ≡ sound (sheetOf (now (s .entry))) state ⌝ }
 {
@@ -77,32 +78,28 @@ pub fn sound(s: &[u8], state: State) -> bool
     if count(s, PROGRAMMES) <= p {
         return false;
     }
-    let n = past_included(s, p);
-    let mut good = true;
-    let mut o: u16 = n;
-    while o < 84 {
-        let x = state.objects[o as usize];
-        good = good & is_resting(x);
-        o += 1;
-    }
-    if !good {
-        return false;
-    }
     let mut leaders: [u16; 84] = [0; 84];
-    first_namers(s, Naming::Complements, &mut leaders);
+    find_leaders(s, &mut leaders);
     let mut marks: [u16; 84] = [0; 84];
-    mark_included(s, p, &mut marks);
+    let n = enter_included(s, p, &mut marks);
     let mut active: [u16; 84] = [0; 84];
-    o = 0;
+    let mut o: u16 = 0;
     while o < n {
         let x = state.objects[o as usize];
         active[o as usize] = one(x.active);
         o += 1;
     }
+    let mut good = true;
     o = 0;
     while o < n {
         let x = state.objects[o as usize];
         good = good & sound_at(s, p, &leaders, &marks, &active, o, x);
+        o += 1;
+    }
+    o = n;
+    while o < 84 {
+        let x = state.objects[o as usize];
+        good = good & is_resting(x);
         o += 1;
     }
     good

@@ -1,9 +1,9 @@
 -- The machine's reply, with its refusals up to 29. Assumes nothing.
-use mathlib.Core.Path.{_≡_, refl, sym, ap, _∙_}
+use mathlib.Core.Path.{sym, _∙_}
 use Rattle.sheet.specs.Words.{sheetOf}
 use Rattle.listener.specs.declared.Refusal.{Refusal}
 use Rattle.listener.specs.declared.Answer.the-variants.{Done, Refused}
-use Rattle.listener.specs.Calls.{replyBy, behind}
+use Rattle.listener.specs.Calls.{replyBy}
 use Rattle.listener.proofs.BehindLaws.{object-reply}
 use borrow.Author.Needs.{needs}
 use Rattle.listener.proofs.State.choose_object.Statement.{statement}
@@ -21,16 +21,13 @@ moved-requires c κs = search needs
 enum-known-answer : tie.Need-enum-known-answer
 enum-known-answer c = search needs
 
-reply-by-requires : tie.Need-reply-by-requires
-reply-by-requires c κs = search needs
-
 returns : tie.Need-returns
 unfolding replyBy
 returns c = rw (c .moved .ensures) (sym (object-reply (sheetOf (c .before .before .before .before .before .args .s .now)) (c .before .before .before .before .before .args .self) (c .before .before .before .before .before .args .o) Done (sym (c .before .before .before .object-answer .ensures) ∙ c .before .enum-told .given .1)))
 
 returns-2 : tie.Need-returns-2
 unfolding replyBy
-returns-2 c = let r : Refusal = c .before .before .answer .given .0 .0 in c .reply-by .ensures ∙ sym (object-reply (sheetOf (c .before .before .before .before .before .before .args .s .now)) (c .before .before .before .before .before .before .args .self) (c .before .before .before .before .before .before .args .o) (Refused r) (sym (c .before .before .before .before .object-answer .ensures) ∙ c .before .before .answer .given .1))
+returns-2 c = let r : Refusal = c .before .answer .given .0 .0 in sym (object-reply (sheetOf (c .before .before .before .before .before .args .s .now)) (c .before .before .before .before .before .args .self) (c .before .before .before .before .before .args .o) (Refused r) (sym (c .before .before .before .object-answer .ensures) ∙ c .before .answer .given .1))
 
 pub choose-object-spec : {M : Type 1} → statement M
 choose-object-spec =
@@ -40,6 +37,5 @@ choose-object-spec =
     enum-told
     moved-requires
     enum-known-answer
-    reply-by-requires
     returns
     returns-2)

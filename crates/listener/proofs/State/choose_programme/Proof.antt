@@ -1,5 +1,5 @@
 -- The machine's reply, with its refusals up to 27. Assumes nothing.
-use mathlib.Core.Path.{_≡_, refl, sym, ap, _∙_}
+use mathlib.Core.Path.{sym, _∙_}
 use Rattle.sheet.specs.Words.{sheetOf}
 use Rattle.listener.specs.declared.Refusal.{Refusal}
 use Rattle.listener.specs.declared.Answer.the-variants.{Done, Refused}
@@ -24,16 +24,13 @@ started-requires c κs = search needs
 enum-known-answer : tie.Need-enum-known-answer
 enum-known-answer c = search needs
 
-reply-by-requires : tie.Need-reply-by-requires
-reply-by-requires c κs = search needs
-
 returns : tie.Need-returns
 unfolding replyBy
 returns c = rw (c .started .ensures) (sym (programme-reply (sheetOf (c .before .before .before .before .before .before .args .s .now)) (c .before .before .before .before .before .before .args .self) (c .before .before .before .before .before .before .args .p) Done (rw (← c .before .before .before .before .number-answer .ensures) (sym (c .before .before .before .behind .ensures) ∙ c .before .enum-told .given .1))))
 
 returns-2 : tie.Need-returns-2
 unfolding replyBy
-returns-2 c = let r : Refusal = c .before .before .answer .given .0 .0 in c .reply-by .ensures ∙ sym (programme-reply (sheetOf (c .before .before .before .before .before .before .before .args .s .now)) (c .before .before .before .before .before .before .before .args .self) (c .before .before .before .before .before .before .before .args .p) (Refused r) (rw (← c .before .before .before .before .before .number-answer .ensures) (sym (c .before .before .before .before .behind .ensures) ∙ c .before .before .answer .given .1)))
+returns-2 c = let r : Refusal = c .before .answer .given .0 .0 in sym (programme-reply (sheetOf (c .before .before .before .before .before .before .args .s .now)) (c .before .before .before .before .before .before .args .self) (c .before .before .before .before .before .before .args .p) (Refused r) (rw (← c .before .before .before .before .number-answer .ensures) (sym (c .before .before .before .behind .ensures) ∙ c .before .answer .given .1)))
 
 pub choose-programme-spec : {M : Type 1} → statement M
 choose-programme-spec =
@@ -44,6 +41,5 @@ choose-programme-spec =
     enum-told
     started-requires
     enum-known-answer
-    reply-by-requires
     returns
     returns-2)

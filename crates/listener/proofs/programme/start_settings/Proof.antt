@@ -12,19 +12,16 @@ use Rattle.listener.proofs.programme.start_settings.Statement.{statemen
 use Rattle.listener.proofs.programme.start_settings.Tie as tie
 
 abbrev Inv-loop : tie.InvT-loop
-Inv-loop s p leaders marks objects₀ n o₀ objects o = (o ≤ n) × (Leaders (sheetOf s) leaders → Included (sheetOf s) p marks → Begun 84 (startSetting (sheetOf s) p) blank resting objects o)
+Inv-loop s p leaders marks n objects₀ o₀ objects o = (o ≤ n) × (Leaders (sheetOf s) leaders → Included (sheetOf s) p marks → Begun 84 (startSetting (sheetOf s) p) blank resting objects o)
 
 abbrev μ-loop : tie.MeasureT-loop
-μ-loop s p leaders marks objects₀ n o₀ objects o = n - o
+μ-loop s p leaders marks n objects₀ o₀ objects o = n - o
 
 resting-requires : tie.Need-resting-requires Inv-loop μ-loop
 resting-requires c κs = search needs
 
-past-included-requires : tie.Need-past-included-requires Inv-loop μ-loop
-past-included-requires c κs = search needs
-
 loop-holds : tie.Need-loop-holds Inv-loop μ-loop
-loop-holds c = (search needs, λ led right. rw (c .before .resting .ensures) (begun-none 84 (startSetting (sheetOf (c .before .before .before .before .before .args .s .now)) (c .before .before .before .before .before .args .p)) blank resting))
+loop-holds c = (search needs, λ led right. rw (c .resting .ensures) (begun-none 84 (startSetting (sheetOf (c .before .before .before .before .args .s .now)) (c .before .before .before .before .args .p)) blank resting))
 
 start-setting-requires : tie.Need-start-setting-requires Inv-loop μ-loop
 start-setting-requires c κs = search needs
@@ -36,7 +33,7 @@ mul-objects : tie.Need-mul-objects Inv-loop μ-loop
 mul-objects c = search needs
 
 array-set-from-objects : tie.Need-array-set-from-objects Inv-loop μ-loop
-array-set-from-objects c = (omega (arith, c .before .loop-test .taken, c .before .before .before .past-included .ensures .0))
+array-set-from-objects c = (omega (arith, c .before .loop-test .taken, c .before .before .before .before .before .before .before .pre .0))
 
 add-o : tie.Need-add-o Inv-loop μ-loop
 add-o c = search needs
@@ -45,11 +42,11 @@ loop-less : tie.Need-loop-less Inv-loop μ-loop
 loop-less c = search needs
 
 loop-again : tie.Need-loop-again Inv-loop μ-loop
-loop-again c = (search needs, λ led right. begun-more _ _ _ _ _ _ _ (c .before .before .loop .inv .1 led right) (omega (arith, c .before .loop-test .taken, c .before .before .before .past-included .ensures .0)) (c .start-setting .ensures led right))
+loop-again c = (search needs, λ led right. begun-more _ _ _ _ _ _ _ (c .before .before .loop .inv .1 led right) (omega (arith, c .before .loop-test .taken, c .before .before .before .before .before .before .before .pre .0)) (c .start-setting .ensures led right))
 
 returns : tie.Need-returns Inv-loop μ-loop
 unfolding started
-returns c = λ led right. rw (begun-all _ _ _ _ _ _ (c .before .loop .inv .1 led right) (λ k a b. rest-start (sheetOf (c .before .before .before .before .before .before .before .args .s .now)) (c .before .before .before .before .before .before .before .args .p) k (c .before .before .past-included .ensures .1 k (omega (arith, c .loop-test .left, c .before .loop .inv .0, a)) b)))
+returns c = λ led right. rw (begun-all _ _ _ _ _ _ (c .before .loop .inv .1 led right) (λ k a b. rest-start (sheetOf (c .before .before .before .before .before .before .args .s .now)) (c .before .before .before .before .before .before .args .p) k (c .before .before .before .before .before .before .pre .1 k (omega (arith, c .loop-test .left, c .before .loop .inv .0, a)) b)))
 
 pub start-settings-spec : {M : Type 1} → statement M
 start-settings-spec =
@@ -58,7 +55,6 @@ start-settings-spec =
     Inv-loop
     μ-loop
     resting-requires
-    past-included-requires
     loop-holds
     start-setting-requires
     cast-objects

@@ -1,45 +1,46 @@
--- The rest by itself, then the flags, then each object by the tables. Assumes nothing.
+-- The flags, then each object by the tables, then the rest by itself. Assumes nothing.
 use Prim.Native.Nat.{ℕ, _-_, _≤_}
-use mathlib.Core.Path.{_≡_, refl, sym, ap, _∙_}
-use mathlib.Core.Bool.{Bool, true, cond, _&&_, _||_}
+use mathlib.Core.Path.{_≡_, refl, sym, ap, ap₂, _∙_}
+use mathlib.Core.Bool.{Bool, cond, _&&_, _||_}
 use mathlib.Core.List.{List}
 use native.Mathlib.Omega.{arith}
 use native.Mathlib.Numerals.{add-one}
 use borrow.Author.Needs.{needs}
-use borrow.Author.Tests.{le-ltb, lt-ltb, not-true, not-false}
+use borrow.Author.Tests.{le-ltb, lt-ltb}
 use lib.Dec.{ltb}
 use Rattle.sheet.specs.Words.{sheetOf}
 use Rattle.sheet.specs.Layout.{count}
 use Rattle.sheet.specs.Fields.{programmes}
 use Rattle.profile.specs.Counting.{every, tabulate}
 use Rattle.profile.proofs.ListLaws.{every-all}
+use Rattle.tables.proofs.MarkLaws.{nought}
 use Rattle.listener.specs.declared.Setting.{Setting}
 use Rattle.listener.specs.State.{stateObjects, setting, active as isActive, isResting}
 use Rattle.listener.specs.Sound.{sound, soundAt}
 use Rattle.listener.specs.Steps.{flaggedSound, restingFrom}
 use Rattle.listener.proofs.FillLaws.{Begun, begun-none, begun-more, begun-all}
-use Rattle.listener.proofs.StepLaws.{leaders-made, element-setting, all-flags}
+use Rattle.listener.proofs.StepLaws.{and-assoc, and-behind, leaders-made, element-setting, all-flags}
 use Rattle.listener.proofs.RestLaws.{sound-parts, rest-inactive}
 use Rattle.listener.proofs.sounding.sound.Statement.{statement}
 use Rattle.listener.proofs.sounding.sound.Tie as tie
 
 abbrev Inv-loop : tie.InvT-loop
-Inv-loop s state p n good₀ o₀ good o = (o ≤ 84) × (n ≤ o) × (good ≡ every (λ q. ltb q n || isResting (setting state q)) o)
+Inv-loop s state p leaders marks n active₀ o₀ active o = (o ≤ n) × Begun 84 (λ q. cond (isActive state q) 1 0) 0 0 active o
 
 abbrev μ-loop : tie.MeasureT-loop
-μ-loop s state p n good₀ o₀ good o = 84 - o
+μ-loop s state p leaders marks n active₀ o₀ active o = n - o
 
 abbrev Inv-loop2 : tie.InvT-loop2
-Inv-loop2 s state p n good o₀ leaders marks active₀ o active = (o ≤ n) × Begun 84 (λ q. cond (isActive state q) 1 0) 0 0 active o
+Inv-loop2 s state p leaders marks n active o₀ good₀ o good = (o ≤ n) × (good ≡ every (λ q. flaggedSound (sheetOf s) (state .programme) active q (setting state q)) o)
 
 abbrev μ-loop2 : tie.MeasureT-loop2
-μ-loop2 s state p n good o₀ leaders marks active₀ o active = n - o
+μ-loop2 s state p leaders marks n active o₀ good₀ o good = n - o
 
 abbrev Inv-loop3 : tie.InvT-loop3
-Inv-loop3 s state p n good₀ o₀ leaders marks active good o = (o ≤ n) × (good ≡ every (λ q. flaggedSound (sheetOf s) (state .programme) active q (setting state q)) o)
+Inv-loop3 s state p n o₀ good₀ o good = (o ≤ 84) × (n ≤ o) × (good ≡ (good₀ && every (λ q. ltb q n || isResting (setting state q)) o))
 
 abbrev μ-loop3 : tie.MeasureT-loop3
-μ-loop3 s state p n good₀ o₀ leaders marks active good o = n - o
+μ-loop3 s state p n o₀ good₀ o good = 84 - o
 
 count-requires : tie.Need-count-requires Inv-loop μ-loop Inv-loop2 μ-loop2 Inv-loop3 μ-loop3
 count-requires c κs = search needs
@@ -48,12 +49,20 @@ returns : tie.Need-returns Inv-loop μ-loop Inv-loop2 μ-loop2 Inv-loop3 μ-loop
 unfolding sound
 returns c = rw (le-ltb (c .before .before .before .args .t2 .programme) (count (sheetOf (c .before .before .before .args .s .now)) programmes) (rw (← c .before .count .ensures) (c .if1 .taken))) refl
 
-past-included-requires :
-    tie.Need-past-included-requires Inv-loop μ-loop Inv-loop2 μ-loop2 Inv-loop3 μ-loop3
-past-included-requires c κs = search needs
+slice-aggregate-find-leaders : tie.Need-slice-aggregate-find-leaders Inv-loop μ-loop Inv-loop2 μ-loop2 Inv-loop3 μ-loop3
+slice-aggregate-find-leaders c = search needs
+
+find-leaders-requires : tie.Need-find-leaders-requires Inv-loop μ-loop Inv-loop2 μ-loop2 Inv-loop3 μ-loop3
+find-leaders-requires c κs = search needs
+
+slice-aggregate-enter-included : tie.Need-slice-aggregate-enter-included Inv-loop μ-loop Inv-loop2 μ-loop2 Inv-loop3 μ-loop3
+slice-aggregate-enter-included c = search needs
+
+enter-included-requires : tie.Need-enter-included-requires Inv-loop μ-loop Inv-loop2 μ-loop2 Inv-loop3 μ-loop3
+enter-included-requires c κs = search needs
 
 loop-holds : tie.Need-loop-holds Inv-loop μ-loop Inv-loop2 μ-loop2 Inv-loop3 μ-loop3
-loop-holds c = (c .past-included .ensures .0, search needs, sym (every-all (λ q. ltb q (c .past-included .result) || isResting (setting (c .before .before .before .before .args .t2) q)) (c .past-included .result) (λ k l. ap (λ (b : Bool). b || isResting (setting (c .before .before .before .before .args .t2) k)) (lt-ltb k (c .past-included .result) l))))
+loop-holds c = (search needs, begun-none 84 _ 0 0)
 
 cast-x : tie.Need-cast-x Inv-loop μ-loop Inv-loop2 μ-loop2 Inv-loop3 μ-loop3
 cast-x c = search needs
@@ -61,56 +70,8 @@ cast-x c = search needs
 mul-x : tie.Need-mul-x Inv-loop μ-loop Inv-loop2 μ-loop2 Inv-loop3 μ-loop3
 mul-x c = search needs
 
-element-copy-out-x :
-    tie.Need-element-copy-out-x Inv-loop μ-loop Inv-loop2 μ-loop2 Inv-loop3 μ-loop3
-element-copy-out-x c = search needs
-
-is-resting-requires :
-    tie.Need-is-resting-requires Inv-loop μ-loop Inv-loop2 μ-loop2 Inv-loop3 μ-loop3
-is-resting-requires c κs = search needs
-
-add-o : tie.Need-add-o Inv-loop μ-loop Inv-loop2 μ-loop2 Inv-loop3 μ-loop3
-add-o c = search needs
-
-loop-less : tie.Need-loop-less Inv-loop μ-loop Inv-loop2 μ-loop2 Inv-loop3 μ-loop3
-loop-less c = search needs
-
-loop-again : tie.Need-loop-again Inv-loop μ-loop Inv-loop2 μ-loop2 Inv-loop3 μ-loop3
-unfolding every
-loop-again c = (search needs, search needs, rw (add-one, c .before .before .before .loop .inv .2, c .is-resting .ensures, element-setting (c .before .before .before .before .before .before .before .before .args .t2) (c .before .before .before .loop .o) (c .before .before .loop-test .taken), le-ltb (c .before .before .before .loop .o) (c .before .before .before .before .past-included .result) (c .before .before .before .loop .inv .1)))
-
-returns-2 : tie.Need-returns-2 Inv-loop μ-loop Inv-loop2 μ-loop2 Inv-loop3 μ-loop3
-unfolding restingFrom
-returns-2 c = let e : c .before .before .loop .o ≡ 84 = omega (arith, c .before .loop-test .left, c .before .before .loop .inv .0) in let r : c .before .before .loop .good ≡ restingFrom (c .before .before .before .before .before .before .before .args .t2) (c .before .before .before .past-included .result) = c .before .before .loop .inv .2 ∙ ap (every (λ q. ltb q (c .before .before .before .past-included .result) || isResting (setting (c .before .before .before .before .before .before .before .args .t2) q))) e in sym (sound-parts (sheetOf (c .before .before .before .before .before .before .before .args .s .now)) (c .before .before .before .before .before .before .before .args .t2) (c .before .before .before .past-included .result) (c .before .before .before .past-included .ensures .0) (c .before .before .before .past-included .ensures .1) (rw (← c .before .before .before .before .before .count .ensures) (c .before .before .before .before .if1 .left)) ∙ ap (λ (b : Bool). b && every (soundAt (sheetOf (c .before .before .before .before .before .before .before .args .s .now)) (c .before .before .before .before .before .before .before .args .t2)) (c .before .before .before .past-included .result)) (sym r ∙ not-true (c .before .before .loop .good) (c .if2 .taken)))
-
-slice-aggregate-first-namers :
-    tie.Need-slice-aggregate-first-namers Inv-loop μ-loop Inv-loop2 μ-loop2 Inv-loop3 μ-loop3
-slice-aggregate-first-namers c = search needs
-
-first-namers-requires :
-    tie.Need-first-namers-requires Inv-loop μ-loop Inv-loop2 μ-loop2 Inv-loop3 μ-loop3
-first-namers-requires c κs = search needs
-
-slice-aggregate-mark-included :
-    tie.Need-slice-aggregate-mark-included Inv-loop μ-loop Inv-loop2 μ-loop2 Inv-loop3 μ-loop3
-slice-aggregate-mark-included c = search needs
-
-mark-included-requires :
-    tie.Need-mark-included-requires Inv-loop μ-loop Inv-loop2 μ-loop2 Inv-loop3 μ-loop3
-mark-included-requires c κs = search needs
-
-loop2-holds : tie.Need-loop2-holds Inv-loop μ-loop Inv-loop2 μ-loop2 Inv-loop3 μ-loop3
-loop2-holds c = (search needs, begun-none 84 _ 0 0)
-
-cast-x-2 : tie.Need-cast-x-2 Inv-loop μ-loop Inv-loop2 μ-loop2 Inv-loop3 μ-loop3
-cast-x-2 c = search needs
-
-mul-x-2 : tie.Need-mul-x-2 Inv-loop μ-loop Inv-loop2 μ-loop2 Inv-loop3 μ-loop3
-mul-x-2 c = search needs
-
-element-copy-out-x-2 :
-    tie.Need-element-copy-out-x-2 Inv-loop μ-loop Inv-loop2 μ-loop2 Inv-loop3 μ-loop3
-element-copy-out-x-2 c = omega (arith, c .loop2-test .taken, c .before .before .before .before .before .before .before .before .before .before .before .past-included .ensures .0)
+element-copy-out-x : tie.Need-element-copy-out-x Inv-loop μ-loop Inv-loop2 μ-loop2 Inv-loop3 μ-loop3
+element-copy-out-x c = omega (arith, c .loop-test .taken, c .before .before .before .enter-included .ensures .1)
 
 one-requires : tie.Need-one-requires Inv-loop μ-loop Inv-loop2 μ-loop2 Inv-loop3 μ-loop3
 one-requires c κs = search needs
@@ -121,9 +82,43 @@ cast-active c = search needs
 mul-active : tie.Need-mul-active Inv-loop μ-loop Inv-loop2 μ-loop2 Inv-loop3 μ-loop3
 mul-active c = search needs
 
-array-write-active :
-    tie.Need-array-write-active Inv-loop μ-loop Inv-loop2 μ-loop2 Inv-loop3 μ-loop3
-array-write-active c = omega (arith, c .before .before .loop2-test .taken, c .before .before .before .before .before .before .before .before .before .before .before .before .before .past-included .ensures .0)
+array-write-active : tie.Need-array-write-active Inv-loop μ-loop Inv-loop2 μ-loop2 Inv-loop3 μ-loop3
+array-write-active c = omega (arith, c .before .before .loop-test .taken, c .before .before .before .before .before .enter-included .ensures .1)
+
+add-o : tie.Need-add-o Inv-loop μ-loop Inv-loop2 μ-loop2 Inv-loop3 μ-loop3
+add-o c = search needs
+
+loop-less : tie.Need-loop-less Inv-loop μ-loop Inv-loop2 μ-loop2 Inv-loop3 μ-loop3
+loop-less c = search needs
+
+loop-again : tie.Need-loop-again Inv-loop μ-loop Inv-loop2 μ-loop2 Inv-loop3 μ-loop3
+unfolding isActive
+loop-again c = (search needs, begun-more _ _ _ _ _ _ _ (c .before .before .before .loop .inv .1) (omega (arith, c .before .before .loop-test .taken, c .before .before .before .before .before .enter-included .ensures .1)) (c .one .ensures .0 ∙ ap (λ (x : Setting). cond (x .active) 1 0) (element-setting (c .before .before .before .before .before .before .before .before .before .before .before .before .before .args .t2) (c .before .before .before .loop .o) (omega (arith, c .before .before .loop-test .taken, c .before .before .before .before .before .enter-included .ensures .1)))))
+
+loop2-holds : tie.Need-loop2-holds Inv-loop μ-loop Inv-loop2 μ-loop2 Inv-loop3 μ-loop3
+unfolding every
+loop2-holds c = (search needs, refl)
+
+cast-x-2 : tie.Need-cast-x-2 Inv-loop μ-loop Inv-loop2 μ-loop2 Inv-loop3 μ-loop3
+cast-x-2 c = search needs
+
+mul-x-2 : tie.Need-mul-x-2 Inv-loop μ-loop Inv-loop2 μ-loop2 Inv-loop3 μ-loop3
+mul-x-2 c = search needs
+
+element-copy-out-x-2 : tie.Need-element-copy-out-x-2 Inv-loop μ-loop Inv-loop2 μ-loop2 Inv-loop3 μ-loop3
+element-copy-out-x-2 c = omega (arith, c .loop2-test .taken, c .before .before .before .before .before .enter-included .ensures .1)
+
+slice-aggregate-sound-at : tie.Need-slice-aggregate-sound-at Inv-loop μ-loop Inv-loop2 μ-loop2 Inv-loop3 μ-loop3
+slice-aggregate-sound-at c = search needs
+
+slice-aggregate-sound-at-2 : tie.Need-slice-aggregate-sound-at-2 Inv-loop μ-loop Inv-loop2 μ-loop2 Inv-loop3 μ-loop3
+slice-aggregate-sound-at-2 c = search needs
+
+slice-aggregate-sound-at-3 : tie.Need-slice-aggregate-sound-at-3 Inv-loop μ-loop Inv-loop2 μ-loop2 Inv-loop3 μ-loop3
+slice-aggregate-sound-at-3 c = search needs
+
+sound-at-requires : tie.Need-sound-at-requires Inv-loop μ-loop Inv-loop2 μ-loop2 Inv-loop3 μ-loop3
+sound-at-requires c κs = search needs
 
 add-o-2 : tie.Need-add-o-2 Inv-loop μ-loop Inv-loop2 μ-loop2 Inv-loop3 μ-loop3
 add-o-2 c = search needs
@@ -132,12 +127,11 @@ loop2-less : tie.Need-loop2-less Inv-loop μ-loop Inv-loop2 μ-loop2 Inv-loop3 �
 loop2-less c = search needs
 
 loop2-again : tie.Need-loop2-again Inv-loop μ-loop Inv-loop2 μ-loop2 Inv-loop3 μ-loop3
-unfolding isActive
-loop2-again c = (search needs, begun-more _ _ _ _ _ _ _ (c .before .before .before .loop2 .inv .1) (omega (arith, c .before .before .loop2-test .taken, c .before .before .before .before .before .before .before .before .before .before .before .before .before .past-included .ensures .0)) (c .one .ensures .0 ∙ ap (λ (x : Setting). cond (x .active) 1 0) (element-setting (c .before .before .before .before .before .before .before .before .before .before .before .before .before .before .before .before .before .args .t2) (c .before .before .before .loop2 .o) (omega (arith, c .before .before .loop2-test .taken, c .before .before .before .before .before .before .before .before .before .before .before .before .before .past-included .ensures .0)))))
+unfolding every
+loop2-again c = (search needs, rw (add-one, c .before .before .before .before .before .before .loop2 .inv .1, c .sound-at .ensures (leaders-made (sheetOf (c .before .before .before .before .before .before .before .before .before .before .before .before .before .before .before .before .before .before .args .s .now)) 84 (c .before .before .before .before .before .before .before .before .before .before .before .before .before .find-leaders .last .1 .0) (c .before .before .before .before .before .before .before .before .before .before .before .before .before .find-leaders .ensures .1)) (c .before .before .before .before .before .before .before .before .before .before .enter-included .ensures .3 (λ x l. nought 84 x)), element-setting (c .before .before .before .before .before .before .before .before .before .before .before .before .before .before .before .before .before .before .args .t2) (c .before .before .before .before .before .before .loop2 .o) (omega (arith, c .before .before .before .before .before .loop2-test .taken, c .before .before .before .before .before .before .before .before .before .before .enter-included .ensures .1))))
 
 loop3-holds : tie.Need-loop3-holds Inv-loop μ-loop Inv-loop2 μ-loop2 Inv-loop3 μ-loop3
-unfolding every
-loop3-holds c = (search needs, not-false (c .before .before .before .before .before .before .before .before .before .before .loop .good) (c .before .before .before .before .before .before .before .before .if2 .left))
+loop3-holds c = (c .before .before .before .before .before .enter-included .ensures .1, search needs, sym (and-behind (c .before .loop2 .good) (c .before .loop2 .good) (every (λ q. ltb q (c .before .before .before .before .before .enter-included .result) || isResting (setting (c .before .before .before .before .before .before .before .before .before .before .before .before .before .args .t2) q)) (c .before .before .before .before .before .enter-included .result)) (λ q. refl) ∙ ap (λ (b : Bool). b && c .before .loop2 .good) (every-all (λ q. ltb q (c .before .before .before .before .before .enter-included .result) || isResting (setting (c .before .before .before .before .before .before .before .before .before .before .before .before .before .args .t2) q)) (c .before .before .before .before .before .enter-included .result) (λ k l. ap (λ (b : Bool). b || isResting (setting (c .before .before .before .before .before .before .before .before .before .before .before .before .before .args .t2) k)) (lt-ltb k (c .before .before .before .before .before .enter-included .result) l)))))
 
 cast-x-3 : tie.Need-cast-x-3 Inv-loop μ-loop Inv-loop2 μ-loop2 Inv-loop3 μ-loop3
 cast-x-3 c = search needs
@@ -145,24 +139,11 @@ cast-x-3 c = search needs
 mul-x-3 : tie.Need-mul-x-3 Inv-loop μ-loop Inv-loop2 μ-loop2 Inv-loop3 μ-loop3
 mul-x-3 c = search needs
 
-element-copy-out-x-3 :
-    tie.Need-element-copy-out-x-3 Inv-loop μ-loop Inv-loop2 μ-loop2 Inv-loop3 μ-loop3
-element-copy-out-x-3 c = omega (arith, c .loop3-test .taken, c .before .before .before .before .before .before .before .before .before .before .before .before .before .past-included .ensures .0)
+element-copy-out-x-3 : tie.Need-element-copy-out-x-3 Inv-loop μ-loop Inv-loop2 μ-loop2 Inv-loop3 μ-loop3
+element-copy-out-x-3 c = search needs
 
-slice-aggregate-sound-at :
-    tie.Need-slice-aggregate-sound-at Inv-loop μ-loop Inv-loop2 μ-loop2 Inv-loop3 μ-loop3
-slice-aggregate-sound-at c = search needs
-
-slice-aggregate-sound-at-2 :
-    tie.Need-slice-aggregate-sound-at-2 Inv-loop μ-loop Inv-loop2 μ-loop2 Inv-loop3 μ-loop3
-slice-aggregate-sound-at-2 c = search needs
-
-slice-aggregate-sound-at-3 :
-    tie.Need-slice-aggregate-sound-at-3 Inv-loop μ-loop Inv-loop2 μ-loop2 Inv-loop3 μ-loop3
-slice-aggregate-sound-at-3 c = search needs
-
-sound-at-requires : tie.Need-sound-at-requires Inv-loop μ-loop Inv-loop2 μ-loop2 Inv-loop3 μ-loop3
-sound-at-requires c κs = search needs
+is-resting-requires : tie.Need-is-resting-requires Inv-loop μ-loop Inv-loop2 μ-loop2 Inv-loop3 μ-loop3
+is-resting-requires c κs = search needs
 
 add-o-3 : tie.Need-add-o-3 Inv-loop μ-loop Inv-loop2 μ-loop2 Inv-loop3 μ-loop3
 add-o-3 c = search needs
@@ -172,11 +153,21 @@ loop3-less c = search needs
 
 loop3-again : tie.Need-loop3-again Inv-loop μ-loop Inv-loop2 μ-loop2 Inv-loop3 μ-loop3
 unfolding every
-loop3-again c = (search needs, rw (add-one, c .before .before .before .before .before .before .loop3 .inv .1, c .sound-at .ensures (leaders-made (sheetOf (c .before .before .before .before .before .before .before .before .before .before .before .before .before .before .before .before .before .before .before .before .before .before .args .s .now)) 84 (c .before .before .before .before .before .before .before .before .before .before .before .before .before .first-namers .last .1 .1 .0) (c .before .before .before .before .before .before .before .before .before .before .before .before .before .first-namers .ensures .1)) (c .before .before .before .before .before .before .before .before .before .before .mark-included .ensures .1), element-setting (c .before .before .before .before .before .before .before .before .before .before .before .before .before .before .before .before .before .before .before .before .before .before .args .t2) (c .before .before .before .before .before .before .loop3 .o) (omega (arith, c .before .before .before .before .before .loop3-test .taken, c .before .before .before .before .before .before .before .before .before .before .before .before .before .before .before .before .before .before .past-included .ensures .0))))
+loop3-again c = (search needs, search needs, rw (add-one, c .before .before .before .loop3 .inv .2, c .is-resting .ensures, element-setting (c .before .before .before .before .before .before .before .before .before .before .before .before .before .before .before .before .before .args .t2) (c .before .before .before .loop3 .o) (c .before .before .loop3-test .taken), le-ltb (c .before .before .before .loop3 .o) (c .before .before .before .before .before .before .before .before .before .enter-included .result) (c .before .before .before .loop3 .inv .1)) (and-assoc (c .before .before .before .before .before .loop2 .good) (every (λ q. ltb q (c .before .before .before .before .before .before .before .before .before .enter-included .result) || isResting (setting (c .before .before .before .before .before .before .before .before .before .before .before .before .before .before .before .before .before .args .t2) q)) (c .before .before .before .loop3 .o)) (isResting (setting (c .before .before .before .before .before .before .before .before .before .before .before .before .before .before .before .before .before .args .t2) (c .before .before .before .loop3 .o)))))
 
-returns-3 : tie.Need-returns-3 Inv-loop μ-loop Inv-loop2 μ-loop2 Inv-loop3 μ-loop3
+returns-2 : tie.Need-returns-2 Inv-loop μ-loop Inv-loop2 μ-loop2 Inv-loop3 μ-loop3
 unfolding restingFrom
-returns-3 c = let e : c .before .before .before .before .before .before .before .before .before .before .before .before .loop .o ≡ 84 = omega (arith, c .before .before .before .before .before .before .before .before .before .before .before .loop-test .left, c .before .before .before .before .before .before .before .before .before .before .before .before .loop .inv .0) in let r : c .before .before .before .before .before .before .before .before .before .before .before .before .loop .good ≡ restingFrom (c .before .before .before .before .before .before .before .before .before .before .before .before .before .before .before .before .before .args .t2) (c .before .before .before .before .before .before .before .before .before .before .before .before .before .past-included .result) = c .before .before .before .before .before .before .before .before .before .before .before .before .loop .inv .2 ∙ ap (every (λ q. ltb q (c .before .before .before .before .before .before .before .before .before .before .before .before .before .past-included .result) || isResting (setting (c .before .before .before .before .before .before .before .before .before .before .before .before .before .before .before .before .before .args .t2) q))) e in let still : restingFrom (c .before .before .before .before .before .before .before .before .before .before .before .before .before .before .before .before .before .args .t2) (c .before .before .before .before .before .before .before .before .before .before .before .before .before .past-included .result) ≡ true = sym r ∙ not-false (c .before .before .before .before .before .before .before .before .before .before .before .before .loop .good) (c .before .before .before .before .before .before .before .before .before .before .if2 .left) in let f : c .before .before .before .loop2 .active ≡ tabulate (λ o. cond (isActive (c .before .before .before .before .before .before .before .before .before .before .before .before .before .before .before .before .before .args .t2) o) 1 0) stateObjects = begun-all _ _ _ _ _ _ (c .before .before .before .loop2 .inv .1) (λ k a b. sym (ap (λ (t : Bool). cond t 1 0) (rest-inactive (c .before .before .before .before .before .before .before .before .before .before .before .before .before .before .before .before .before .args .t2) (c .before .before .before .before .before .before .before .before .before .before .before .before .before .past-included .result) k still (omega (arith, c .before .before .loop2-test .left, c .before .before .before .loop2 .inv .0, a)) b))) in let g : c .before .loop3 .o ≡ (c .before .before .before .before .before .before .before .before .before .before .before .before .before .past-included .result) = omega (arith, c .loop3-test .left, c .before .loop3 .inv .0) in c .before .loop3 .inv .1 ∙ ap (every (λ q. flaggedSound (sheetOf (c .before .before .before .before .before .before .before .before .before .before .before .before .before .before .before .before .before .args .s .now)) (c .before .before .before .before .before .before .before .before .before .before .before .before .before .before .before .before .before .args .t2 .programme) (c .before .before .before .loop2 .active) q (setting (c .before .before .before .before .before .before .before .before .before .before .before .before .before .before .before .before .before .args .t2) q))) g ∙ ap (λ (t : List ℕ). every (λ o. flaggedSound (sheetOf (c .before .before .before .before .before .before .before .before .before .before .before .before .before .before .before .before .before .args .s .now)) (c .before .before .before .before .before .before .before .before .before .before .before .before .before .before .before .before .before .args .t2 .programme) t o (setting (c .before .before .before .before .before .before .before .before .before .before .before .before .before .before .before .before .before .args .t2) o)) (c .before .before .before .before .before .before .before .before .before .before .before .before .before .past-included .result)) f ∙ all-flags (sheetOf (c .before .before .before .before .before .before .before .before .before .before .before .before .before .before .before .before .before .args .s .now)) (c .before .before .before .before .before .before .before .before .before .before .before .before .before .before .before .before .before .args .t2) (c .before .before .before .before .before .before .before .before .before .before .before .before .before .past-included .result) ∙ sym (sound-parts (sheetOf (c .before .before .before .before .before .before .before .before .before .before .before .before .before .before .before .before .before .args .s .now)) (c .before .before .before .before .before .before .before .before .before .before .before .before .before .before .before .before .before .args .t2) (c .before .before .before .before .before .before .before .before .before .before .before .before .before .past-included .result) (c .before .before .before .before .before .before .before .before .before .before .before .before .before .past-included .ensures .0) (c .before .before .before .before .before .before .before .before .before .before .before .before .before .past-included .ensures .1) (rw (← c .before .before .before .before .before .before .before .before .before .before .before .before .before .before .before .count .ensures) (c .before .before .before .before .before .before .before .before .before .before .before .before .before .before .if1 .left)) ∙ ap (λ (b : Bool). b && every (soundAt (sheetOf (c .before .before .before .before .before .before .before .before .before .before .before .before .before .before .before .before .before .args .s .now)) (c .before .before .before .before .before .before .before .before .before .before .before .before .before .before .before .before .before .args .t2)) (c .before .before .before .before .before .before .before .before .before .before .before .before .before .past-included .result)) still)
+returns-2 c =
+    let e : c .before .loop3 .o ≡ 84 = omega (arith, c .loop3-test .left, c .before .loop3 .inv .0) in
+    let g : c .before .before .before .loop2 .o ≡ (c .before .before .before .before .before .before .before .enter-included .result) = omega (arith, c .before .before .loop2-test .left, c .before .before .before .loop2 .inv .0) in
+    let good = every (λ q. flaggedSound (sheetOf (c .before .before .before .before .before .before .before .before .before .before .before .before .before .before .before .args .s .now)) ((c .before .before .before .before .before .before .before .before .before .before .before .before .before .before .before .args .t2) .programme) (c .before .before .before .before .before .loop .active) q (setting (c .before .before .before .before .before .before .before .before .before .before .before .before .before .before .before .args .t2) q)) in
+    c .before .loop3 .inv .2
+    ∙ ap₂ (λ (a b : Bool). a && b) (c .before .before .before .loop2 .inv .1 ∙ ap good g) (ap (every (λ q. ltb q (c .before .before .before .before .before .before .before .enter-included .result) || isResting (setting (c .before .before .before .before .before .before .before .before .before .before .before .before .before .before .before .args .t2) q))) e)
+    ∙ and-behind (good (c .before .before .before .before .before .before .before .enter-included .result)) (every (soundAt (sheetOf (c .before .before .before .before .before .before .before .before .before .before .before .before .before .before .before .args .s .now)) (c .before .before .before .before .before .before .before .before .before .before .before .before .before .before .before .args .t2)) (c .before .before .before .before .before .before .before .enter-included .result)) (restingFrom (c .before .before .before .before .before .before .before .before .before .before .before .before .before .before .before .args .t2) (c .before .before .before .before .before .before .before .enter-included .result))
+    (λ still.
+    let f : c .before .before .before .before .before .loop .active ≡ tabulate (λ o. cond (isActive (c .before .before .before .before .before .before .before .before .before .before .before .before .before .before .before .args .t2) o) 1 0) stateObjects = begun-all _ _ _ _ _ _ (c .before .before .before .before .before .loop .inv .1) (λ k a b. sym (ap (λ (t : Bool). cond t 1 0) (rest-inactive (c .before .before .before .before .before .before .before .before .before .before .before .before .before .before .before .args .t2) (c .before .before .before .before .before .before .before .enter-included .result) k still (omega (arith, c .before .before .before .before .loop-test .left, c .before .before .before .before .before .loop .inv .0, a)) b))) in
+    ap (λ (t : List ℕ). every (λ o. flaggedSound (sheetOf (c .before .before .before .before .before .before .before .before .before .before .before .before .before .before .before .args .s .now)) ((c .before .before .before .before .before .before .before .before .before .before .before .before .before .before .before .args .t2) .programme) t o (setting (c .before .before .before .before .before .before .before .before .before .before .before .before .before .before .before .args .t2) o)) (c .before .before .before .before .before .before .before .enter-included .result)) f ∙ all-flags (sheetOf (c .before .before .before .before .before .before .before .before .before .before .before .before .before .before .before .args .s .now)) (c .before .before .before .before .before .before .before .before .before .before .before .before .before .before .before .args .t2) (c .before .before .before .before .before .before .before .enter-included .result))
+    ∙ sym (sound-parts (sheetOf (c .before .before .before .before .before .before .before .before .before .before .before .before .before .before .before .args .s .now)) (c .before .before .before .before .before .before .before .before .before .before .before .before .before .before .before .args .t2) (c .before .before .before .before .before .before .before .enter-included .result) (c .before .before .before .before .before .before .before .enter-included .ensures .1) (c .before .before .before .before .before .before .before .enter-included .ensures .2) (rw (← c .before .before .before .before .before .before .before .before .before .before .before .before .before .count .ensures) (c .before .before .before .before .before .before .before .before .before .before .before .before .if1 .left)))
 
 pub sound-spec : {M : Type 1} → statement M
 sound-spec =
@@ -190,28 +181,29 @@ sound-spec =
     μ-loop3
     count-requires
     returns
-    past-included-requires
+    slice-aggregate-find-leaders
+    find-leaders-requires
+    slice-aggregate-enter-included
+    enter-included-requires
     loop-holds
     cast-x
     mul-x
     element-copy-out-x
-    is-resting-requires
-    add-o
-    loop-less
-    loop-again
-    returns-2
-    slice-aggregate-first-namers
-    first-namers-requires
-    slice-aggregate-mark-included
-    mark-included-requires
-    loop2-holds
-    cast-x-2
-    mul-x-2
-    element-copy-out-x-2
     one-requires
     cast-active
     mul-active
     array-write-active
+    add-o
+    loop-less
+    loop-again
+    loop2-holds
+    cast-x-2
+    mul-x-2
+    element-copy-out-x-2
+    slice-aggregate-sound-at
+    slice-aggregate-sound-at-2
+    slice-aggregate-sound-at-3
+    sound-at-requires
     add-o-2
     loop2-less
     loop2-again
@@ -219,11 +211,8 @@ sound-spec =
     cast-x-3
     mul-x-3
     element-copy-out-x-3
-    slice-aggregate-sound-at
-    slice-aggregate-sound-at-2
-    slice-aggregate-sound-at-3
-    sound-at-requires
+    is-resting-requires
     add-o-3
     loop3-less
     loop3-again
-    returns-3)
+    returns-2)

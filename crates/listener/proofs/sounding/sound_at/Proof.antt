@@ -1,8 +1,9 @@
 -- An included object, or rest. Assumes nothing.
-use mathlib.Core.Path.{_≡_, refl, sym, ap, _∙_}
+use mathlib.Core.Path.{_≡_, sym, _∙_}
 use mir.Val.{toZ, ofZ}
 use mir.Syntax.{w16}
 use Rattle.listener.specs.Steps.{flaggedSound}
+use Rattle.listener.proofs.StepLaws.{and-assoc}
 use borrow.Author.Needs.{needs}
 use Rattle.listener.proofs.sounding.sound_at.Statement.{statement}
 use Rattle.listener.proofs.sounding.sound_at.Tie as tie
@@ -13,18 +14,15 @@ included-by-requires c κs = search needs
 sound-activity-requires : tie.Need-sound-activity-requires
 sound-activity-requires c κs = search needs
 
-sound-gain-requires : tie.Need-sound-gain-requires
-sound-gain-requires c κs = search needs
-
-sound-offset-requires : tie.Need-sound-offset-requires
-sound-offset-requires c κs = search needs
+sound-values-requires : tie.Need-sound-values-requires
+sound-values-requires c κs = search needs
 
 is-resting-requires : tie.Need-is-resting-requires
 is-resting-requires c κs = search needs
 
 returns : tie.Need-returns
 unfolding flaggedSound
-returns c = λ led right. let p : toZ w16 (ofZ w16 (c .before .before .before .before .before .before .before .before .before .before .args .x .offset)) ≡ c .before .before .before .before .before .before .before .before .before .before .args .x .offset = search needs in simp (p, c .sound-offset .ensures, c .before .sound-gain .ensures, c .before .before .sound-activity .ensures led right) (simp (sym (c .before .before .before .before .before .included-by .ensures right) ∙ c .before .before .before .before .if1 .taken))
+returns c = λ led right. let p : toZ w16 (ofZ w16 (c .before .before .before .before .before .before .before .before .before .args .x .offset)) ≡ c .before .before .before .before .before .before .before .before .before .args .x .offset = search needs in simp (p, c .sound-values .ensures, c .before .sound-activity .ensures led right, and-assoc) (simp (sym (c .before .before .before .before .included-by .ensures right) ∙ c .before .before .before .if1 .taken))
 
 returns-2 : tie.Need-returns-2
 unfolding flaggedSound
@@ -36,8 +34,7 @@ sound-at-spec =
     (tie.spec
     included-by-requires
     sound-activity-requires
-    sound-gain-requires
-    sound-offset-requires
+    sound-values-requires
     is-resting-requires
     returns
     returns-2)

@@ -1,0 +1,66 @@
+-- The records from q on are marked, the lower over the higher. Assumes nothing.
+use Prim.Native.Nat.{ℕ, suc, _-_, _≤_}
+use mathlib.Core.Path.{_≡_, refl, sym, ap, _∙_}
+use native.Mathlib.Omega.{arith}
+use native.Mathlib.Numerals.{add-one}
+use lib.ListN.{length, getD}
+use Rattle.sheet.specs.Words.{sheetOf}
+use Rattle.tables.specs.declared.Mark.the-variants.{Store}
+use Rattle.tables.specs.declared.Naming.the-variants.{Complements}
+use Rattle.tables.specs.Namings.{namers}
+use Rattle.tables.specs.Marks.{Standing, marked, repeat, timesBy, namesBy, firstFrom, firstBy}
+use Rattle.tables.proofs.MarkLaws.{first-more}
+use Rattle.granted.proofs.included.find_leaders.Statement.{statement}
+use Rattle.granted.proofs.included.find_leaders.Tie as tie
+use borrow.Author.Needs.{needs}
+
+abbrev Inv-loop : tie.InvT-loop
+Inv-loop s table₀ q₀ table q = (q ≤ namers (sheetOf s) Complements) × (length table ≡ length table₀) × Standing (λ x. firstFrom (λ j. namesBy (sheetOf s) Complements j x) (getD table₀ x 0) q (namers (sheetOf s) Complements - q)) table
+
+abbrev μ-loop : tie.MeasureT-loop
+μ-loop s table₀ q₀ table q = q
+
+count-requires : tie.Need-count-requires Inv-loop μ-loop
+count-requires c κs = search needs
+
+loop-holds : tie.Need-loop-holds Inv-loop μ-loop
+unfolding firstFrom
+loop-holds c = let e : namers (sheetOf (c .before .before .before .args .s .now)) Complements - c .count .result ≡ 0 = omega (arith, c .count .ensures) in (omega (arith, c .count .ensures), refl, λ x l. ap (λ (n : ℕ). firstFrom (λ j. namesBy (sheetOf (c .before .before .before .args .s .now)) Complements j x) (getD (c .before .before .before .args .table .now) x 0) (c .count .result) n) (sym e))
+
+sub-mark-led : tie.Need-sub-mark-led Inv-loop μ-loop
+sub-mark-led c = search needs
+
+mark-led-requires : tie.Need-mark-led-requires Inv-loop μ-loop
+mark-led-requires c κs = search needs
+
+sub-q : tie.Need-sub-q Inv-loop μ-loop
+sub-q c = search needs
+
+loop-less : tie.Need-loop-less Inv-loop μ-loop
+loop-less c = search needs
+
+loop-again : tie.Need-loop-again Inv-loop μ-loop
+loop-again c = let q = c .before .before .before .before .before .loop .q - 1 in let e : suc q ≡ c .before .before .before .before .before .loop .q = omega (arith, c .before .before .before .before .loop-test .taken) in let f : namers (sheetOf (c .before .before .before .before .before .before .before .before .before .args .s .now)) Complements - q ≡ suc (namers (sheetOf (c .before .before .before .before .before .before .before .before .before .args .s .now)) Complements - c .before .before .before .before .before .loop .q) = omega (arith, c .before .before .before .before .before .loop .inv .0, c .before .before .before .before .loop-test .taken) in (omega (arith, c .before .before .before .before .before .loop .inv .0), c .before .before .mark-led .ensures .0 ∙ c .before .before .before .before .before .loop .inv .1, rw f (first-more (sheetOf (c .before .before .before .before .before .before .before .before .before .args .s .now)) Complements (c .before .before .before .before .before .before .before .before .before .args .table .now) (c .before .before .before .before .before .loop .table) (c .before .before .mark-led .last .1 .1 .0) q (namers (sheetOf (c .before .before .before .before .before .before .before .before .before .args .s .now)) Complements - c .before .before .before .before .before .loop .q) (c .before .before .mark-led .ensures .0) (rw e (c .before .before .before .before .before .loop .inv .2)) (λ x l. c .before .before .mark-led .ensures .1 x l ∙ ap (λ (v : ℕ). repeat (marked (Store v)) (timesBy (sheetOf (c .before .before .before .before .before .before .before .before .before .args .s .now)) Complements q x) (getD (c .before .before .before .before .before .loop .table) x 0)) (add-one q))))
+
+same-length : tie.Need-same-length Inv-loop μ-loop
+same-length c = c .before .loop .inv .1
+
+returns : tie.Need-returns Inv-loop μ-loop
+unfolding firstBy
+returns c = let e : c .before .loop .q ≡ 0 = omega (arith, c .loop-test .left) in let f : namers (sheetOf (c .before .before .before .before .before .args .s .now)) Complements - c .before .loop .q ≡ namers (sheetOf (c .before .before .before .before .before .args .s .now)) Complements = omega arith in (c .before .loop .inv .1, λ x l. c .before .loop .inv .2 x l ∙ ap (λ (i : ℕ). firstFrom (λ j. namesBy (sheetOf (c .before .before .before .before .before .args .s .now)) Complements j x) (getD (c .before .before .before .before .before .args .table .now) x 0) i (namers (sheetOf (c .before .before .before .before .before .args .s .now)) Complements - c .before .loop .q)) e ∙ ap (firstFrom (λ j. namesBy (sheetOf (c .before .before .before .before .before .args .s .now)) Complements j x) (getD (c .before .before .before .before .before .args .table .now) x 0) 0) f)
+
+pub find-leaders-spec : {M : Type 1} → statement M
+find-leaders-spec =
+    tie.close
+    (tie.spec
+    Inv-loop
+    μ-loop
+    count-requires
+    loop-holds
+    sub-mark-led
+    mark-led-requires
+    sub-q
+    loop-less
+    loop-again
+    same-length
+    returns)
