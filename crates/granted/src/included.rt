@@ -3,15 +3,8 @@ use relations::entries::one;
 use relations::groups::member;
 use relations::groups::members;
 use relations::objects::leader;
-use sheet::fields::CONTENT_LIST;
-use sheet::fields::CONTENT_OBJECT;
-use sheet::fields::CONTENTS;
 use sheet::fields::OBJECTS;
-use sheet::fields::PROGRAMMES;
 use sheet::layout::count;
-use sheet::layout::entry;
-use sheet::layout::field;
-use sheet::layout::number;
 use tables::Mark;
 use tables::Naming;
 use tables::marks::mark_items;
@@ -21,27 +14,12 @@ ghost use Prim.Native.Nat.{_+_, _<_};
 ghost use lib.ListN.{getD, length};
 ghost use mathlib.Core.Path.{_≡_};
 ghost use Rattle.granted.specs.Granted.{inWholeGroup};
-ghost use Rattle.profile.specs.Relations.{included, includes};
+ghost use Rattle.profile.specs.Relations.{included};
 ghost use Rattle.sheet.specs.Words.{sheetOf};
 ghost use Rattle.tables.specs.Marks.{Standing, firstBy, marked, repeat, timesBy};
 ghost use Rattle.tables.specs.Right.{Included, Leaders};
 ghost use Rattle.tables.specs.declared.Mark.the-variants.{Store};
 ghost use Rattle.tables.specs.declared.Naming.the-variants.{Complements};
-
-// "A programme includes the top objects of its contents": one loop, without a call for each entry.
-pub fn includes_object(s: &[u8], p: u16, o: u16) -> bool
-    ensures { λ r. ⌜ r ≡ includes (sheetOf (now (s .entry))) p o ⌝ }
-{
-    let n = number(s, PROGRAMMES, p, CONTENT_LIST);
-    let mut found = false;
-    let mut i: u16 = 0;
-    while i < n {
-        let c = entry(s, PROGRAMMES, p, CONTENT_LIST, i);
-        found = found | (field(s, CONTENTS, c, CONTENT_OBJECT) == o);
-        i += 1;
-    }
-    found
-}
 
 // How many members of a leader's group the programme includes.
 fn included_members(s: &[u8], p: u16, marks: &[u16], l: u16) -> u32

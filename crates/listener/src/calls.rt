@@ -12,10 +12,10 @@ use granted::fitting::gain_within;
 use granted::fitting::is_range;
 use granted::fitting::offset_within;
 use granted::included::find_leaders;
-use granted::included::includes_object;
 use granted::programme::granted_range;
 use granted::programme::in_whole_group;
 use profile::Verdict;
+use relations::programmes::includes;
 use sheet::fields::PROGRAMMES;
 use sheet::layout::count;
 use sheet::layout::level;
@@ -101,7 +101,7 @@ fn number_answer(s: &[u8], p: u16) -> Answer
 fn group_answer(s: &[u8], p: u16, o: u16) -> Answer
     ensures { λ r. ⌜ r ≡ groupAnswer (sheetOf (now (s .entry))) p o ⌝ }
 {
-    if includes_object(s, p, o) {
+    if includes(s, p, o) {
         if in_whole_group(s, p, o) {
             Answer::Done
         } else {
@@ -116,7 +116,7 @@ fn group_answer(s: &[u8], p: u16, o: u16) -> Answer
 fn range_answer(s: &[u8], p: u16, o: u16, granted: bool, fits: bool) -> Answer
     ensures { λ r. ⌜ r ≡ rangeAnswerBy (includes (sheetOf (now (s .entry))) p o) granted fits ⌝ }
 {
-    if includes_object(s, p, o) {
+    if includes(s, p, o) {
         if granted {
             if fits {
                 Answer::Done

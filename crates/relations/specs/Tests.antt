@@ -10,7 +10,7 @@ use Rattle.profile.specs.Counting.{any, howMany, lowest}
 use Rattle.profile.specs.Relations.{lists, hasObjectsPack, leader, member, members, includes, hasSet, namesSet}
 use Rattle.profile.specs.Rules.{lacks}
 use Rattle.relations.specs.declared.EntryTest.{EntryTest}
-use Rattle.relations.specs.declared.EntryTest.the-variants.{Is, Lacks, NoLanguage, NoObjectsPack, OtherPack, Ordinal, OrdinalPast, ContentOf, SetOf}
+use Rattle.relations.specs.declared.EntryTest.the-variants.{Is, Lacks, NoLanguage, NoObjectsPack, OtherPack, Ordinal, OrdinalPast, SetOf}
 use Rattle.relations.specs.declared.RecordTest.{RecordTest}
 use Rattle.relations.specs.declared.RecordTest.the-variants.{Names, ObjectsPack, Leader, LeaderOf, OwnerOf, HasContent}
 use Rattle.relations.specs.declared.MemberTest.{MemberTest}
@@ -25,7 +25,6 @@ entryTest s NoObjectsPack e = not (hasObjectsPack s e)
 entryTest s (OtherPack pack) e = not (eqb (field s tracks e trackPack) pack)
 entryTest s (Ordinal n) e = eqb (field s tracks e trackOrdinal) n
 entryTest s (OrdinalPast n) e = leb n (field s tracks e trackOrdinal)
-entryTest s (ContentOf o) e = eqb (field s contents e contentObject) o
 entryTest s (SetOf o) e = hasSet s o e
 
 -- how many entries of the list at a position of a record pass it

@@ -3,8 +3,6 @@ use crate::EntryTest;
 use crate::objects::has_objects_pack;
 use crate::objects::lacks;
 use crate::sets::has_set;
-use sheet::fields::CONTENT_OBJECT;
-use sheet::fields::CONTENTS;
 use sheet::fields::TRACK_ORDINAL;
 use sheet::fields::TRACK_PACK;
 use sheet::fields::TRACKS;
@@ -39,7 +37,6 @@ pub fn entry_test(s: &[u8], test: EntryTest, e: u16) -> bool
         EntryTest::OtherPack(pack) => field(s, TRACKS, e, TRACK_PACK) != pack,
         EntryTest::Ordinal(n) => field(s, TRACKS, e, TRACK_ORDINAL) == n,
         EntryTest::OrdinalPast(n) => n <= field(s, TRACKS, e, TRACK_ORDINAL),
-        EntryTest::ContentOf(o) => field(s, CONTENTS, e, CONTENT_OBJECT) == o,
         EntryTest::SetOf(o) => has_set(s, o, e),
     }
 }

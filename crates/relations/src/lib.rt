@@ -24,8 +24,6 @@ pub enum EntryTest {
     Ordinal(u16),
     // the track has this ordinal or a higher one
     OrdinalPast(u16),
-    // the content names this object
-    ContentOf(u16),
     // the value set is this object's
     SetOf(u16),
 }

@@ -5,25 +5,25 @@ use borrow.Author.Needs.{needs}
 use Rattle.listener.proofs.calls.range_answer.Statement.{statement}
 use Rattle.listener.proofs.calls.range_answer.Tie as tie
 
-includes-object-requires : tie.Need-includes-object-requires
-includes-object-requires c κs = search needs
+includes-requires : tie.Need-includes-requires
+includes-requires c κs = search needs
 
 returns : tie.Need-returns
 unfolding rangeAnswerBy
-returns c = simp (c .if3 .taken, c .before .if2 .taken, sym (c .before .before .before .includes-object .ensures) ∙ c .before .before .if1 .taken)
+returns c = simp (c .if3 .taken, c .before .if2 .taken, sym (c .before .before .before .includes .ensures) ∙ c .before .before .if1 .taken)
 
 returns-2 : tie.Need-returns-2
 unfolding rangeAnswerBy
-returns-2 c = simp (c .if3 .left, c .before .if2 .taken, sym (c .before .before .before .includes-object .ensures) ∙ c .before .before .if1 .taken)
+returns-2 c = simp (c .if3 .left, c .before .if2 .taken, sym (c .before .before .before .includes .ensures) ∙ c .before .before .if1 .taken)
 
 returns-3 : tie.Need-returns-3
 unfolding rangeAnswerBy
-returns-3 c = simp (c .if2 .left, sym (c .before .before .includes-object .ensures) ∙ c .before .if1 .taken)
+returns-3 c = simp (c .if2 .left, sym (c .before .before .includes .ensures) ∙ c .before .if1 .taken)
 
 returns-4 : tie.Need-returns-4
 unfolding rangeAnswerBy
-returns-4 c = simp (sym (c .before .includes-object .ensures) ∙ c .if1 .left)
+returns-4 c = simp (sym (c .before .includes .ensures) ∙ c .if1 .left)
 
 pub range-answer-spec : {M : Type 1} → statement M
 range-answer-spec =
-    tie.close (tie.spec includes-object-requires returns returns-2 returns-3 returns-4)
+    tie.close (tie.spec includes-requires returns returns-2 returns-3 returns-4)

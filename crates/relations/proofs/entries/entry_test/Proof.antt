@@ -45,12 +45,6 @@ field-requires-3 c κs = search needs
 enum-known-test-6 : tie.Need-enum-known-test-6
 enum-known-test-6 c = search needs
 
-field-requires-4 : tie.Need-field-requires-4
-field-requires-4 c κs = search needs
-
-enum-known-test-7 : tie.Need-enum-known-test-7
-enum-known-test-7 c = search needs
-
 has-set-requires : tie.Need-has-set-requires
 has-set-requires c κs = search needs
 
@@ -76,10 +70,7 @@ returns-7 : tie.Need-returns-7
 returns-7 c = simp (c .field3 .ensures, c .before .before .test5 .given .1)
 
 returns-8 : tie.Need-returns-8
-returns-8 c = simp (c .field4 .ensures, c .before .before .test6 .given .1)
-
-returns-9 : tie.Need-returns-9
-returns-9 c = simp (c .has-set .ensures, c .before .before .test7 .given .1)
+returns-8 c = simp (c .has-set .ensures, c .before .before .test6 .given .1)
 
 pub entry-test-spec : {M : Type 1} → statement M
 entry-test-spec =
@@ -99,8 +90,6 @@ entry-test-spec =
     enum-known-test-5
     field-requires-3
     enum-known-test-6
-    field-requires-4
-    enum-known-test-7
     has-set-requires
     returns
     returns-2
@@ -109,5 +98,4 @@ entry-test-spec =
     returns-5
     returns-6
     returns-7
-    returns-8
-    returns-9)
+    returns-8)
