@@ -19,7 +19,7 @@ use Rattle.profile.proofs.CountingLaws.{any-none, any-howMany}
 use Rattle.profile.proofs.GroupLaws.{any-witness, own-leader, leader-lists, member-zero, member-at, no-leader}
 use Rattle.profile.proofs.SumLaws.{any-nowhere, howMany-eq, howMany-all}
 use Rattle.tables.specs.Marks.{Standing}
-use Rattle.grouping.specs.Groups.{Changed, GroupKept, LeadersIn, Noted, OneSpan, ProgrammeKept, SameList, groupWhole, manyIn, objectAt, setsIn}
+use Rattle.grouping.specs.Groups.{Changed, GroupKept, Noted, OneSpan, ProgrammeKept, SameList, groupWhole, manyIn, objectAt, setsIn}
 use Rattle.grouping.proofs.CountLaws.{Apart, any-eq, two-counted}
 use Rattle.grouping.proofs.MemberLaws.{one-owner}
 use Rattle.grouping.proofs.PassLaws.{past, sets-alike}
@@ -137,8 +137,7 @@ module _ (s : Sheet) (p : ℕ) (t₀ t₁ t₂ : List ℕ) (put : ℕ → ℕ) (
       small false = refl
 
   module _ (full : length t₀ ≡ count s objects) (spans : OneSpan s) (inside : (j : ℕ) → j < number s programmes p setList → namedSet s p j < count s valueSets)
-      (same : (j : ℕ) → j < number s programmes p setList → setsDiffer s (put j) (namedSet s p j) ≡ false) (list partners : List ℕ) (g : ℕ)
-      (all : LeadersIn s list partners g) (each : (i : ℕ) → i < g → GroupKept s t₂ (getD list i 0)) where
+      (same : (j : ℕ) → j < number s programmes p setList → setsDiffer s (put j) (namedSet s p j) ≡ false) (kept : (l : ℕ) → l < count s objects → GroupKept s t₂ l) where
     -- contents of different objects are different
     no-repeat : Apart (objectAt s p) n → repeats s programmes p contentList ≡ false
     unfolding repeats twoOf objectAt
@@ -197,12 +196,6 @@ module _ (s : Sheet) (p : ℕ) (t₀ t₁ t₂ : List ℕ) (put : ℕ → ℕ) (
         howMany-eq (λ i. namesSet s p (member s l i)) (λ i. ltb 1 (getD t₂ (member s l i) 0)) (members s l)
         (λ i r. names-owner (member s l i) (member-inside l i whole r) ∙ tells-named (member s l i))
 
-    -- every group is kept
-    kept : (l : ℕ) → l < count s objects → leader s l ≡ true → GroupKept s t₂ l
-    kept l k h =
-        let w = any-witness (λ i. eqb (getD list i 0) l) g (all .0 l k h) in
-        subst (λ (x : ℕ). GroupKept s t₂ x) (eqb-true _ _ (w .2)) (each (w .0) (w .1))
-
     keeps-21 : rule21 s programmes p ≡ false
     unfolding rule21 whollyIncluded groupWhole
     keeps-21 = any-nowhere (λ l. leader s l && not (eqb (included s p l) 0) && not (eqb (included s p l) 1) && not (eqb (included s p l) (members s l))) (count s objects) alone
@@ -210,7 +203,7 @@ module _ (s : Sheet) (p : ℕ) (t₀ t₁ t₂ : List ℕ) (put : ℕ → ℕ) (
         alone : (l : ℕ) → l < count s objects → (leader s l && not (eqb (included s p l) 0) && not (eqb (included s p l) 1) && not (eqb (included s p l) (members s l))) ≡ false
         alone l k =
             (elim (leader s l) as (λ b. leader s l ≡ b → (b && not (eqb (included s p l) 0) && not (eqb (included s p l) 1) && not (eqb (included s p l) (members s l))) ≡ false) [
-              | true ↦ λ h. one-or-all (included s p l) (members s l) (eqb (setsIn s t₂ l) 0 || eqb (setsIn s t₂ l) (members s l)) (rw (included-counted l) (kept l k h .0))
+              | true ↦ λ h. one-or-all (included s p l) (members s l) (eqb (setsIn s t₂ l) 0 || eqb (setsIn s t₂ l) (members s l)) (rw (included-counted l) (kept l k .0))
               | false ↦ λ h. refl
             ]) refl
 
@@ -223,7 +216,7 @@ module _ (s : Sheet) (p : ℕ) (t₀ t₁ t₂ : List ℕ) (put : ℕ → ℕ) (
     none-partly l k =
         (elim (leader s l) as (λ b. leader s l ≡ b → (b && whollyIncluded s p l && not (eqb (setsNamed s p l) 0) && not (eqb (setsNamed s p l) (members s l))) ≡ false) [
           | true ↦ λ h. (elim (whollyIncluded s p l) as (λ b. whollyIncluded s p l ≡ b → (true && b && not (eqb (setsNamed s p l) 0) && not (eqb (setsNamed s p l) (members s l))) ≡ false) [
-            | true ↦ λ w. none-or-all (included s p l) (members s l) (setsNamed s p l) (two l h w) (rw (sets-counted l w, included-counted l) (kept l k h .0))
+            | true ↦ λ w. none-or-all (included s p l) (members s l) (setsNamed s p l) (two l h w) (rw (sets-counted l w, included-counted l) (kept l k .0))
             | false ↦ λ w. refl
           ]) refl
           | false ↦ λ h. refl
@@ -257,7 +250,7 @@ module _ (s : Sheet) (p : ℕ) (t₀ t₁ t₂ : List ℕ) (put : ℕ → ℕ) (
           let b = member-at s (ownerAt s p j) u refl led in
           let va : getD t₂ (member s u (a .0)) 0 ≡ put i + 2 = has i (omega arith) (a .0) (a .2) in
           let vb : getD t₂ (member s u (b .0)) 0 ≡ put j + 2 = has j l (b .0) (b .2) in
-          let whole = kept u (leader-inside s (ownerAt s p j) (owner-inside j l)) led in
+          let whole = kept u (leader-inside s (ownerAt s p j) (owner-inside j l)) in
           let other : a .0 ≡ b .0 → ⊥ = λ q. apart (sym (a .2) ∙ ap (member s u) q ∙ b .2) in
           let ia : not (eqb (getD t₂ (member s u (a .0)) 0) 0) ≡ true = ap not (ne-eqb (getD t₂ (member s u (a .0)) 0) 0 (λ q. let y : getD t₂ (member s u (a .0)) 0 ≡ 0 = q in absurd (omega (arith, va)))) in
           let ib : not (eqb (getD t₂ (member s u (b .0)) 0) 0) ≡ true = ap not (ne-eqb (getD t₂ (member s u (b .0)) 0) 0 (λ q. let y : getD t₂ (member s u (b .0)) 0 ≡ 0 = q in absurd (omega (arith, vb)))) in
@@ -302,8 +295,7 @@ module _ (s : Sheet) (p : ℕ) (t₀ t₁ t₂ : List ℕ) (put : ℕ → ℕ) (
 
 -- rule 21 alone, by a table without sets
 module _ (s : Sheet) (p : ℕ) (t₀ t₁ : List ℕ) (noughts : Standing (λ x. 0) t₀) (long : length t₁ ≡ length t₀)
-    (entered : Changed (objectAt s p) (number s programmes p contentList) 0 1 t₀ t₁) (list partners : List ℕ) (g : ℕ)
-    (all : LeadersIn s list partners g) (each : (i : ℕ) → i < g → GroupKept s t₁ (getD list i 0)) where
+    (entered : Changed (objectAt s p) (number s programmes p contentList) 0 1 t₀ t₁) (kept : (l : ℕ) → l < count s objects → GroupKept s t₁ l) where
   tells : (x : ℕ) → includes s p x ≡ not (eqb (getD t₁ x 0) 0)
   unfolding includes objectAt
   tells x =
@@ -332,15 +324,10 @@ module _ (s : Sheet) (p : ℕ) (t₀ t₁ : List ℕ) (noughts : Standing (λ x.
   unfolding rule21 whollyIncluded groupWhole
   groups-kept-21 = any-nowhere (λ l. leader s l && not (eqb (included s p l) 0) && not (eqb (included s p l) 1) && not (eqb (included s p l) (members s l))) (count s objects) alone
     where
-      kept : (l : ℕ) → l < count s objects → leader s l ≡ true → GroupKept s t₁ l
-      kept l k h =
-          let w = any-witness (λ i. eqb (getD list i 0) l) g (all .0 l k h) in
-          subst (λ (x : ℕ). GroupKept s t₁ x) (eqb-true _ _ (w .2)) (each (w .0) (w .1))
-
       alone : (l : ℕ) → l < count s objects → (leader s l && not (eqb (included s p l) 0) && not (eqb (included s p l) 1) && not (eqb (included s p l) (members s l))) ≡ false
       alone l k =
           (elim (leader s l) as (λ b. leader s l ≡ b → (b && not (eqb (included s p l) 0) && not (eqb (included s p l) 1) && not (eqb (included s p l) (members s l))) ≡ false) [
-            | true ↦ λ h. one-or-all (included s p l) (members s l) (eqb (setsIn s t₁ l) 0 || eqb (setsIn s t₁ l) (members s l)) (rw (many l) (kept l k h .0))
+            | true ↦ λ h. one-or-all (included s p l) (members s l) (eqb (setsIn s t₁ l) 0 || eqb (setsIn s t₁ l) (members s l)) (rw (many l) (kept l k .0))
             | false ↦ λ h. refl
           ]) refl
 

@@ -3,3 +3,4 @@ mod CountLaws
 mod KeptLaws
 mod MemberLaws
 mod PassLaws
+mod RowLaws

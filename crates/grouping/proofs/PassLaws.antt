@@ -16,18 +16,18 @@ use Rattle.sheet.specs.Layout.{count, offset, start, size, field, number, refer
 use Rattle.sheet.specs.Fields.{programmes, contents, objects, references, valueSets, contentList, setList, complementList, setGain}
 use Rattle.sheet.proofs.WordLaws.{at as words-at}
 use Rattle.profile.specs.Counting.{any, howMany}
-use Rattle.profile.specs.Relations.{leader, member, members, namedSet, owner}
+use Rattle.profile.specs.Relations.{member, members, namedSet, owner}
 use Rattle.profile.specs.Rules.{setsDiffer}
 use Rattle.profile.proofs.BoolLaws.{or-none, or-either}
 use Rattle.profile.proofs.CountingLaws.{any-none}
 use Rattle.profile.proofs.GroupLaws.{any-witness}
-use Rattle.profile.proofs.SumLaws.{any-nowhere, any-one, howMany-shift}
+use Rattle.profile.proofs.SumLaws.{any-nowhere, howMany-shift}
 use Rattle.tables.specs.declared.Naming.the-variants.{SetSpans}
 use Rattle.tables.specs.Marks.{Standing, firstBy}
 use Rattle.tables.specs.Right.{Owners, told}
 use Rattle.tables.proofs.MarkLaws.{set-standing}
 use Rattle.tables.proofs.TableLaws.{owner-told}
-use Rattle.grouping.specs.Groups.{Changed, GroupKept, Listed, Noted, PairKept, Partner, groupWhole, manyIn, objectAt, objectFrom, setsIn}
+use Rattle.grouping.specs.Groups.{Changed, GroupKept, Noted, PairKept, groupWhole, manyIn, objectAt, objectFrom, setsIn}
 
 -- one place is written
 pub written : (t : List ℕ) (y v : ℕ) → Standing (λ z. cond (eqb y z) v (getD t z 0)) (set t y v)
@@ -271,32 +271,3 @@ module _ (s : Sheet) (t : List ℕ) (l m : ℕ) (e : member s l 1 ≡ m) where
       each zero h k r = sets-own s (getD t l 0 - 2)
       each (suc zero) h k r = ap (λ (x : ℕ). setsDiffer s (getD t l 0 - 2) (getD t x 0 - 2)) e ∙ kept .1 k (subst (λ (x : ℕ). 1 < getD t x 0) e r)
       each (suc (suc i)) h k r = absurd (omega arith)
-
--- one more is listed, with its partner
-pub listed-more : (s : Sheet) (t t′ u u′ : List ℕ) (g l m : ℕ) → g < length t → g < length u → length t′ ≡ length t → length u′ ≡ length u
-    → Standing (λ z. cond (eqb g z) l (getD t z 0)) t′ → Standing (λ z. cond (eqb g z) m (getD u z 0)) u′ → Partner s l m → Listed s t u g l → Listed s t′ u′ (g + 1) (l + 1)
-listed-more s t t′ u u′ g l m inside inside-u long long-u now now-u two before = (
-  below-more (λ k. leader s k ≡ true → any (λ i. eqb (getD t′ i 0) k) (g + 1) ≡ true) l
-      (λ k r h.
-      let w = any-witness (λ i. eqb (getD t i 0) k) g (before .0 k r h) in
-      any-one (λ i. eqb (getD t′ i 0) k) (g + 1) (w .0) (omega (arith, w .1)) (ap (λ (x : ℕ). eqb x k) (same t t′ l long now inside (w .0) (w .1)) ∙ w .2))
-      (λ h. any-one (λ i. eqb (getD t′ i 0) l) (g + 1) g (omega arith) (eq-eqb (getD t′ g 0) l (last t t′ l long now inside))),
-  below-more (λ i. Partner s (getD t′ i 0) (getD u′ i 0)) g
-      (λ i k. rw (same t t′ l long now inside i k, same u u′ m long-u now-u inside-u i k) (before .1 i k))
-      (rw (last t t′ l long now inside, last u u′ m long-u now-u inside-u) two),
-)
-  where
-    same : (t t′ : List ℕ) (v : ℕ) → length t′ ≡ length t → Standing (λ z. cond (eqb g z) v (getD t z 0)) t′ → g < length t → (i : ℕ) → i < g → getD t′ i 0 ≡ getD t i 0
-    same t t′ v long now inside i k = now i (rw long (omega arith)) ∙ ap (λ (b : Bool). cond b v (getD t i 0)) (ne-eqb g i (λ q. let z : g ≡ i = q in absurd (omega arith)))
-
-    last : (t t′ : List ℕ) (v : ℕ) → length t′ ≡ length t → Standing (λ z. cond (eqb g z) v (getD t z 0)) t′ → g < length t → getD t′ g 0 ≡ v
-    last t t′ v long now inside = now g (rw long inside) ∙ ap (λ (b : Bool). cond b v (getD t g 0)) (eq-eqb g g refl)
-
--- or it is none
-pub listed-same : (s : Sheet) (t u : List ℕ) (g l : ℕ) → leader s l ≡ false → Listed s t u g l → Listed s t u g (l + 1)
-listed-same s t u g l none before = (below-more (λ k. leader s k ≡ true → any (λ i. eqb (getD t i 0) k) g ≡ true) l (before .0) (λ h. absurd (true≢false (sym h ∙ none))), before .1)
-
--- the partner of a leader
-pub one-partner : (s : Sheet) (l m : ℕ) → number s objects l complementList ≡ 1 → m ≡ entry s objects l complementList 0 → Partner s l m
-unfolding members member
-one-partner s l m one e some = (ap suc one, sym e)

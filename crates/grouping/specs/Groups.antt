@@ -3,13 +3,14 @@ use Prim.Native.Nat.{ℕ, _+_, _-_, _*_, _<_}
 use mathlib.Core.Path.{_≡_}
 use mathlib.Core.Bool.{Bool, true, false, cond, not, _&&_, _||_}
 use mathlib.Core.List.{List}
+use mathlib.Core.Logic.{_⊎_}
 use lib.Dec.{eqb, leb, ltb}
 use lib.ListN.{length, getD}
 use Rattle.sheet.specs.Words.{Sheet, word}
 use Rattle.sheet.specs.Layout.{count, field, number, entry}
-use Rattle.sheet.specs.Fields.{programmes, contents, objects, valueSets, contentList, contentObject}
+use Rattle.sheet.specs.Fields.{programmes, contents, objects, valueSets, contentList, contentObject, complementList}
 use Rattle.profile.specs.Counting.{any, howMany}
-use Rattle.profile.specs.Relations.{leader, member, members}
+use Rattle.profile.specs.Relations.{member, members}
 use Rattle.profile.specs.Rules.{repeats, rule5, rule11, rule19, rule21, rule22, setsDiffer}
 use Rattle.tables.specs.Marks.{Standing}
 use Rattle.tables.specs.Right.{told}
@@ -96,16 +97,29 @@ PairKept s e c =
     (groupWhole 2 (cond (not (eqb e 0)) 1 0 + cond (not (eqb c 0)) 1 0) (cond (ltb 1 e) 1 0 + cond (ltb 1 c) 1 0) ≡ true)
     × (1 < e → 1 < c → setsDiffer s (e - 2) (c - 2) ≡ false)
 
--- a leader has this one complement, where it is not 65535
+-- a leader has m as its complement where it has one
 abbrev pub Partner : Sheet → ℕ → ℕ → Type 0
-Partner s l m = (m ≡ 65535 → ⊥) → (members s l ≡ 2) × (member s l 1 ≡ m)
+Partner s l m = number s objects l complementList ≡ 1 → m ≡ entry s objects l complementList 0
 
--- the leaders below l are among the first g of a list, and another list has their partners
-abbrev pub Listed : Sheet → List ℕ → List ℕ → ℕ → ℕ → Type 0
-Listed s t u g l =
-    ((k : ℕ) → k < l → leader s k ≡ true → any (λ i. eqb (getD t i 0) k) g ≡ true)
+-- the table has one number for both, or the leader's group is kept
+abbrev pub RowKept : Sheet → List ℕ → ℕ → ℕ → Type 0
+RowKept s t l m = (getD t l 0 ≡ getD t m 0) ⊎ GroupKept s t l
+
+-- x stands at place g, and before it what stood there
+abbrev pub RowAdded : List ℕ → List ℕ → ℕ → ℕ → Type 0
+RowAdded t t′ g x = ((i : ℕ) → i < g → getD t′ i 0 ≡ getD t i 0) × (getD t′ g 0 ≡ x)
+
+-- one of the first g rows of two lists has these two
+abbrev pub HasRow : List ℕ → List ℕ → ℕ → ℕ → ℕ → Type 0
+HasRow t u g l m = (i : ℕ) × (i < g) × (getD t i 0 ≡ l) × (getD u i 0 ≡ m)
+
+-- the g rows have the objects below l with each of their complements, and l with the first j of its own
+abbrev pub Listed : Sheet → List ℕ → List ℕ → ℕ → ℕ → ℕ → Type 0
+Listed s t u g l j =
+    ((k : ℕ) → k < l → (i : ℕ) → i < number s objects k complementList → HasRow t u g k (entry s objects k complementList i))
+    × ((i : ℕ) → i < j → HasRow t u g l (entry s objects l complementList i))
     × ((i : ℕ) → i < g → Partner s (getD t i 0) (getD u i 0))
 
--- every leader is
+-- fewer than 65535 rows have all
 abbrev pub LeadersIn : Sheet → List ℕ → List ℕ → ℕ → Type 0
-LeadersIn s t u g = Listed s t u g (count s objects)
+LeadersIn s t u g = g < 65535 → Listed s t u g (count s objects) 0

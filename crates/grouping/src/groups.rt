@@ -3,7 +3,6 @@
 use crate::marks::at;
 use crate::sets::sets_differ;
 use relations::entries::one;
-use relations::objects::leader;
 use sheet::fields::COMPLEMENT_LIST;
 use sheet::fields::OBJECTS;
 use sheet::layout::count;
@@ -12,14 +11,13 @@ use sheet::layout::field;
 use sheet::layout::number;
 use sheet::words::word;
 use sheet::words::word_count;
-use tables::Mark;
-use tables::marks::mark_at;
 ghost use Prim.Native.Nat.{ℕ, suc, _+_, _-_, _<_, _≤_};
 ghost use lib.Dec.{eqb, ltb};
 ghost use lib.ListN.{getD, length};
 ghost use mathlib.Core.Bool.{cond, false, not, true};
+ghost use mathlib.Core.Logic.{_⊎_};
 ghost use mathlib.Core.Path.{_≡_};
-ghost use Rattle.grouping.specs.Groups.{GroupKept, LeadersIn, Listed, PairKept, Partner, groupWhole};
+ghost use Rattle.grouping.specs.Groups.{GroupKept, LeadersIn, Listed, PairKept, Partner, RowAdded, groupWhole};
 ghost use Rattle.profile.specs.Counting.{howMany};
 ghost use Rattle.profile.specs.Rules.{setsDiffer};
 ghost use Rattle.sheet.specs.Fields.{objects, references, valueSets};
@@ -78,15 +76,6 @@ fn members_kept(
     (many <= 1) | ((many == all) & ((noted == 0) | (noted == all)))
 }
 
-// The same for the group of a leader.
-fn group_kept(s: &[u8], base: u16, sets: u16, included: &[u16], l: u16) -> bool
-    ensures { λ r. ⌜ (r ≡ true → base ≡ offset (sheetOf (now (s .entry))) references → sets ≡ offset (sheetOf (now (s .entry))) valueSets → GroupKept (sheetOf (now (s .entry))) (now (included .entry)) l) ⌝ }
-{
-    let first = field(s, OBJECTS, l, COMPLEMENT_LIST);
-    let n = number(s, OBJECTS, l, COMPLEMENT_LIST);
-    members_kept(s, base, sets, first, n, included, at(included, l))
-}
-
 // A group of two, by what the table has for both.
 fn pair_kept(s: &[u8], sets: u16, e: u16, c: u16) -> bool
     ensures { λ r. ⌜ (r ≡ true → sets ≡ offset (sheetOf (now (s .entry))) valueSets → PairKept (sheetOf (now (s .entry))) e c) ⌝ }
@@ -103,17 +92,30 @@ fn pair_kept(s: &[u8], sets: u16, e: u16, c: u16) -> bool
     !noted_differ(s, sets, e, c)
 }
 
-// The group of a leader, which has one complement m, or any where m is 65535.
-fn led_kept(s: &[u8], base: u16, sets: u16, included: &[u16], l: u16, m: u16) -> bool
+// The group of a leader, which has m as its complement where it has one.
+fn group_kept(s: &[u8], base: u16, sets: u16, included: &[u16], l: u16, m: u16) -> bool
     ensures { λ r. ⌜ (r ≡ true → base ≡ offset (sheetOf (now (s .entry))) references → sets ≡ offset (sheetOf (now (s .entry))) valueSets → Partner (sheetOf (now (s .entry))) l m → GroupKept (sheetOf (now (s .entry))) (now (included .entry)) l) ⌝ }
 {
-    if m == 65535 {
-        return group_kept(s, base, sets, included, l);
+    let n = number(s, OBJECTS, l, COMPLEMENT_LIST);
+    let e = at(included, l);
+    if n == 1 {
+        return pair_kept(s, sets, e, at(included, m));
     }
-    pair_kept(s, sets, at(included, l), at(included, m))
+    let first = field(s, OBJECTS, l, COMPLEMENT_LIST);
+    members_kept(s, base, sets, first, n, included, e)
 }
 
-// The groups of the first g leaders of a list, with their partners.
+// Whether a row says nothing against the group of its leader: the table has one number for both, or the group was asked for last.
+fn row_passes(included: &[u16], asked: u32, l: u16, m: u16) -> bool
+    ensures { λ r. ⌜ (r ≡ true → (getD (now (included .entry)) l 0 ≡ getD (now (included .entry)) m 0) ⊎ (l ≡ asked)) ⌝ }
+{
+    if at(included, l) == at(included, m) {
+        return true;
+    }
+    l as u32 == asked
+}
+
+// The groups of all leaders, by the g rows of two lists. A group is asked for only where the table has two numbers for a row.
 pub fn groups_kept(
     s: &[u8],
     base: u16,
@@ -123,44 +125,77 @@ pub fn groups_kept(
     g: u16,
     included: &[u16],
 ) -> bool
-    ensures { λ r. ⌜ (r ≡ true → base ≡ offset (sheetOf (now (s .entry))) references → sets ≡ offset (sheetOf (now (s .entry))) valueSets → LeadersIn (sheetOf (now (s .entry))) (now (list .entry)) (now (partners .entry)) g → (i : ℕ) → i < g → GroupKept (sheetOf (now (s .entry))) (now (included .entry)) (getD (now (list .entry)) i 0)) ⌝ }
+    ensures { λ r. ⌜ (r ≡ true → base ≡ offset (sheetOf (now (s .entry))) references → sets ≡ offset (sheetOf (now (s .entry))) valueSets → LeadersIn (sheetOf (now (s .entry))) (now (list .entry)) (now (partners .entry)) g → (l : ℕ) → l < count (sheetOf (now (s .entry))) objects → GroupKept (sheetOf (now (s .entry))) (now (included .entry)) l) ⌝ }
 {
-    let mut i: u16 = 0;
-    while i < g {
-        if !led_kept(s, base, sets, included, at(list, i), at(partners, i)) {
-            return false;
+    let n = g as usize;
+    if g == 65535 {
+        return false;
+    }
+    if list.len() < n {
+        return false;
+    }
+    if partners.len() < n {
+        return false;
+    }
+    let mut asked: u32 = 65536;
+    let mut i: usize = 0;
+    while i < n {
+        let l = list[i];
+        let m = partners[i];
+        if !row_passes(included, asked, l, m) {
+            if !group_kept(s, base, sets, included, l, m) {
+                return false;
+            }
+            asked = l as u32;
         }
         i += 1;
     }
     true
 }
 
-// The one complement of a leader, 65535 where it has more.
-fn partner(s: &[u8], l: u16) -> u16
-    ensures { λ r. ⌜ Partner (sheetOf (now (s .entry))) l r ⌝ }
+// Adds a row to g rows, and tells how many there are: 65535 where there is no place for it.
+fn add_row(list: &mut [u16], partners: &mut [u16], g: u16, l: u16, m: u16) -> u16
+    ensures { λ r. ⌜ (length (now (list .exit)) ≡ length (now (list .entry))) × (length (now (partners .exit)) ≡ length (now (partners .entry))) × (r < 65535 → (r ≡ g + 1) × RowAdded (now (list .entry)) (now (list .exit)) g l × RowAdded (now (partners .entry)) (now (partners .exit)) g m) ⌝ }
 {
-    if number(s, OBJECTS, l, COMPLEMENT_LIST) == 1 {
-        entry(s, OBJECTS, l, COMPLEMENT_LIST, 0)
-    } else {
-        65535
-    }
-}
-
-// Adds an object to a list of g leaders where it is one, and tells how many there are.
-fn add_leader(s: &[u8], list: &mut [u16], partners: &mut [u16], g: u16, l: u16) -> u16
-    requires { ⌜ g < 65535 ⌝ }
-    ensures { λ r. ⌜ (length (now (list .exit)) ≡ length (now (list .entry))) × (length (now (partners .exit)) ≡ length (now (partners .entry))) × (r ≤ g + 1) × (g < length (now (list .entry)) → g < length (now (partners .entry)) → Listed (sheetOf (now (s .entry))) (now (list .entry)) (now (partners .entry)) g l → Listed (sheetOf (now (s .entry))) (now (list .exit)) (now (partners .exit)) r (l + 1)) ⌝ }
-{
-    if !leader(s, l) {
+    let i = g as usize;
+    if g == 65535 {
         return g;
     }
-    let m = partner(s, l);
-    mark_at(list, g as u32, Mark::Store(l));
-    mark_at(partners, g as u32, Mark::Store(m));
+    if list.len() <= i {
+        return 65535;
+    }
+    if partners.len() <= i {
+        return 65535;
+    }
+    list[i] = l;
+    partners[i] = m;
     g + 1
 }
 
-// Lists the leaders and their partners, and tells how many there are.
+// Adds a row for each complement of an object, as long as there is place.
+fn add_rows(s: &[u8], list: &mut [u16], partners: &mut [u16], before: u16, l: u16) -> u16
+    ensures { λ r. ⌜ (length (now (list .exit)) ≡ length (now (list .entry))) × (length (now (partners .exit)) ≡ length (now (partners .entry))) × (r < 65535 → (before < 65535) × (Listed (sheetOf (now (s .entry))) (now (list .entry)) (now (partners .entry)) before l 0 → Listed (sheetOf (now (s .entry))) (now (list .exit)) (now (partners .exit)) r (l + 1) 0)) ⌝ }
+{
+    let n = number(s, OBJECTS, l, COMPLEMENT_LIST);
+    let mut g: u16 = before;
+    let mut j: u16 = 0;
+    while j < n {
+        g = add_row(
+            list,
+            partners,
+            g,
+            l,
+            entry(s, OBJECTS, l, COMPLEMENT_LIST, j),
+        );
+        if g == 65535 {
+            return g;
+        }
+        j += 1;
+    }
+    g
+}
+
+// Lists each leader with each of its complements, and tells how many rows there are: 65535 where there is no place for them.
 pub fn list_leaders(s: &[u8], list: &mut [u16], partners: &mut [u16]) -> u16
     ensures { λ r. ⌜ (length (now (list .exit)) ≡ length (now (list .entry))) × (length (now (partners .exit)) ≡ length (now (partners .entry))) × (count (sheetOf (now (s .entry))) objects ≤ length (now (list .entry)) → count (sheetOf (now (s .entry))) objects ≤ length (now (partners .entry)) → LeadersIn (sheetOf (now (s .entry))) (now (list .exit)) (now (partners .exit)) r) ⌝ }
 {
@@ -168,7 +203,7 @@ pub fn list_leaders(s: &[u8], list: &mut [u16], partners: &mut [u16]) -> u16
     let mut g: u16 = 0;
     let mut l: u16 = 0;
     while l < n {
-        g = add_leader(s, list, partners, g, l);
+        g = add_rows(s, list, partners, g, l);
         l += 1;
     }
     g

@@ -121,7 +121,7 @@ fn same_lists(s: &[u8], p: u16) -> bool
     same_list(s, p, SET_LIST)
 }
 
-// One programme, with the lists of the leaders and their partners. What stands in the table at the start does not matter.
+// One programme, with the rows of the groups in two lists. What stands in the table at the start does not matter.
 fn programme_passes(
     s: &[u8],
     base: u16,

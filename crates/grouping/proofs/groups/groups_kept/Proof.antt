@@ -1,39 +1,62 @@
--- The groups passed are kept. Assumes nothing.
+-- The rows passed are kept. Assumes nothing.
 use borrow.Author.Needs.{needs}
 use Prim.Native.Nat.{ℕ, _-_, _≤_, _<_}
-use mathlib.Core.Path.{_≡_, sym}
+use mathlib.Core.Path.{_≡_, sym, subst}
 use mathlib.Core.Bool.{true≢false}
+use mathlib.Core.Logic.{⊎-elim, inl, inr}
 use native.Mathlib.Omega.{arith}
+use borrow.Author.Count.{below-more}
 use borrow.Author.Tests.{not-false}
 use lib.ListN.{getD}
-use borrow.Author.Count.{below-more}
 use Rattle.sheet.specs.Words.{sheetOf}
 use Rattle.sheet.specs.Layout.{offset}
 use Rattle.sheet.specs.Fields.{references, valueSets}
-use Rattle.grouping.specs.Groups.{GroupKept, LeadersIn}
+use Rattle.grouping.specs.Groups.{GroupKept, LeadersIn, RowKept}
+use Rattle.grouping.proofs.RowLaws.{rows-kept}
 use Rattle.grouping.proofs.groups.groups_kept.Statement.{statement}
 use Rattle.grouping.proofs.groups.groups_kept.Tie as tie
 
 abbrev Inv-loop : tie.InvT-loop
-Inv-loop s base sets list partners g included i₀ i = (i ≤ g) × (base ≡ offset (sheetOf s) references → sets ≡ offset (sheetOf s) valueSets → LeadersIn (sheetOf s) list partners g → (j : ℕ) → j < i → GroupKept (sheetOf s) included (getD list j 0))
+Inv-loop s base sets list partners g included n asked₀ i₀ asked i = (i ≤ n) × (base ≡ offset (sheetOf s) references → sets ≡ offset (sheetOf s) valueSets → LeadersIn (sheetOf s) list partners g → (asked < 65536 → GroupKept (sheetOf s) included asked) × ((j : ℕ) → j < i → RowKept (sheetOf s) included (getD list j 0) (getD partners j 0)))
 
 abbrev μ-loop : tie.MeasureT-loop
-μ-loop s base sets list partners g included i₀ i = g - i
-
-loop-holds : tie.Need-loop-holds Inv-loop μ-loop
-loop-holds c = (search needs, λ a b listed i l. absurd (omega arith))
-
-at-requires : tie.Need-at-requires Inv-loop μ-loop
-at-requires c κs = search needs
-
-at-requires-2 : tie.Need-at-requires-2 Inv-loop μ-loop
-at-requires-2 c κs = search needs
-
-led-kept-requires : tie.Need-led-kept-requires Inv-loop μ-loop
-led-kept-requires c κs = search needs
+μ-loop s base sets list partners g included n asked₀ i₀ asked i = n - i
 
 returns : tie.Need-returns Inv-loop μ-loop
 returns c = λ e. absurd (true≢false (sym e))
+
+returns-2 : tie.Need-returns-2 Inv-loop μ-loop
+returns-2 c = λ e. absurd (true≢false (sym e))
+
+returns-3 : tie.Need-returns-3 Inv-loop μ-loop
+returns-3 c = λ e. absurd (true≢false (sym e))
+
+loop-holds : tie.Need-loop-holds Inv-loop μ-loop
+loop-holds c = (search needs, λ a b listed. (λ few. absurd (omega arith), λ j h. absurd (omega arith)))
+
+mul-l : tie.Need-mul-l Inv-loop μ-loop
+mul-l c = search needs
+
+shared-slice-read-l : tie.Need-shared-slice-read-l Inv-loop μ-loop
+shared-slice-read-l c = search needs
+
+mul-m : tie.Need-mul-m Inv-loop μ-loop
+mul-m c = search needs
+
+shared-slice-read-m : tie.Need-shared-slice-read-m Inv-loop μ-loop
+shared-slice-read-m c = search needs
+
+row-passes-requires : tie.Need-row-passes-requires Inv-loop μ-loop
+row-passes-requires c κs = search needs
+
+group-kept-requires : tie.Need-group-kept-requires Inv-loop μ-loop
+group-kept-requires c κs = search needs
+
+returns-4 : tie.Need-returns-4 Inv-loop μ-loop
+returns-4 c = λ e. absurd (true≢false (sym e))
+
+cast-asked : tie.Need-cast-asked Inv-loop μ-loop
+cast-asked c = omega (arith, c .before .before .before .before .before .shared-slice-known5 .given (c .before .before .before .before .before .before .before .loop .i))
 
 add-i : tie.Need-add-i Inv-loop μ-loop
 add-i c = search needs
@@ -42,10 +65,29 @@ loop-less : tie.Need-loop-less Inv-loop μ-loop
 loop-less c = search needs
 
 loop-again : tie.Need-loop-again Inv-loop μ-loop
-loop-again c = (search needs, λ a b listed. below-more (λ j. GroupKept (sheetOf (c .before .before .before .before .before .before .before .before .before .before .args .s .now)) (c .before .before .before .before .before .before .before .before .before .before .args .included .now) (getD (c .before .before .before .before .before .before .before .before .before .before .args .list .now) j 0)) (c .before .before .before .before .before .loop .i) (c .before .before .before .before .before .loop .inv .1 a b listed) (rw (sym (c .before .before .before .at .ensures)) (c .before .led-kept .ensures (not-false _ (c .if1 .left)) a b (rw (c .before .before .before .at .ensures, c .before .before .at2 .ensures) (listed .1 (c .before .before .before .before .before .loop .i) (c .before .before .before .before .loop-test .taken))))))
+loop-again c =
+    let i : ℕ = c .before .before .before .before .before .loop .i in
+    let l : ℕ = getD (c .before .before .before .before .before .before .before .before .before .before .before .before .before .args .list .now) i 0 in
+    let P : ℕ → Type 0 = λ j. RowKept (sheetOf (c .before .before .before .before .before .before .before .before .before .before .before .before .before .args .s .now)) (c .before .before .before .before .before .before .before .before .before .before .before .before .before .args .included .now) (getD (c .before .before .before .before .before .before .before .before .before .before .before .before .before .args .list .now) j 0) (getD (c .before .before .before .before .before .before .before .before .before .before .before .before .before .args .partners .now) j 0) in
+    let few : c .before .before .before .before .before .before .before .before .before .before .before .before .before .args .g < 65535 = omega arith in (
+      search needs,
+      λ a b listed.
+          let so = c .before .before .before .before .before .loop .inv .1 a b listed in
+          ⊎-elim
+          (λ w.
+          let kept = w .1 .ensures (not-false _ (w .2 .left)) a b (listed few .2 i (c .before .before .before .before .loop-test .taken)) in
+          (subst (λ (x : ℕ). x < 65536 → GroupKept (sheetOf (c .before .before .before .before .before .before .before .before .before .before .before .before .before .args .s .now)) (c .before .before .before .before .before .before .before .before .before .before .before .before .before .args .included .now) x) (sym (w .3)) (λ small. kept), below-more P i (so .1) (inr kept)))
+          (λ v. (
+            subst (λ (x : ℕ). x < 65536 → GroupKept (sheetOf (c .before .before .before .before .before .before .before .before .before .before .before .before .before .args .s .now)) (c .before .before .before .before .before .before .before .before .before .before .before .before .before .args .included .now) x) (sym (v .1)) (so .0),
+            below-more P i (so .1) (⊎-elim (λ q. inl q)
+                (λ q. let z : l ≡ c .before .before .before .before .before .loop .asked = q in inr (subst (λ (x : ℕ). GroupKept (sheetOf (c .before .before .before .before .before .before .before .before .before .before .before .before .before .args .s .now)) (c .before .before .before .before .before .before .before .before .before .before .before .before .before .args .included .now) x) (sym z) (so .0 (omega (arith, z, c .before .before .before .shared-slice-known5 .given i)))))
+                (c .before .row-passes .ensures (not-false _ (v .0 .left)))),
+          ))
+          (c .if4 .came),
+    )
 
-returns-2 : tie.Need-returns-2 Inv-loop μ-loop
-returns-2 c = let z : c .before .loop .i ≡ c .before .before .before .before .before .before .args .g = omega (arith, c .before .loop .inv .0, c .loop-test .left) in λ e a b listed. rw z at (c .before .loop .inv .1 a b listed)
+returns-5 : tie.Need-returns-5 Inv-loop μ-loop
+returns-5 c = let z : c .before .loop .i ≡ c .before .before .before .before .before .before .before .before .before .args .g = omega (arith, c .before .loop .inv .0, c .loop-test .left) in λ e a b listed. rows-kept (sheetOf (c .before .before .before .before .before .before .before .before .before .args .s .now)) (c .before .before .before .before .before .before .before .before .before .args .included .now) (c .before .before .before .before .before .before .before .before .before .args .list .now) (c .before .before .before .before .before .before .before .before .before .args .partners .now) (c .before .before .before .before .before .before .before .before .before .args .g) (omega arith) listed (rw z at (c .before .loop .inv .1 a b listed .1))
 
 pub groups-kept-spec : {M : Type 1} → statement M
 groups-kept-spec =
@@ -53,12 +95,19 @@ groups-kept-spec =
     (tie.spec
     Inv-loop
     μ-loop
-    loop-holds
-    at-requires
-    at-requires-2
-    led-kept-requires
     returns
+    returns-2
+    returns-3
+    loop-holds
+    mul-l
+    shared-slice-read-l
+    mul-m
+    shared-slice-read-m
+    row-passes-requires
+    group-kept-requires
+    returns-4
+    cast-asked
     add-i
     loop-less
     loop-again
-    returns-2)
+    returns-5)

@@ -34,7 +34,7 @@ same-length-2 : tie.Need-same-length-2
 same-length-2 c = c .before .before .before .before .before .enter-objects .ensures .0 ∙ c .before .before .before .before .before .before .before .before .before .clear .ensures .0
 
 returns-3 : tie.Need-returns-3
-returns-3 c = (c .before .before .before .before .before .enter-objects .ensures .0 ∙ c .before .before .before .before .before .before .before .before .before .clear .ensures .0, λ e a b d listed before. groups-kept-21 (sheetOf (c .before .before .before .before .before .before .before .before .before .before .before .before .before .before .before .before .before .args .s .now)) (c .before .before .before .before .before .before .before .before .before .before .before .before .before .before .before .before .before .args .p) (c .before .before .before .before .before .before .before .before .before .clear .last .0) (c .before .before .before .before .before .enter-objects .last .1 .1 .1 .1 .0) (c .before .before .before .before .before .before .before .before .before .clear .ensures .1) (c .before .before .before .before .before .enter-objects .ensures .0) (c .before .before .before .before .before .enter-objects .ensures .1 (not-false _ (c .before .before .if2 .left)) a b) (c .before .before .before .before .before .before .before .before .before .before .before .before .before .before .before .before .before .args .list .now) (c .before .before .before .before .before .before .before .before .before .before .before .before .before .before .before .before .before .args .partners .now) (c .before .before .before .before .before .before .before .before .before .before .before .before .before .before .before .before .before .args .g) listed (c .groups-kept .ensures e a d listed))
+returns-3 c = (c .before .before .before .before .before .enter-objects .ensures .0 ∙ c .before .before .before .before .before .before .before .before .before .clear .ensures .0, λ e a b d listed before. groups-kept-21 (sheetOf (c .before .before .before .before .before .before .before .before .before .before .before .before .before .before .before .before .before .args .s .now)) (c .before .before .before .before .before .before .before .before .before .before .before .before .before .before .before .before .before .args .p) (c .before .before .before .before .before .before .before .before .before .clear .last .0) (c .before .before .before .before .before .enter-objects .last .1 .1 .1 .1 .0) (c .before .before .before .before .before .before .before .before .before .clear .ensures .1) (c .before .before .before .before .before .enter-objects .ensures .0) (c .before .before .before .before .before .enter-objects .ensures .1 (not-false _ (c .before .before .if2 .left)) a b) (c .groups-kept .ensures e a d listed))
 
 pub keeps-groups-spec : {M : Type 1} → statement M
 keeps-groups-spec =

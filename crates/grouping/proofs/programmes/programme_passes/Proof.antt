@@ -42,7 +42,7 @@ same-length-3 : tie.Need-same-length-3
 same-length-3 c = c .before .before .before .before .before .enter-sets .ensures .0 ∙ c .before .before .before .before .before .before .before .before .before .before .before .enter-objects .ensures .0 ∙ c .before .before .before .before .before .before .before .before .before .before .before .before .before .before .before .clear .ensures .0
 
 returns-3 : tie.Need-returns-3
-returns-3 c = (c .before .before .before .before .before .enter-sets .ensures .0 ∙ c .before .before .before .before .before .before .before .before .before .before .before .enter-objects .ensures .0 ∙ c .before .before .before .before .before .before .before .before .before .before .before .before .before .before .before .clear .ensures .0, λ e a b d owns likes listed full spans. let sets = c .before .before .before .before .before .enter-sets .ensures .1 (not-false _ (c .before .before .if2 .left)) a owns in programme-kept (sheetOf (c .before .before .before .before .before .before .before .before .before .before .before .before .before .before .before .before .before .before .before .before .before .before .before .args .s .now)) (c .before .before .before .before .before .before .before .before .before .before .before .before .before .before .before .before .before .before .before .before .before .before .before .args .p) (c .before .before .before .before .before .before .before .before .before .before .before .before .before .before .before .clear .last .0) (c .before .before .before .before .before .before .before .before .before .before .before .enter-objects .last .1 .1 .1 .1 .0) (c .before .before .before .before .before .enter-sets .last .1 .1 .1 .1 .1 .1 .0) (λ j. representative (c .before .before .before .before .before .before .before .before .before .before .before .before .before .before .before .before .before .before .before .before .before .before .before .args .alike .now) (namedSet (sheetOf (c .before .before .before .before .before .before .before .before .before .before .before .before .before .before .before .before .before .before .before .before .before .before .before .args .s .now)) (c .before .before .before .before .before .before .before .before .before .before .before .before .before .before .before .before .before .before .before .before .before .before .before .args .p) j)) (c .before .before .before .before .before .before .before .before .before .before .before .before .before .before .before .clear .ensures .1) (c .before .before .before .before .before .before .before .before .before .before .before .enter-objects .ensures .0) (c .before .before .before .before .before .enter-sets .ensures .0) (c .before .before .before .before .before .before .before .before .before .before .before .enter-objects .ensures .1 (not-false _ (c .before .before .before .before .before .before .before .before .if1 .left)) a b) (sets .0) (c .before .before .before .before .before .before .before .before .before .before .before .before .before .before .before .clear .ensures .0 ∙ full) spans (λ j l. omega (arith, sets .1 j l, c .before .before .before .before .before .before .before .count .ensures)) (λ j l. likes (namedSet (sheetOf (c .before .before .before .before .before .before .before .before .before .before .before .before .before .before .before .before .before .before .before .before .before .before .before .args .s .now)) (c .before .before .before .before .before .before .before .before .before .before .before .before .before .before .before .before .before .before .before .before .before .before .before .args .p) j)) (c .before .before .before .before .before .before .before .before .before .before .before .before .before .before .before .before .before .before .before .before .before .before .before .args .list .now) (c .before .before .before .before .before .before .before .before .before .before .before .before .before .before .before .before .before .before .before .before .before .before .before .args .partners .now) (c .before .before .before .before .before .before .before .before .before .before .before .before .before .before .before .before .before .before .before .before .before .before .before .args .g) listed (c .groups-kept .ensures e a d listed))
+returns-3 c = (c .before .before .before .before .before .enter-sets .ensures .0 ∙ c .before .before .before .before .before .before .before .before .before .before .before .enter-objects .ensures .0 ∙ c .before .before .before .before .before .before .before .before .before .before .before .before .before .before .before .clear .ensures .0, λ e a b d owns likes listed full spans. let sets = c .before .before .before .before .before .enter-sets .ensures .1 (not-false _ (c .before .before .if2 .left)) a owns in programme-kept (sheetOf (c .before .before .before .before .before .before .before .before .before .before .before .before .before .before .before .before .before .before .before .before .before .before .before .args .s .now)) (c .before .before .before .before .before .before .before .before .before .before .before .before .before .before .before .before .before .before .before .before .before .before .before .args .p) (c .before .before .before .before .before .before .before .before .before .before .before .before .before .before .before .clear .last .0) (c .before .before .before .before .before .before .before .before .before .before .before .enter-objects .last .1 .1 .1 .1 .0) (c .before .before .before .before .before .enter-sets .last .1 .1 .1 .1 .1 .1 .0) (λ j. representative (c .before .before .before .before .before .before .before .before .before .before .before .before .before .before .before .before .before .before .before .before .before .before .before .args .alike .now) (namedSet (sheetOf (c .before .before .before .before .before .before .before .before .before .before .before .before .before .before .before .before .before .before .before .before .before .before .before .args .s .now)) (c .before .before .before .before .before .before .before .before .before .before .before .before .before .before .before .before .before .before .before .before .before .before .before .args .p) j)) (c .before .before .before .before .before .before .before .before .before .before .before .before .before .before .before .clear .ensures .1) (c .before .before .before .before .before .before .before .before .before .before .before .enter-objects .ensures .0) (c .before .before .before .before .before .enter-sets .ensures .0) (c .before .before .before .before .before .before .before .before .before .before .before .enter-objects .ensures .1 (not-false _ (c .before .before .before .before .before .before .before .before .if1 .left)) a b) (sets .0) (c .before .before .before .before .before .before .before .before .before .before .before .before .before .before .before .clear .ensures .0 ∙ full) spans (λ j l. omega (arith, sets .1 j l, c .before .before .before .before .before .before .before .count .ensures)) (λ j l. likes (namedSet (sheetOf (c .before .before .before .before .before .before .before .before .before .before .before .before .before .before .before .before .before .before .before .before .before .before .before .args .s .now)) (c .before .before .before .before .before .before .before .before .before .before .before .before .before .before .before .before .before .before .before .before .before .before .before .args .p) j)) (c .groups-kept .ensures e a d listed))
 
 pub programme-passes-spec : {M : Type 1} → statement M
 programme-passes-spec =
