@@ -12,6 +12,7 @@ use crate::subjects::subjects;
 use profile::Verdict;
 use profile::places::place_at;
 use screen::screening::passes;
+use screen::screening::small_passes;
 use sheet::fields::CHILD_LIST;
 use sheet::fields::COMPLEMENT_LIST;
 use sheet::fields::CONTENT_LABELS;
@@ -223,12 +224,29 @@ fn first_broken(sheet: &[u8]) -> Verdict
     Verdict::Accepted
 }
 
+// The verdict by the screening with tables of a size, or else by the search. It is called from several places, so that the compiler
+// keeps it apart and a small sheet does not pay for its tables (docs/SPEED.md).
+fn sized_verdict(sheet: &[u8], size: u8) -> Verdict
+    ensures { λ r. ⌜ r ≡ checked (now (sheet .entry)) ⌝ }
+{
+    if passes(sheet, size) {
+        return Verdict::Accepted;
+    }
+    first_broken(sheet)
+}
+
 // The verdict on lent bytes: any length, any bytes. Most accepted sheets pass the screening; for the others the search decides.
 pub fn check(sheet: &[u8]) -> Verdict
     ensures { λ r. ⌜ r ≡ checked (now (sheet .entry)) ⌝ }
 {
-    if passes(sheet) {
-        return Verdict::Accepted;
+    if sheet.len() < 1024 {
+        if small_passes(sheet) {
+            return Verdict::Accepted;
+        }
+        return sized_verdict(sheet, 0);
     }
-    first_broken(sheet)
+    if sheet.len() < 16384 {
+        return sized_verdict(sheet, 1);
+    }
+    sized_verdict(sheet, 2)
 }

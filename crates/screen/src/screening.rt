@@ -106,7 +106,7 @@ fn screened(
 }
 
 // A sheet under 1,024 bytes has at most 30 objects, 99 contents and 70 value sets.
-fn small_passes(s: &[u8]) -> bool
+pub fn small_passes(s: &[u8]) -> bool
     ensures { λ r. ⌜ (r ≡ true → verdict (sheetOf (now (s .entry))) ≡ Accepted) ⌝ }
 {
     let mut named: [u16; 32] = [0; 32];
@@ -168,15 +168,14 @@ fn large_passes(s: &[u8]) -> bool
     )
 }
 
-// Whether the sheet can be seen to be accepted.
-pub fn passes(s: &[u8]) -> bool
+// Whether the sheet can be seen to be accepted, with the tables of a size: 1 for one under 16,384 bytes, 2 for any. With another number
+// it is not screened.
+pub fn passes(s: &[u8], size: u8) -> bool
     ensures { λ r. ⌜ (r ≡ true → verdict (sheetOf (now (s .entry))) ≡ Accepted) ⌝ }
 {
-    if s.len() < 1024 {
-        return small_passes(s);
+    match size {
+        1 => middling_passes(s),
+        2 => large_passes(s),
+        _ => false,
     }
-    if s.len() < 16384 {
-        return middling_passes(s);
-    }
-    large_passes(s)
 }
