@@ -31,9 +31,6 @@ fn set_place(s: &[u8], p: u16, o: u16) -> u16
     ensures { λ r. ⌜ r ≡ setPlace (sheetOf (now (s .entry))) p o ⌝ }
 {
     let n = number(s, PROGRAMMES, p, SET_LIST);
-    if n == 0 {
-        return 0;
-    }
     let from = field(s, OBJECTS, o, SET_SPAN);
     let many = number(s, OBJECTS, o, SET_SPAN);
     let to = from as u32 + many as u32;
@@ -49,12 +46,16 @@ fn set_place(s: &[u8], p: u16, o: u16) -> u16
     n
 }
 
-// The set that the programme names for the object.
+// The set that the programme names for the object. Many programmes name none.
 pub fn named_for(s: &[u8], p: u16, o: u16) -> Named
     ensures { λ r. ⌜ r ≡ namedFor (sheetOf (now (s .entry))) p o ⌝ }
 {
+    let n = number(s, PROGRAMMES, p, SET_LIST);
+    if n == 0 {
+        return Named { any: false, set: 0 };
+    }
     let i = set_place(s, p, o);
-    if i < number(s, PROGRAMMES, p, SET_LIST) {
+    if i < n {
         Named {
             any: true,
             set: named_set(s, p, i),

@@ -4,7 +4,7 @@ use mathlib.Core.Path.{_≡_, sym, ap, _∙_}
 use mathlib.Core.Bool.{false}
 use native.Mathlib.Omega.{arith}
 use borrow.Author.Count.{below-none, below-more}
-use Rattle.profile.specs.Counting.{lowest, lowestFrom}
+use Rattle.profile.specs.Counting.{lowest}
 use Rattle.profile.specs.Relations.{hasSet, namedSet}
 use Rattle.profile.proofs.CountingLaws.{lowest-at, lowest-none}
 use Rattle.sheet.specs.Words.{sheetOf}
@@ -22,10 +22,6 @@ abbrev μ-loop : tie.MeasureT-loop
 
 number-requires : tie.Need-number-requires Inv-loop μ-loop
 number-requires c κs = search needs
-
-returns : tie.Need-returns Inv-loop μ-loop
-unfolding setPlace lowest lowestFrom
-returns c = ap (lowest (λ i. hasSet (sheetOf (c .before .before .before .args .s .now)) (c .before .before .before .args .o) (namedSet (sheetOf (c .before .before .before .args .s .now)) (c .before .before .before .args .p) i))) (sym (c .if1 .taken) ∙ c .before .number .ensures)
 
 field-requires : tie.Need-field-requires Inv-loop μ-loop
 field-requires c κs = search needs
@@ -60,12 +56,12 @@ add-reference c = search needs
 reference-requires : tie.Need-reference-requires Inv-loop μ-loop
 reference-requires c κs = search needs
 
-cast-if2 : tie.Need-cast-if2 Inv-loop μ-loop
-cast-if2 c = search needs
+cast-if1 : tie.Need-cast-if1 Inv-loop μ-loop
+cast-if1 c = search needs
 
-returns-2 : tie.Need-returns-2 Inv-loop μ-loop
+returns : tie.Need-returns Inv-loop μ-loop
 unfolding setPlace
-returns-2 c = sym (lowest-at _ _ _ (search needs) (c .before .before .before .loop .inv .1) (sym (place-has (sheetOf (c .before .before .before .before .before .before .before .before .before .before .args .s .now)) (c .before .before .before .before .before .before .before .before .before .before .args .p) (c .before .before .before .before .before .before .before .before .before .before .args .o) (c .before .before .before .loop .i) _ _ _ _ (c .before .before .before .before .before .before .field .ensures) (c .before .before .before .before .before .number2 .ensures) (c .before .before .before .before .field2 .ensures) (c .before .reference .ensures)) ∙ c .if2 .taken)) ∙ ap (lowest _) (c .before .before .before .before .before .before .before .before .number .ensures)
+returns c = sym (lowest-at _ _ _ (search needs) (c .before .before .before .loop .inv .1) (sym (place-has (sheetOf (c .before .before .before .before .before .before .before .before .before .args .s .now)) (c .before .before .before .before .before .before .before .before .before .args .p) (c .before .before .before .before .before .before .before .before .before .args .o) (c .before .before .before .loop .i) _ _ _ _ (c .before .before .before .before .before .before .field .ensures) (c .before .before .before .before .before .number2 .ensures) (c .before .before .before .before .field2 .ensures) (c .before .reference .ensures)) ∙ c .if1 .taken)) ∙ ap (lowest _) (c .before .before .before .before .before .before .before .number .ensures)
 
 add-i : tie.Need-add-i Inv-loop μ-loop
 add-i c = search needs
@@ -74,11 +70,11 @@ loop-less : tie.Need-loop-less Inv-loop μ-loop
 loop-less c = search needs
 
 loop-again : tie.Need-loop-again Inv-loop μ-loop
-loop-again c = (search needs, below-more _ _ (c .before .before .before .loop .inv .1) (sym (place-has (sheetOf (c .before .before .before .before .before .before .before .before .before .before .args .s .now)) (c .before .before .before .before .before .before .before .before .before .before .args .p) (c .before .before .before .before .before .before .before .before .before .before .args .o) (c .before .before .before .loop .i) _ _ _ _ (c .before .before .before .before .before .before .field .ensures) (c .before .before .before .before .before .number2 .ensures) (c .before .before .before .before .field2 .ensures) (c .before .reference .ensures)) ∙ c .if2 .left))
+loop-again c = (search needs, below-more _ _ (c .before .before .before .loop .inv .1) (sym (place-has (sheetOf (c .before .before .before .before .before .before .before .before .before .args .s .now)) (c .before .before .before .before .before .before .before .before .before .args .p) (c .before .before .before .before .before .before .before .before .before .args .o) (c .before .before .before .loop .i) _ _ _ _ (c .before .before .before .before .before .before .field .ensures) (c .before .before .before .before .before .number2 .ensures) (c .before .before .before .before .field2 .ensures) (c .before .reference .ensures)) ∙ c .if1 .left))
 
-returns-3 : tie.Need-returns-3 Inv-loop μ-loop
+returns-2 : tie.Need-returns-2 Inv-loop μ-loop
 unfolding setPlace
-returns-3 c = sym (lowest-none _ _ (λ j l. c .before .loop .inv .1 j (omega arith))) ∙ ap (lowest _) (c .before .before .before .before .before .before .number .ensures)
+returns-2 c = sym (lowest-none _ _ (λ j l. c .before .loop .inv .1 j (omega arith))) ∙ ap (lowest _) (c .before .before .before .before .before .number .ensures)
 
 pub set-place-spec : {M : Type 1} → statement M
 set-place-spec =
@@ -87,7 +83,6 @@ set-place-spec =
     Inv-loop
     μ-loop
     number-requires
-    returns
     field-requires
     number-requires-2
     cast-to
@@ -99,9 +94,9 @@ set-place-spec =
     cast-reference-2
     add-reference
     reference-requires
-    cast-if2
-    returns-2
+    cast-if1
+    returns
     add-i
     loop-less
     loop-again
-    returns-3)
+    returns-2)
