@@ -1,7 +1,7 @@
 -- Rules 21 and 22 by the pass over the programmes. Assumes nothing.
 use Prim.Native.Nat.{ℕ, suc, _+_, _<_, _≤_}
 use mathlib.Core.Path.{_≡_, refl, sym, ap, _∙_}
-use mathlib.Core.Bool.{Bool, false, not, true, _&&_}
+use mathlib.Core.Bool.{Bool, false, not, true, true≢false, _&&_}
 use mathlib.Core.List.{List}
 use borrow.Author.Tests.{eq-eqb, eqb-false, eqb-true}
 use native.Mathlib.Omega.{arith}
@@ -10,15 +10,17 @@ use lib.ListN.{length, getD}
 use Rattle.sheet.specs.Words.{Sheet}
 use Rattle.sheet.specs.Layout.{count, number}
 use Rattle.sheet.specs.Fields.{complementList, programmes, objects, valueSets}
-use Rattle.profile.specs.Counting.{howMany, lowest}
+use Rattle.profile.specs.Counting.{any, howMany}
 use Rattle.profile.specs.Relations.{hasSet, included, includes, leader, member, members, whollyIncluded}
-use Rattle.profile.specs.Rules.{rule11, rule21, rule22}
-use Rattle.profile.specs.Verdict.{breaks, rules}
-use Rattle.profile.proofs.CountingLaws.{howMany-le, lowest-none}
+use Rattle.profile.specs.Rules.{rule11, rule19, rule21, rule22}
+use Rattle.profile.specs.Verdict.{breaks, brokenRecord, brokenSection, ruleBroken, rules, sectionBroken, sectionCount, subjectKind, subjectTable, subjects}
+use Rattle.profile.proofs.CountingLaws.{finds, howMany-le}
+use Rattle.profile.proofs.GroupLaws.{any-witness}
 use Rattle.profile.proofs.SumLaws.{any-nowhere}
 use Rattle.tables.specs.Right.{Spanned, counted}
 use Rattle.tables.proofs.TableLaws.{counted-one}
-use Rattle.grouping.specs.Groups.{OneSpan}
+use Rattle.grouping.specs.Groups.{GroupsApart, OneSpan}
+use Rattle.checker.specs.Kept.{KeptBelow, Unbroken}
 
 -- each set is counted once
 pub sets-once : (s : Sheet) (t : List ℕ) → Spanned s t → ((v : ℕ) → v < count s valueSets → (v < length t) × (getD t v 0 ≡ 1)) → OneSpan s
@@ -28,13 +30,29 @@ sets-once s t right each =
     (λ v l. ap not (sym (counted-one (howMany (λ o. hasSet s o v) (count s objects))) ∙ eq-eqb (counted (howMany (λ o. hasSet s o v) (count s objects))) 1 (sym (right v (each v l .0)) ∙ each v l .1)))
 
 -- the rules by their numbers; they are about programmes only
-pub lowest-21 : (s : Sheet) (section n : ℕ) → lowest (λ k. rule21 s programmes k) n ≡ lowest (λ k. breaks s 21 section k) n
+pub unbroken-21 : (s : Sheet) (section k : ℕ) → ((p : ℕ) → p < k → rule21 s programmes p ≡ false) → Unbroken s 21 section k
 unfolding breaks rules rule21
-lowest-21 s section n = refl
+unbroken-21 s section k kept = kept
 
-pub lowest-22 : (s : Sheet) (section n : ℕ) → lowest (λ k. rule22 s programmes k) n ≡ lowest (λ k. breaks s 22 section k) n
+pub unbroken-22 : (s : Sheet) (section k : ℕ) → KeptBelow s k → Unbroken s 22 section k
 unfolding breaks rules rule22
-lowest-22 s section n = refl
+unbroken-22 s section k kept p l = kept p l .2 refl
+
+-- an object that breaks rule 19
+broken-19 : (s : Sheet) (k : ℕ) → k < count s objects → rule19 s objects k ≡ true → sectionBroken s 19 objects ≡ true
+unfolding sectionBroken brokenRecord subjects subjectKind subjectTable breaks rules
+broken-19 s k l e = finds (rule19 s objects) (count s objects) k l e
+
+-- where there is none, no two groups have a member in common
+pub groups-apart : (s : Sheet) → ruleBroken s 19 ≡ false → GroupsApart s
+unfolding ruleBroken brokenSection
+groups-apart s kept =
+    (elim (any (rule19 s objects) (count s objects)) as (λ b. any (rule19 s objects) (count s objects) ≡ b → b ≡ false) [
+      | true ↦ λ h.
+          let w = any-witness (rule19 s objects) (count s objects) h in
+          absurd (true≢false (sym (finds (sectionBroken s 19) sectionCount objects (omega arith) (broken-19 s (w .0) (w .1) (w .2))) ∙ kept))
+      | false ↦ λ h. refl
+    ]) refl
 
 -- a test that fails makes the whole fail
 and-nothing : (b : Bool) → (b && false) ≡ false
@@ -58,10 +76,6 @@ unfolding rule21 leader whollyIncluded included members
 pairs-kept s p few =
     any-nowhere (λ l. leader s l && not (eqb (included s p l) 0) && not (eqb (included s p l) 1) && not (whollyIncluded s p l)) (count s objects)
     (λ l h. one-or-all (number s objects l complementList) (included s p l) (few l h) (howMany-le (λ i. includes s p (member s l i)) (suc (number s objects l complementList))))
-
--- no programme breaks it
-pub none-split : (s : Sheet) (section n : ℕ) → ((l : ℕ) → l < count s objects → number s objects l complementList ≤ 1) → n ≡ lowest (λ k. breaks s 21 section k) n
-none-split s section n few = sym (lowest-none (λ k. rule21 s programmes k) n (λ k l. pairs-kept s k few)) ∙ lowest-21 s section n
 
 -- the objects passed
 pub each-more : (f : ℕ → ℕ) (i : ℕ) → ((k : ℕ) → k < i → f k ≤ 1) → f i ≤ 1 → (k : ℕ) → k < i + 1 → f k ≤ 1

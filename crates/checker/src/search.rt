@@ -1,8 +1,6 @@
 // The search for the first broken rule, "within one rule the lowest section, then the lowest record".
-use crate::groups::by_groups;
-use crate::groups::by_sets;
+use crate::groups::grouped_programmes;
 use crate::groups::kept_programmes;
-use crate::groups::sets_once;
 use crate::lent::fill_table;
 use crate::lent::first_table;
 use crate::lent::second_table;
@@ -29,13 +27,15 @@ ghost use Prim.Native.Nat.{_≤_};
 ghost use lib.ListN.{length};
 ghost use mathlib.Core.Path.{_≡_};
 ghost use Rattle.checker.specs.Checked.{checked, ruleVerdict};
-ghost use Rattle.checker.specs.Kept.{KeptBelow};
+ghost use Rattle.checker.specs.Kept.{KeptBelow, Unbroken};
 ghost use Rattle.checker.specs.Tables.{Right, firstTable, secondTable};
+ghost use Rattle.grouping.specs.Groups.{GroupsApart};
 ghost use Rattle.profile.specs.Counting.{lowest};
 ghost use Rattle.profile.specs.Verdict.{breaks};
 ghost use Rattle.sheet.specs.Words.{sheetOf};
 
-// The lowest of the first n records of a section that breaks a rule, or n, by the tables that the rule is lent.
+// The lowest of the first n records of a section that breaks a rule, or n, by the tables that the rule is lent, where those before `from`
+// keep it.
 fn broken_below(
     s: &[u8],
     first: &[u16],
@@ -43,11 +43,13 @@ fn broken_below(
     marks: &mut [u16],
     rule: u8,
     section: u8,
+    from: u16,
     n: u16,
 ) -> u16
+    requires { ⌜ Unbroken (sheetOf (now s)) rule section from ⌝ }
     ensures { λ r. ⌜ (length (now (marks .exit)) ≡ length (now (marks .entry))) × (Right (sheetOf (now (s .entry))) (firstTable rule section) (now (first .entry)) → Right (sheetOf (now (s .entry))) (secondTable rule section) (now (second .entry)) → r ≡ lowest (breaks (sheetOf (now (s .entry))) rule section) n) ⌝ }
 {
-    let mut k: u16 = 0;
+    let mut k: u16 = from;
     while k < n {
         if breaks(s, first, second, marks, rule, section, k) {
             return k;
@@ -64,19 +66,24 @@ fn plainly(s: &[u8], rule: u8, section: u8, n: u16) -> u16
     let none: [u16; 1] = [0];
     let mut marks: [u16; 1] = [0];
     let t = &none[..0];
-    broken_below(s, t, t, &mut marks[..0], rule, section, n)
+    broken_below(s, t, t, &mut marks[..0], rule, section, 0, n)
 }
 
-// With tables over the records of a section. No sheet has more contents, or objects, than a table has words.
-fn by_tables(s: &[u8], rule: u8, section: u8, n: u16) -> u16
+// With tables over the records of a section, where the records before `from` keep the rule. No sheet has more contents, or objects, than
+// a table has words.
+fn by_tables(s: &[u8], rule: u8, section: u8, from: u16, n: u16) -> u16
+    requires { ⌜ Unbroken (sheetOf (now s)) rule section from ⌝ }
     ensures { λ r. ⌜ r ≡ lowest (breaks (sheetOf (now (s .entry))) rule section) n ⌝ }
 {
+    if n <= from {
+        return n;
+    }
     let mut first: [u16; 6552] = [0; 6552];
     fill_table(s, first_table(rule, section), &mut first);
     let mut second: [u16; 2048] = [0; 2048];
     fill_table(s, second_table(rule, section), &mut second);
     let mut marks: [u16; 2048] = [0; 2048];
-    broken_below(s, &first, &second, &mut marks, rule, section, n)
+    broken_below(s, &first, &second, &mut marks, rule, section, from, n)
 }
 
 // How many entries the lists of a record have.
@@ -125,14 +132,14 @@ fn by_lists(s: &[u8], rule: u8, section: u8, n: u16) -> u16
     let mut second: [u16; 32768] = [0; 32768];
     fill_table(s, second_table(rule, section), &mut second);
     let mut marks: [u16; 1] = [0];
-    broken_below(s, &first, &second, &mut marks[..0], rule, section, n)
+    broken_below(s, &first, &second, &mut marks[..0], rule, section, 0, n)
 }
 
 // The lowest of n records of a section that breaks a rule, or n. A small sheet is searched without tables. Rules that go the same
 // way stand in several arms, so that the compiler keeps the functions with large tables apart (docs/SPEED.md). The programmes before
-// `kept` keep rules 21 and 22.
+// `kept` keep rules 21 and 22, and rule 21 comes where rule 19 is kept.
 fn lowest_broken(s: &[u8], rule: u8, section: u8, n: u16, kept: u16) -> u16
-    requires { ⌜ KeptBelow (sheetOf (now s)) kept ⌝ }
+    requires { ⌜ KeptBelow (sheetOf (now s)) kept × (rule ≡ 21 → GroupsApart (sheetOf (now s))) ⌝ }
     ensures { λ r. ⌜ r ≡ lowest (breaks (sheetOf (now (s .entry))) rule section) n ⌝ }
 {
     if (s.len() < 1024) | (n == 0) {
@@ -144,38 +151,25 @@ fn lowest_broken(s: &[u8], rule: u8, section: u8, n: u16, kept: u16) -> u16
             if (rule == 12) & (section == PROGRAMMES) {
                 return by_lists(s, rule, section, n);
             }
-            by_tables(s, rule, section, n)
+            by_tables(s, rule, section, 0, n)
         }
-        15 | 19 => by_tables(s, rule, section, n),
+        15 | 19 => by_tables(s, rule, section, 0, n),
         17 | 18 => {
             if section == OBJECTS {
                 return plainly(s, rule, section, n);
             }
-            by_tables(s, rule, section, n)
+            by_tables(s, rule, section, 0, n)
         }
-        21 => {
-            if 2048 < count(s, OBJECTS) {
-                return by_tables(s, rule, section, n);
-            }
-            by_groups(s, section, kept, n)
-        }
-        22 => {
-            if 2048 < count(s, OBJECTS) {
-                return by_tables(s, rule, section, n);
-            }
-            if !sets_once(s) {
-                return by_tables(s, rule, section, n);
-            }
-            by_sets(s, section, kept, n)
-        }
-        23 | 24 => by_tables(s, rule, section, n),
+        21 => by_tables(s, rule, section, grouped_programmes(s, kept), n),
+        22 => by_tables(s, rule, section, kept, n),
+        23 | 24 => by_tables(s, rule, section, 0, n),
         _ => plainly(s, rule, section, n),
     }
 }
 
 // The verdict by one rule alone.
 fn rule_verdict(s: &[u8], rule: u8, kept: u16) -> Verdict
-    requires { ⌜ KeptBelow (sheetOf (now s)) kept ⌝ }
+    requires { ⌜ KeptBelow (sheetOf (now s)) kept × (rule ≡ 21 → GroupsApart (sheetOf (now s))) ⌝ }
     ensures { λ r. ⌜ r ≡ ruleVerdict (sheetOf (now (s .entry))) rule ⌝ }
 {
     let mut row = subject_row(rule);
@@ -197,7 +191,7 @@ fn rule_verdict(s: &[u8], rule: u8, kept: u16) -> Verdict
 
 // How many programmes are known to keep rules 21 and 22, when rule i + 1 comes: before rule 21 one pass tells.
 fn kept_at(s: &[u8], i: u8, kept: u16) -> u16
-    requires { ⌜ KeptBelow (sheetOf (now s)) kept ⌝ }
+    requires { ⌜ KeptBelow (sheetOf (now s)) kept × (i ≡ 20 → GroupsApart (sheetOf (now s))) ⌝ }
     ensures { λ r. ⌜ KeptBelow (sheetOf (now (s .entry))) r ⌝ }
 {
     if i == 20 {

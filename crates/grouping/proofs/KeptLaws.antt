@@ -19,7 +19,7 @@ use Rattle.profile.proofs.CountingLaws.{any-none, any-howMany}
 use Rattle.profile.proofs.GroupLaws.{any-witness, own-leader, leader-lists, member-zero, member-at, no-leader}
 use Rattle.profile.proofs.SumLaws.{any-nowhere, howMany-eq, howMany-all}
 use Rattle.tables.specs.Marks.{Standing}
-use Rattle.grouping.specs.Groups.{Changed, GroupKept, Noted, OneSpan, ProgrammeKept, SameList, groupWhole, manyIn, objectAt, setsIn}
+use Rattle.grouping.specs.Groups.{Changed, Entered, GroupKept, Kept, Noted, OneSpan, SameList, groupWhole, manyIn, objectAt, setsIn}
 use Rattle.grouping.proofs.CountLaws.{Apart, any-eq, two-counted}
 use Rattle.grouping.proofs.MemberLaws.{one-owner}
 use Rattle.grouping.proofs.PassLaws.{past, sets-alike}
@@ -66,14 +66,12 @@ leader-inside s o m =
       | false ↦ λ e. rw (own-leader s o e) m
     ]) refl
 
-module _ (s : Sheet) (p : ℕ) (t₀ t₁ t₂ : List ℕ) (put : ℕ → ℕ) (noughts : Standing (λ x. 0) t₀) (long : length t₁ ≡ length t₀) (long₂ : length t₂ ≡ length t₁)
+-- what the table tells with the first m sets noted
+module _ (s : Sheet) (p : ℕ) (t₀ t₁ t₂ : List ℕ) (put : ℕ → ℕ) (m : ℕ) (noughts : Standing (λ x. 0) t₀) (long : length t₁ ≡ length t₀) (long₂ : length t₂ ≡ length t₁)
     (entered : Changed (objectAt s p) (number s programmes p contentList) 0 1 t₀ t₁)
-    (named : Noted (ownerAt s p) put (number s programmes p setList) t₁ t₂) where
+    (named : Noted (ownerAt s p) put m t₁ t₂) where
   abbrev n : ℕ
   n = number s programmes p contentList
-
-  abbrev m : ℕ
-  m = number s programmes p setList
 
   -- the owner of a named set is the object of a content
   owner-object : (j : ℕ) → j < m → any (λ i. eqb (objectAt s p i) (ownerAt s p j)) n ≡ true
@@ -136,200 +134,200 @@ module _ (s : Sheet) (p : ℕ) (t₀ t₁ t₂ : List ℕ) (put : ℕ → ℕ) (
       small true = refl
       small false = refl
 
-  module _ (full : length t₀ ≡ count s objects) (spans : OneSpan s) (inside : (j : ℕ) → j < number s programmes p setList → namedSet s p j < count s valueSets)
-      (same : (j : ℕ) → j < number s programmes p setList → setsDiffer s (put j) (namedSet s p j) ≡ false) (kept : (l : ℕ) → l < count s objects → GroupKept s t₂ l) where
-    -- contents of different objects are different
-    no-repeat : Apart (objectAt s p) n → repeats s programmes p contentList ≡ false
-    unfolding repeats twoOf objectAt
-    no-repeat apart =
-        any-nowhere (λ j. any (λ i. eqb (entry s programmes p contentList i) (entry s programmes p contentList j)) j) n
-        (λ j l. any-nowhere (λ i. eqb (entry s programmes p contentList i) (entry s programmes p contentList j)) j (pair j l))
-      where
-        pair : (j : ℕ) → j < n → (i : ℕ) → i < j → eqb (entry s programmes p contentList i) (entry s programmes p contentList j) ≡ false
-        pair j l i k =
-            (elim (eqb (entry s programmes p contentList i) (entry s programmes p contentList j)) as (λ b. eqb (entry s programmes p contentList i) (entry s programmes p contentList j) ≡ b → b ≡ false) [
-              | true ↦ λ q.
-                  let z : objectAt s p i ≡ objectAt s p j = ap (λ (c : ℕ). field s contents c contentObject) (eqb-true _ _ q) in
-                  absurd (true≢false (sym (eq-eqb (objectAt s p i) (objectAt s p j) z) ∙ any-none (λ i. eqb (objectAt s p i) (objectAt s p j)) j (apart j l) i k))
-              | false ↦ λ q. refl
-            ]) refl
-
-    included-counted : (l : ℕ) → included s p l ≡ manyIn s t₂ l
-    unfolding included manyIn
-    included-counted l = howMany-eq (λ i. includes s p (member s l i)) (λ i. not (eqb (getD t₂ (member s l i) 0) 0)) (members s l) (λ i k. tells-included (member s l i))
-
-    one-span : (v : ℕ) → v < count s valueSets → howMany (λ o. hasSet s o v) (count s objects) ≡ 1
-    unfolding rule11
-    one-span v l = eqb-true _ _ (not-false _ (any-none (rule11 s valueSets) (count s valueSets) spans v l))
-
-    names-owner : (o : ℕ) → o < count s objects → namesSet s p o ≡ any (λ j. eqb (ownerAt s p j) o) m
-    unfolding namesSet ownerAt
-    names-owner o k =
-        any-eq (λ j. hasSet s o (namedSet s p j)) (λ j. eqb (owner s (namedSet s p j)) o) m
-        (λ j l. one-owner s (namedSet s p j) o k (one-span (namedSet s p j) (inside j l)))
-
-    -- a wholly included group has two members or more
-    two : (l : ℕ) → leader s l ≡ true → whollyIncluded s p l ≡ true → 1 < included s p l
-    unfolding leader whollyIncluded members
-    two l h w = omega (arith, ltb-true 0 (number s objects l complementList) h, eqb-true (included s p l) (suc (number s objects l complementList)) w)
-
-    -- the owners of the named sets are included, and objects of the sheet
-    owners-included : (j : ℕ) → j < m → includes s p (ownerAt s p j) ≡ true
-    unfolding includes objectAt
-    owners-included j l = owner-object j l
-
-    owner-inside : (j : ℕ) → j < m → ownerAt s p j < count s objects
-    owner-inside j l = rw (sym full, sym long) (named .0 j l)
-
-    -- the members of a wholly included group are objects of the sheet
-    member-inside : (l k : ℕ) → whollyIncluded s p l ≡ true → k < members s l → member s l k < count s objects
-    unfolding whollyIncluded included includes objectAt
-    member-inside l k whole h =
-        let inc : any (λ i. eqb (objectAt s p i) (member s l k)) n ≡ true = howMany-all (λ i. includes s p (member s l i)) (members s l) (eqb-true _ _ whole) k h in
-        let w = any-witness (λ i. eqb (objectAt s p i) (member s l k)) n inc in
-        let z : objectAt s p (w .0) ≡ member s l k = eqb-true _ _ (w .2) in
-        rw (sym z, sym full) (entered .0 (w .0) (w .1))
-
-    sets-counted : (l : ℕ) → whollyIncluded s p l ≡ true → setsNamed s p l ≡ setsIn s t₂ l
-    unfolding setsNamed setsIn
-    sets-counted l whole =
-        howMany-eq (λ i. namesSet s p (member s l i)) (λ i. ltb 1 (getD t₂ (member s l i) 0)) (members s l)
-        (λ i r. names-owner (member s l i) (member-inside l i whole r) ∙ tells-named (member s l i))
-
-    keeps-21 : rule21 s programmes p ≡ false
-    unfolding rule21 whollyIncluded groupWhole
-    keeps-21 = any-nowhere (λ l. leader s l && not (eqb (included s p l) 0) && not (eqb (included s p l) 1) && not (eqb (included s p l) (members s l))) (count s objects) alone
-      where
-        alone : (l : ℕ) → l < count s objects → (leader s l && not (eqb (included s p l) 0) && not (eqb (included s p l) 1) && not (eqb (included s p l) (members s l))) ≡ false
-        alone l k =
-            (elim (leader s l) as (λ b. leader s l ≡ b → (b && not (eqb (included s p l) 0) && not (eqb (included s p l) 1) && not (eqb (included s p l) (members s l))) ≡ false) [
-              | true ↦ λ h. one-or-all (included s p l) (members s l) (eqb (setsIn s t₂ l) 0 || eqb (setsIn s t₂ l) (members s l)) (rw (included-counted l) (kept l k .0))
-              | false ↦ λ h. refl
-            ]) refl
-
-    -- sets for all or none of a wholly included group
-    abbrev partly : ℕ → Bool
-    partly l = leader s l && whollyIncluded s p l && not (eqb (setsNamed s p l) 0) && not (eqb (setsNamed s p l) (members s l))
-
-    none-partly : (l : ℕ) → l < count s objects → partly l ≡ false
-    unfolding groupWhole
-    none-partly l k =
-        (elim (leader s l) as (λ b. leader s l ≡ b → (b && whollyIncluded s p l && not (eqb (setsNamed s p l) 0) && not (eqb (setsNamed s p l) (members s l))) ≡ false) [
-          | true ↦ λ h. (elim (whollyIncluded s p l) as (λ b. whollyIncluded s p l ≡ b → (true && b && not (eqb (setsNamed s p l) 0) && not (eqb (setsNamed s p l) (members s l))) ≡ false) [
-            | true ↦ λ w. none-or-all (included s p l) (members s l) (setsNamed s p l) (two l h w) (rw (sets-counted l w, included-counted l) (kept l k .0))
-            | false ↦ λ w. refl
-          ]) refl
-          | false ↦ λ h. refl
+-- contents of different objects are different
+no-repeat : (s : Sheet) (p : ℕ) → Apart (objectAt s p) (number s programmes p contentList) → repeats s programmes p contentList ≡ false
+unfolding repeats twoOf objectAt
+no-repeat s p apart =
+    any-nowhere (λ j. any (λ i. eqb (entry s programmes p contentList i) (entry s programmes p contentList j)) j) (number s programmes p contentList)
+    (λ j l. any-nowhere (λ i. eqb (entry s programmes p contentList i) (entry s programmes p contentList j)) j (pair j l))
+  where
+    pair : (j : ℕ) → j < number s programmes p contentList → (i : ℕ) → i < j → eqb (entry s programmes p contentList i) (entry s programmes p contentList j) ≡ false
+    pair j l i k =
+        (elim (eqb (entry s programmes p contentList i) (entry s programmes p contentList j)) as (λ b. eqb (entry s programmes p contentList i) (entry s programmes p contentList j) ≡ b → b ≡ false) [
+          | true ↦ λ q.
+              let z : objectAt s p i ≡ objectAt s p j = ap (λ (c : ℕ). field s contents c contentObject) (eqb-true _ _ q) in
+              absurd (true≢false (sym (eq-eqb (objectAt s p i) (objectAt s p j) z) ∙ any-none (λ i. eqb (objectAt s p i) (objectAt s p j)) j (apart j l) i k))
+          | false ↦ λ q. refl
         ]) refl
 
-    -- two named sets in one group
-    module _ (i j : ℕ) (k : i < j) (l : j < m) (z : leaderOf s (ownerAt s p i) ≡ leaderOf s (ownerAt s p j)) where
-      abbrev u : ℕ
-      u = leaderOf s (ownerAt s p j)
-
-      -- they are of two objects
-      apart : ownerAt s p i ≡ ownerAt s p j → ⊥
-      apart q = true≢false (sym (eq-eqb (ownerAt s p i) (ownerAt s p j) q) ∙ any-none (λ x. eqb (ownerAt s p x) (ownerAt s p j)) j (named .2 j l) i k)
-
-      -- so the group has a leader
-      led : leader s u ≡ true
-      led =
-          (elim (leader s u) as (λ b. leader s u ≡ b → b ≡ true) [
-            | true ↦ λ e. refl
-            | false ↦ λ e. absurd (apart (sym (no-leader s (ownerAt s p i) (ap (leader s) z ∙ e)) ∙ z ∙ no-leader s (ownerAt s p j) e))
-          ]) refl
-
-      -- the member that a named set is of
-      has : (x : ℕ) → x < m → (k : ℕ) → member s u k ≡ ownerAt s p x → getD t₂ (member s u k) 0 ≡ put x + 2
-      has x h k e = ap (λ (y : ℕ). getD t₂ y 0) e ∙ named .3 x h
-
-      pub alike : setsDiffer s (namedSet s p i) (namedSet s p j) ≡ false
-      unfolding groupWhole manyIn setsIn
-      alike =
-          let a = member-at s (ownerAt s p i) u z led in
-          let b = member-at s (ownerAt s p j) u refl led in
-          let va : getD t₂ (member s u (a .0)) 0 ≡ put i + 2 = has i (omega arith) (a .0) (a .2) in
-          let vb : getD t₂ (member s u (b .0)) 0 ≡ put j + 2 = has j l (b .0) (b .2) in
-          let whole = kept u (leader-inside s (ownerAt s p j) (owner-inside j l)) in
-          let other : a .0 ≡ b .0 → ⊥ = λ q. apart (sym (a .2) ∙ ap (member s u) q ∙ b .2) in
-          let ia : not (eqb (getD t₂ (member s u (a .0)) 0) 0) ≡ true = ap not (ne-eqb (getD t₂ (member s u (a .0)) 0) 0 (λ q. let y : getD t₂ (member s u (a .0)) 0 ≡ 0 = q in absurd (omega (arith, va)))) in
-          let ib : not (eqb (getD t₂ (member s u (b .0)) 0) 0) ≡ true = ap not (ne-eqb (getD t₂ (member s u (b .0)) 0) 0 (λ q. let y : getD t₂ (member s u (b .0)) 0 ≡ 0 = q in absurd (omega (arith, vb)))) in
-          let many : 1 < howMany (λ x. not (eqb (getD t₂ (member s u x) 0) 0)) (members s u) = two-counted (λ x. not (eqb (getD t₂ (member s u x) 0) 0)) (members s u) (a .0) (b .0) other (a .1) (b .1) ia ib in
-          let sa : ltb 1 (getD t₂ (member s u (a .0)) 0) ≡ true = lt-ltb 1 (getD t₂ (member s u (a .0)) 0) (omega (arith, va)) in
-          let sb : ltb 1 (getD t₂ (member s u (b .0)) 0) ≡ true = lt-ltb 1 (getD t₂ (member s u (b .0)) 0) (omega (arith, vb)) in
-          let some : 1 < howMany (λ x. ltb 1 (getD t₂ (member s u x) 0)) (members s u) = two-counted (λ x. ltb 1 (getD t₂ (member s u x) 0)) (members s u) (a .0) (b .0) other (a .1) (b .1) sa sb in
-          let full : howMany (λ x. ltb 1 (getD t₂ (member s u x) 0)) (members s u) ≡ members s u = all-set (howMany (λ x. not (eqb (getD t₂ (member s u x) 0) 0)) (members s u)) (members s u) (howMany (λ x. ltb 1 (getD t₂ (member s u x) 0)) (members s u)) many (omega (arith, some)) (whole .0) in
-          let first : 1 < getD t₂ u 0 = subst (λ (y : ℕ). 1 < getD t₂ y 0) (member-zero s u) (ltb-true 1 (getD t₂ (member s u 0) 0) (howMany-all (λ x. ltb 1 (getD t₂ (member s u x) 0)) (members s u) full 0 (omega (arith, a .1)))) in
-          let da : getD t₂ (member s u (a .0)) 0 - 2 ≡ put i = omega (arith, va) in
-          let db : getD t₂ (member s u (b .0)) 0 - 2 ≡ put j = omega (arith, vb) in
-          let both : setsDiffer s (put i) (put j) ≡ false = sets-alike s (getD t₂ u 0 - 2) (put i) (put j)
-          (ap (setsDiffer s (getD t₂ u 0 - 2)) (sym da) ∙ whole .1 first (a .0) (a .1) (omega (arith, va)))
-          (ap (setsDiffer s (getD t₂ u 0 - 2)) (sym db) ∙ whole .1 first (b .0) (b .1) (omega (arith, vb))) in
-          sets-alike s (put j) (namedSet s p i) (namedSet s p j) (sets-alike s (put i) (put j) (namedSet s p i) both (same i (omega arith))) (same j l)
-
-    none-differ : twoOf (λ i j. eqb (leaderOf s (ownerAt s p i)) (leaderOf s (ownerAt s p j)) && setsDiffer s (namedSet s p i) (namedSet s p j)) m ≡ false
-    unfolding twoOf
-    none-differ =
-        any-nowhere (λ j. any (λ i. eqb (leaderOf s (ownerAt s p i)) (leaderOf s (ownerAt s p j)) && setsDiffer s (namedSet s p i) (namedSet s p j)) j) m
-        (λ j l. any-nowhere (λ i. eqb (leaderOf s (ownerAt s p i)) (leaderOf s (ownerAt s p j)) && setsDiffer s (namedSet s p i) (namedSet s p j)) j (pair j l))
-      where
-        pair : (j : ℕ) → j < m → (i : ℕ) → i < j → (eqb (leaderOf s (ownerAt s p i)) (leaderOf s (ownerAt s p j)) && setsDiffer s (namedSet s p i) (namedSet s p j)) ≡ false
-        pair j l i k =
-            (elim (eqb (leaderOf s (ownerAt s p i)) (leaderOf s (ownerAt s p j))) as (λ b. eqb (leaderOf s (ownerAt s p i)) (leaderOf s (ownerAt s p j)) ≡ b → (b && setsDiffer s (namedSet s p i) (namedSet s p j)) ≡ false) [
-              | true ↦ λ q. alike i j k l (eqb-true _ _ q)
-              | false ↦ λ q. refl
-            ]) refl
-
-    keeps-22 : rule22 s programmes p ≡ false
-    unfolding rule22 twoOf
-    keeps-22 =
-        all-none (any (λ i. not (includes s p (ownerAt s p i))) m) (any (λ j. any (λ i. eqb (ownerAt s p i) (ownerAt s p j)) j) m) (any partly (count s objects))
-        (any (λ j. any (λ i. eqb (leaderOf s (ownerAt s p i)) (leaderOf s (ownerAt s p j)) && setsDiffer s (namedSet s p i) (namedSet s p j)) j) m)
-        (any-nowhere (λ i. not (includes s p (ownerAt s p i))) m (λ j l. ap not (owners-included j l)))
-        (any-nowhere (λ j. any (λ i. eqb (ownerAt s p i) (ownerAt s p j)) j) m (named .2))
-        (any-nowhere partly (count s objects) none-partly)
-        none-differ
-
-    pub programme-kept : ProgrammeKept s p
-    programme-kept = (no-repeat (entered .2), keeps-21, keeps-22)
-
--- rule 21 alone, by a table without sets
-module _ (s : Sheet) (p : ℕ) (t₀ t₁ : List ℕ) (noughts : Standing (λ x. 0) t₀) (long : length t₁ ≡ length t₀)
-    (entered : Changed (objectAt s p) (number s programmes p contentList) 0 1 t₀ t₁) (kept : (l : ℕ) → l < count s objects → GroupKept s t₁ l) where
-  tells : (x : ℕ) → includes s p x ≡ not (eqb (getD t₁ x 0) 0)
-  unfolding includes objectAt
-  tells x =
-      (elim (ltb x (length t₁)) as (λ b. ltb x (length t₁) ≡ b → any (λ i. eqb (objectAt s p i) x) (number s programmes p contentList) ≡ not (eqb (getD t₁ x 0) 0)) [
-        | true ↦ λ e.
-            let l : x < length t₁ = ltb-true x (length t₁) e in
-            let v : getD t₁ x 0 ≡ cond (any (λ i. eqb (objectAt s p i) x) (number s programmes p contentList)) 1 0 = entered .3 x l ∙ ap (λ (c : ℕ). cond (any (λ i. eqb (objectAt s p i) x) (number s programmes p contentList)) 1 c) (noughts x (rw long at l)) in
-            flagged (any (λ i. eqb (objectAt s p i) x) (number s programmes p contentList)) ∙ ap (λ (c : ℕ). not (eqb c 0)) (sym v)
-        | false ↦ λ e.
-            let l : length t₁ ≤ x = ltb-false x (length t₁) e in
-            outside l ∙ ap (λ (c : ℕ). not (eqb c 0)) (past t₁ x l)
-      ]) refl
-    where
-      flagged : (b : Bool) → b ≡ not (eqb (cond b 1 0) 0)
-      flagged true = refl
-      flagged false = refl
-
-      outside : length t₁ ≤ x → any (λ i. eqb (objectAt s p i) x) (number s programmes p contentList) ≡ false
-      outside l = any-nowhere (λ i. eqb (objectAt s p i) x) (number s programmes p contentList) (λ i k. ne-eqb (objectAt s p i) x (λ q. let z : objectAt s p i ≡ x = q in absurd (omega (arith, entered .0 i k))))
-
-  many : (l : ℕ) → included s p l ≡ manyIn s t₁ l
+-- where the table tells what the programme includes
+module _ (s : Sheet) (p : ℕ) (t : List ℕ) (tells : (x : ℕ) → includes s p x ≡ not (eqb (getD t x 0) 0)) where
+  included-counted : (l : ℕ) → included s p l ≡ manyIn s t l
   unfolding included manyIn
-  many l = howMany-eq (λ i. includes s p (member s l i)) (λ i. not (eqb (getD t₁ (member s l i) 0) 0)) (members s l) (λ i k. tells (member s l i))
+  included-counted l = howMany-eq (λ i. includes s p (member s l i)) (λ i. not (eqb (getD t (member s l i) 0) 0)) (members s l) (λ i k. tells (member s l i))
 
-  pub groups-kept-21 : rule21 s programmes p ≡ false
+  keeps-21 : ((l : ℕ) → l < count s objects → GroupKept s t l) → rule21 s programmes p ≡ false
   unfolding rule21 whollyIncluded groupWhole
-  groups-kept-21 = any-nowhere (λ l. leader s l && not (eqb (included s p l) 0) && not (eqb (included s p l) 1) && not (eqb (included s p l) (members s l))) (count s objects) alone
+  keeps-21 kept = any-nowhere (λ l. leader s l && not (eqb (included s p l) 0) && not (eqb (included s p l) 1) && not (eqb (included s p l) (members s l))) (count s objects) alone
     where
       alone : (l : ℕ) → l < count s objects → (leader s l && not (eqb (included s p l) 0) && not (eqb (included s p l) 1) && not (eqb (included s p l) (members s l))) ≡ false
       alone l k =
           (elim (leader s l) as (λ b. leader s l ≡ b → (b && not (eqb (included s p l) 0) && not (eqb (included s p l) 1) && not (eqb (included s p l) (members s l))) ≡ false) [
-            | true ↦ λ h. one-or-all (included s p l) (members s l) (eqb (setsIn s t₁ l) 0 || eqb (setsIn s t₁ l) (members s l)) (rw (many l) (kept l k .0))
+            | true ↦ λ h. one-or-all (included s p l) (members s l) (eqb (setsIn s t l) 0 || eqb (setsIn s t l) (members s l)) (rw (included-counted l) (kept l k .0))
             | false ↦ λ h. refl
           ]) refl
+
+-- rule 22, with all sets noted
+module _ (s : Sheet) (p : ℕ) (t₀ t₁ t₂ : List ℕ) (put : ℕ → ℕ) (noughts : Standing (λ x. 0) t₀) (long : length t₁ ≡ length t₀) (long₂ : length t₂ ≡ length t₁)
+    (entered : Changed (objectAt s p) (number s programmes p contentList) 0 1 t₀ t₁)
+    (named : Noted (ownerAt s p) put (number s programmes p setList) t₁ t₂)
+    (full : length t₀ ≡ count s objects) (spans : OneSpan s) (inside : (j : ℕ) → j < number s programmes p setList → namedSet s p j < count s valueSets)
+    (same : (j : ℕ) → j < number s programmes p setList → setsDiffer s (put j) (namedSet s p j) ≡ false) (kept : (l : ℕ) → l < count s objects → GroupKept s t₂ l) where
+  abbrev contained : ℕ
+  contained = number s programmes p contentList
+
+  abbrev m : ℕ
+  m = number s programmes p setList
+
+  all-included : (l : ℕ) → included s p l ≡ manyIn s t₂ l
+  all-included = included-counted s p t₂ (tells-included s p t₀ t₁ t₂ put m noughts long long₂ entered named)
+
+  one-span : (v : ℕ) → v < count s valueSets → howMany (λ o. hasSet s o v) (count s objects) ≡ 1
+  unfolding rule11
+  one-span v l = eqb-true _ _ (not-false _ (any-none (rule11 s valueSets) (count s valueSets) spans v l))
+
+  names-owner : (o : ℕ) → o < count s objects → namesSet s p o ≡ any (λ j. eqb (ownerAt s p j) o) m
+  unfolding namesSet ownerAt
+  names-owner o k =
+      any-eq (λ j. hasSet s o (namedSet s p j)) (λ j. eqb (owner s (namedSet s p j)) o) m
+      (λ j l. one-owner s (namedSet s p j) o k (one-span (namedSet s p j) (inside j l)))
+
+  -- a wholly included group has two members or more
+  two : (l : ℕ) → leader s l ≡ true → whollyIncluded s p l ≡ true → 1 < included s p l
+  unfolding leader whollyIncluded members
+  two l h w = omega (arith, ltb-true 0 (number s objects l complementList) h, eqb-true (included s p l) (suc (number s objects l complementList)) w)
+
+  -- the owners of the named sets are included, and objects of the sheet
+  owners-included : (j : ℕ) → j < m → includes s p (ownerAt s p j) ≡ true
+  unfolding includes objectAt
+  owners-included j l = owner-object s p t₀ t₁ t₂ put m noughts long long₂ entered named j l
+
+  owner-inside : (j : ℕ) → j < m → ownerAt s p j < count s objects
+  owner-inside j l = rw (sym full, sym long) (named .0 j l)
+
+  -- the members of a wholly included group are objects of the sheet
+  member-inside : (l k : ℕ) → whollyIncluded s p l ≡ true → k < members s l → member s l k < count s objects
+  unfolding whollyIncluded included includes objectAt
+  member-inside l k whole h =
+      let inc : any (λ i. eqb (objectAt s p i) (member s l k)) contained ≡ true = howMany-all (λ i. includes s p (member s l i)) (members s l) (eqb-true _ _ whole) k h in
+      let w = any-witness (λ i. eqb (objectAt s p i) (member s l k)) contained inc in
+      let z : objectAt s p (w .0) ≡ member s l k = eqb-true _ _ (w .2) in
+      rw (sym z, sym full) (entered .0 (w .0) (w .1))
+
+  sets-counted : (l : ℕ) → whollyIncluded s p l ≡ true → setsNamed s p l ≡ setsIn s t₂ l
+  unfolding setsNamed setsIn
+  sets-counted l whole =
+      howMany-eq (λ i. namesSet s p (member s l i)) (λ i. ltb 1 (getD t₂ (member s l i) 0)) (members s l)
+      (λ i r. names-owner (member s l i) (member-inside l i whole r) ∙ tells-named s p t₀ t₁ t₂ put m noughts long long₂ entered named (member s l i))
+
+  -- sets for all or none of a wholly included group
+  abbrev partly : ℕ → Bool
+  partly l = leader s l && whollyIncluded s p l && not (eqb (setsNamed s p l) 0) && not (eqb (setsNamed s p l) (members s l))
+
+  none-partly : (l : ℕ) → l < count s objects → partly l ≡ false
+  unfolding groupWhole
+  none-partly l k =
+      (elim (leader s l) as (λ b. leader s l ≡ b → (b && whollyIncluded s p l && not (eqb (setsNamed s p l) 0) && not (eqb (setsNamed s p l) (members s l))) ≡ false) [
+        | true ↦ λ h. (elim (whollyIncluded s p l) as (λ b. whollyIncluded s p l ≡ b → (true && b && not (eqb (setsNamed s p l) 0) && not (eqb (setsNamed s p l) (members s l))) ≡ false) [
+          | true ↦ λ w. none-or-all (included s p l) (members s l) (setsNamed s p l) (two l h w) (rw (sets-counted l w, all-included l) (kept l k .0))
+          | false ↦ λ w. refl
+        ]) refl
+        | false ↦ λ h. refl
+      ]) refl
+
+  -- two named sets in one group
+  module _ (i j : ℕ) (k : i < j) (l : j < m) (z : leaderOf s (ownerAt s p i) ≡ leaderOf s (ownerAt s p j)) where
+    abbrev u : ℕ
+    u = leaderOf s (ownerAt s p j)
+
+    -- they are of two objects
+    apart : ownerAt s p i ≡ ownerAt s p j → ⊥
+    apart q = true≢false (sym (eq-eqb (ownerAt s p i) (ownerAt s p j) q) ∙ any-none (λ x. eqb (ownerAt s p x) (ownerAt s p j)) j (named .2 j l) i k)
+
+    -- so the group has a leader
+    led : leader s u ≡ true
+    led =
+        (elim (leader s u) as (λ b. leader s u ≡ b → b ≡ true) [
+          | true ↦ λ e. refl
+          | false ↦ λ e. absurd (apart (sym (no-leader s (ownerAt s p i) (ap (leader s) z ∙ e)) ∙ z ∙ no-leader s (ownerAt s p j) e))
+        ]) refl
+
+    -- the member that a named set is of
+    has : (x : ℕ) → x < m → (k : ℕ) → member s u k ≡ ownerAt s p x → getD t₂ (member s u k) 0 ≡ put x + 2
+    has x h k e = ap (λ (y : ℕ). getD t₂ y 0) e ∙ named .3 x h
+
+    pub alike : setsDiffer s (namedSet s p i) (namedSet s p j) ≡ false
+    unfolding groupWhole manyIn setsIn
+    alike =
+        let a = member-at s (ownerAt s p i) u z led in
+        let b = member-at s (ownerAt s p j) u refl led in
+        let va : getD t₂ (member s u (a .0)) 0 ≡ put i + 2 = has i (omega arith) (a .0) (a .2) in
+        let vb : getD t₂ (member s u (b .0)) 0 ≡ put j + 2 = has j l (b .0) (b .2) in
+        let whole = kept u (leader-inside s (ownerAt s p j) (owner-inside j l)) in
+        let other : a .0 ≡ b .0 → ⊥ = λ q. apart (sym (a .2) ∙ ap (member s u) q ∙ b .2) in
+        let ia : not (eqb (getD t₂ (member s u (a .0)) 0) 0) ≡ true = ap not (ne-eqb (getD t₂ (member s u (a .0)) 0) 0 (λ q. let y : getD t₂ (member s u (a .0)) 0 ≡ 0 = q in absurd (omega (arith, va)))) in
+        let ib : not (eqb (getD t₂ (member s u (b .0)) 0) 0) ≡ true = ap not (ne-eqb (getD t₂ (member s u (b .0)) 0) 0 (λ q. let y : getD t₂ (member s u (b .0)) 0 ≡ 0 = q in absurd (omega (arith, vb)))) in
+        let many : 1 < howMany (λ x. not (eqb (getD t₂ (member s u x) 0) 0)) (members s u) = two-counted (λ x. not (eqb (getD t₂ (member s u x) 0) 0)) (members s u) (a .0) (b .0) other (a .1) (b .1) ia ib in
+        let sa : ltb 1 (getD t₂ (member s u (a .0)) 0) ≡ true = lt-ltb 1 (getD t₂ (member s u (a .0)) 0) (omega (arith, va)) in
+        let sb : ltb 1 (getD t₂ (member s u (b .0)) 0) ≡ true = lt-ltb 1 (getD t₂ (member s u (b .0)) 0) (omega (arith, vb)) in
+        let some : 1 < howMany (λ x. ltb 1 (getD t₂ (member s u x) 0)) (members s u) = two-counted (λ x. ltb 1 (getD t₂ (member s u x) 0)) (members s u) (a .0) (b .0) other (a .1) (b .1) sa sb in
+        let full : howMany (λ x. ltb 1 (getD t₂ (member s u x) 0)) (members s u) ≡ members s u = all-set (howMany (λ x. not (eqb (getD t₂ (member s u x) 0) 0)) (members s u)) (members s u) (howMany (λ x. ltb 1 (getD t₂ (member s u x) 0)) (members s u)) many (omega (arith, some)) (whole .0) in
+        let first : 1 < getD t₂ u 0 = subst (λ (y : ℕ). 1 < getD t₂ y 0) (member-zero s u) (ltb-true 1 (getD t₂ (member s u 0) 0) (howMany-all (λ x. ltb 1 (getD t₂ (member s u x) 0)) (members s u) full 0 (omega (arith, a .1)))) in
+        let da : getD t₂ (member s u (a .0)) 0 - 2 ≡ put i = omega (arith, va) in
+        let db : getD t₂ (member s u (b .0)) 0 - 2 ≡ put j = omega (arith, vb) in
+        let both : setsDiffer s (put i) (put j) ≡ false = sets-alike s (getD t₂ u 0 - 2) (put i) (put j)
+        (ap (setsDiffer s (getD t₂ u 0 - 2)) (sym da) ∙ whole .1 first (a .0) (a .1) (omega (arith, va)))
+        (ap (setsDiffer s (getD t₂ u 0 - 2)) (sym db) ∙ whole .1 first (b .0) (b .1) (omega (arith, vb))) in
+        sets-alike s (put j) (namedSet s p i) (namedSet s p j) (sets-alike s (put i) (put j) (namedSet s p i) both (same i (omega arith))) (same j l)
+
+  none-differ : twoOf (λ i j. eqb (leaderOf s (ownerAt s p i)) (leaderOf s (ownerAt s p j)) && setsDiffer s (namedSet s p i) (namedSet s p j)) m ≡ false
+  unfolding twoOf
+  none-differ =
+      any-nowhere (λ j. any (λ i. eqb (leaderOf s (ownerAt s p i)) (leaderOf s (ownerAt s p j)) && setsDiffer s (namedSet s p i) (namedSet s p j)) j) m
+      (λ j l. any-nowhere (λ i. eqb (leaderOf s (ownerAt s p i)) (leaderOf s (ownerAt s p j)) && setsDiffer s (namedSet s p i) (namedSet s p j)) j (pair j l))
+    where
+      pair : (j : ℕ) → j < m → (i : ℕ) → i < j → (eqb (leaderOf s (ownerAt s p i)) (leaderOf s (ownerAt s p j)) && setsDiffer s (namedSet s p i) (namedSet s p j)) ≡ false
+      pair j l i k =
+          (elim (eqb (leaderOf s (ownerAt s p i)) (leaderOf s (ownerAt s p j))) as (λ b. eqb (leaderOf s (ownerAt s p i)) (leaderOf s (ownerAt s p j)) ≡ b → (b && setsDiffer s (namedSet s p i) (namedSet s p j)) ≡ false) [
+            | true ↦ λ q. alike i j k l (eqb-true _ _ q)
+            | false ↦ λ q. refl
+          ]) refl
+
+  pub keeps-22 : rule22 s programmes p ≡ false
+  unfolding rule22 twoOf
+  keeps-22 =
+      all-none (any (λ i. not (includes s p (ownerAt s p i))) m) (any (λ j. any (λ i. eqb (ownerAt s p i) (ownerAt s p j)) j) m) (any partly (count s objects))
+      (any (λ j. any (λ i. eqb (leaderOf s (ownerAt s p i)) (leaderOf s (ownerAt s p j)) && setsDiffer s (namedSet s p i) (namedSet s p j)) j) m)
+      (any-nowhere (λ i. not (includes s p (ownerAt s p i))) m (λ j l. ap not (owners-included j l)))
+      (any-nowhere (λ j. any (λ i. eqb (ownerAt s p i) (ownerAt s p j)) j) m (named .2))
+      (any-nowhere partly (count s objects) none-partly)
+      none-differ
+
+-- a programme that is entered
+module _ (s : Sheet) (p : ℕ) (both : Bool) (put : ℕ → ℕ) (t₀ t₂ : List ℕ) (noughts : Standing (λ x. 0) t₀) (entered : Entered s p both put t₀ t₂) where
+  -- no two of its contents have one object
+  pub entries-apart : Apart (objectAt s p) (number s programmes p contentList)
+  entries-apart = entered .2 .2
+
+  -- the table tells what it includes
+  pub tells-entered : (x : ℕ) → includes s p x ≡ not (eqb (getD t₂ x 0) 0)
+  tells-entered =
+      (elim both as (λ b. both ≡ b → (x : ℕ) → includes s p x ≡ not (eqb (getD t₂ x 0) 0)) [
+        | true ↦ λ e. tells-included s p t₀ (entered .0) t₂ put (number s programmes p setList) noughts (entered .1) (entered .3 e .0) (entered .2) (entered .3 e .1)
+        | false ↦ λ e.
+            subst (λ (t : List ℕ). (x : ℕ) → includes s p x ≡ not (eqb (getD t x 0) 0)) (sym (entered .4 e))
+            (tells-included s p t₀ (entered .0) (entered .0) put 0 noughts (entered .1) refl (entered .2)
+            (λ k l. absurd (omega arith), λ k l. absurd (omega arith), λ k l. absurd (omega arith), λ k l. absurd (omega arith), λ x l none. refl))
+      ]) refl
+
+  -- and it keeps the rules where the groups are kept
+  pub entered-kept : length t₀ ≡ count s objects → (both ≡ true → OneSpan s) → ((j : ℕ) → setsDiffer s (put j) (namedSet s p j) ≡ false)
+      → ((l : ℕ) → l < count s objects → GroupKept s t₂ l) → Kept s both p
+  entered-kept full spans same kept = (
+    no-repeat s p entries-apart,
+    keeps-21 s p t₂ tells-entered kept,
+    λ e. let noted = entered .3 e in keeps-22 s p t₀ (entered .0) t₂ put noughts (entered .1) (noted .0) (entered .2) (noted .1) full (spans e) (noted .2) (λ j l. same j) kept,
+  )
 
 -- a programme with the lists of another keeps what that keeps
 module _ (s : Sheet) (p q : ℕ) (same : SameList s p q contentList) where
@@ -337,32 +335,14 @@ module _ (s : Sheet) (p q : ℕ) (same : SameList s p q contentList) where
   unfolding repeats entry
   same-repeats = rw (same .0, same .1) refl
 
-  pub same-21 : rule21 s programmes p ≡ rule21 s programmes q
+  same-21 : rule21 s programmes p ≡ rule21 s programmes q
   unfolding rule21 whollyIncluded included includes entry
   same-21 = rw (same .0, same .1) refl
 
   module _ (also : SameList s p q setList) where
-    pub same-22 : rule22 s programmes p ≡ rule22 s programmes q
+    same-22 : rule22 s programmes p ≡ rule22 s programmes q
     unfolding rule22 whollyIncluded included includes setsNamed namesSet ownerAt namedSet entry
     same-22 = rw (same .0, same .1, also .0, also .1) refl
 
-    pub same-kept : ProgrammeKept s q → ProgrammeKept s p
-    same-kept kept = (same-repeats ∙ kept .0, same-21 ∙ kept .1, same-22 ∙ kept .2)
-
-none-named : (s : Sheet) (p : ℕ) → number s programmes p setList ≡ 0 → (l : ℕ) → setsNamed s p l ≡ 0
-unfolding setsNamed namesSet any
-none-named s p none l = rw none (eqb-true _ 0 (not-false _ (sym (any-howMany (λ i. false) (members s l)) ∙ any-nowhere (λ i. false) (members s l) (λ i k. refl))))
-
--- a programme that names no sets keeps rule 22
-pub no-sets : (s : Sheet) (p : ℕ) → number s programmes p setList ≡ 0 → rule22 s programmes p ≡ false
-unfolding rule22 twoOf any
-no-sets s p none =
-    rw none (or-false (any (λ l. leader s l && whollyIncluded s p l && not (eqb (setsNamed s p l) 0) && not (eqb (setsNamed s p l) (members s l))) (count s objects)) ∙ any-nowhere (λ l. leader s l && whollyIncluded s p l && not (eqb (setsNamed s p l) 0) && not (eqb (setsNamed s p l) (members s l))) (count s objects) each)
-  where
-    each : (l : ℕ) → l < count s objects → (leader s l && whollyIncluded s p l && not (eqb (setsNamed s p l) 0) && not (eqb (setsNamed s p l) (members s l))) ≡ false
-    each l k = rw (none-named s p none l) (three (leader s l) (whollyIncluded s p l) (not (eqb 0 (members s l))))
-      where
-        three : (a b c : Bool) → (a && b && not (eqb 0 0) && c) ≡ false
-        three true true c = refl
-        three true false c = refl
-        three false b c = refl
+  pub same-kept : (both : Bool) → (both ≡ true → SameList s p q setList) → Kept s both q → Kept s both p
+  same-kept both also kept = (same-repeats ∙ kept .0, same-21 ∙ kept .1, λ e. same-22 (also e) ∙ kept .2 e)

@@ -11,7 +11,7 @@ use sheet::layout::field;
 use sheet::layout::number;
 use sheet::words::word;
 use sheet::words::word_count;
-ghost use Prim.Native.Nat.{ℕ, suc, _+_, _-_, _<_, _≤_};
+ghost use Prim.Native.Nat.{ℕ, suc, _+_, _-_, _<_};
 ghost use lib.Dec.{eqb, ltb};
 ghost use lib.ListN.{getD, length};
 ghost use mathlib.Core.Bool.{cond, false, not, true};
@@ -93,7 +93,7 @@ fn pair_kept(s: &[u8], sets: u16, e: u16, c: u16) -> bool
 }
 
 // The group of a leader, which has m as its complement where it has one.
-fn group_kept(s: &[u8], base: u16, sets: u16, included: &[u16], l: u16, m: u16) -> bool
+pub fn group_kept(s: &[u8], base: u16, sets: u16, included: &[u16], l: u16, m: u16) -> bool
     ensures { λ r. ⌜ (r ≡ true → base ≡ offset (sheetOf (now (s .entry))) references → sets ≡ offset (sheetOf (now (s .entry))) valueSets → Partner (sheetOf (now (s .entry))) l m → GroupKept (sheetOf (now (s .entry))) (now (included .entry)) l) ⌝ }
 {
     let n = number(s, OBJECTS, l, COMPLEMENT_LIST);
@@ -197,7 +197,7 @@ fn add_rows(s: &[u8], list: &mut [u16], partners: &mut [u16], before: u16, l: u1
 
 // Lists each leader with each of its complements, and tells how many rows there are: 65535 where there is no place for them.
 pub fn list_leaders(s: &[u8], list: &mut [u16], partners: &mut [u16]) -> u16
-    ensures { λ r. ⌜ (length (now (list .exit)) ≡ length (now (list .entry))) × (length (now (partners .exit)) ≡ length (now (partners .entry))) × (count (sheetOf (now (s .entry))) objects ≤ length (now (list .entry)) → count (sheetOf (now (s .entry))) objects ≤ length (now (partners .entry)) → LeadersIn (sheetOf (now (s .entry))) (now (list .exit)) (now (partners .exit)) r) ⌝ }
+    ensures { λ r. ⌜ (length (now (list .exit)) ≡ length (now (list .entry))) × (length (now (partners .exit)) ≡ length (now (partners .entry))) × LeadersIn (sheetOf (now (s .entry))) (now (list .exit)) (now (partners .exit)) r ⌝ }
 {
     let n = count(s, OBJECTS);
     let mut g: u16 = 0;

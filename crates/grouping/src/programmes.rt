@@ -1,9 +1,8 @@
-// What a programme includes and the sets that it names, in a table by object (see groups).
-use crate::alike::representative;
+// The programmes one after the other, by the rows of the groups or by the leaders of their objects.
+use crate::entering::enter;
 use crate::groups::groups_kept;
 use crate::groups::list_leaders;
-use crate::marks::at;
-use crate::marks::change;
+use crate::leaders::groups_asked;
 use sheet::fields::CONTENT_LIST;
 use sheet::fields::CONTENTS;
 use sheet::fields::OBJECTS;
@@ -15,87 +14,20 @@ use sheet::layout::count;
 use sheet::layout::field;
 use sheet::layout::number;
 use sheet::layout::offset;
-use sheet::words::word;
-use sheet::words::word_count;
+use tables::Mark;
+use tables::Naming;
 use tables::marks::clear;
-ghost use Prim.Native.Nat.{ℕ, _-_, _<_};
+use tables::marks::first_namers;
+use tables::marks::mark_items;
+ghost use Prim.Native.Nat.{_+_, _-_, _<_};
 ghost use lib.ListN.{length};
-ghost use mathlib.Core.Bool.{false, true};
+ghost use mathlib.Core.Bool.{true};
 ghost use mathlib.Core.Path.{_≡_};
-ghost use Rattle.grouping.specs.Groups.{Alike, Changed, GroupsGround, LeadersIn, Noted, OneSpan, ProgrammeKept, ProgrammesKept, SameList, objectAt, objectFrom, representative};
-ghost use Rattle.profile.specs.Relations.{namedSet};
-ghost use Rattle.profile.specs.Rules.{ownerAt, rule21, rule22};
-ghost use Rattle.sheet.specs.Fields.{contentList, contents, objects, programmes, references, setList, valueSets};
-ghost use Rattle.sheet.specs.Layout.{count, number, offset};
+ghost use Rattle.grouping.specs.Groups.{Begins, Full, GroupsApart, GroupsGround, Kept, KeptTo, LeadersIn, Passing, ProgrammesKept, Ready, SameList};
+ghost use Rattle.sheet.specs.Fields.{contentList, objects, setList};
+ghost use Rattle.sheet.specs.Layout.{count};
 ghost use Rattle.sheet.specs.Words.{sheetOf};
-ghost use Rattle.tables.specs.Right.{Owners};
-
-// The object of the content that an entry of a content list names, where section 6 begins at `base` and section 2 at `records`.
-fn object_from(s: &[u8], base: u16, records: u16, from: u16, i: u16) -> u16
-    ensures { λ r. ⌜ r ≡ objectFrom (sheetOf (now (s .entry))) base records from i ⌝ }
-{
-    let c = word(s, base as usize + (from as usize + i as usize));
-    word(s, records as usize + (c as usize) * 5 + 1)
-}
-
-// Marks the objects that the programme includes with 1, where 0 stood.
-fn enter_objects(s: &[u8], base: u16, records: u16, p: u16, included: &mut [u16]) -> bool
-    ensures { λ r. ⌜ (length (now (included .exit)) ≡ length (now (included .entry))) × (r ≡ true → base ≡ offset (sheetOf (now (s .entry))) references → records ≡ offset (sheetOf (now (s .entry))) contents → Changed (objectAt (sheetOf (now (s .entry))) p) (number (sheetOf (now (s .entry))) programmes p contentList) 0 1 (now (included .entry)) (now (included .exit))) ⌝ }
-{
-    let from = field(s, PROGRAMMES, p, CONTENT_LIST);
-    let n = number(s, PROGRAMMES, p, CONTENT_LIST);
-    if word_count(s) < base as usize + (from as usize + n as usize) {
-        return false;
-    }
-    let mut i: u16 = 0;
-    while i < n {
-        if !change(included, object_from(s, base, records, from, i), 0, 1) {
-            return false;
-        }
-        i += 1;
-    }
-    true
-}
-
-// Notes the sets that the programme names at their objects, where 1 stood, each by the set that stands for it. Each has to be one of the
-// sheet's, of which there are `total`.
-fn enter_sets(
-    s: &[u8],
-    base: u16,
-    total: u16,
-    owners: &[u16],
-    alike: &[u16],
-    p: u16,
-    included: &mut [u16],
-) -> bool
-    ensures { λ r. ⌜ (length (now (included .exit)) ≡ length (now (included .entry))) × (r ≡ true → base ≡ offset (sheetOf (now (s .entry))) references → Owners (sheetOf (now (s .entry))) (now (owners .entry)) → Noted (ownerAt (sheetOf (now (s .entry))) p) (λ j. representative (now (alike .entry)) (namedSet (sheetOf (now (s .entry))) p j)) (number (sheetOf (now (s .entry))) programmes p setList) (now (included .entry)) (now (included .exit)) × ((j : ℕ) → j < number (sheetOf (now (s .entry))) programmes p setList → namedSet (sheetOf (now (s .entry))) p j < total)) ⌝ }
-{
-    let from = field(s, PROGRAMMES, p, SET_LIST);
-    let n = number(s, PROGRAMMES, p, SET_LIST);
-    if word_count(s) < base as usize + (from as usize + n as usize) {
-        return false;
-    }
-    let mut j: u16 = 0;
-    while j < n {
-        let v = word(s, base as usize + (from as usize + j as usize));
-        if total <= v {
-            return false;
-        }
-        let c = at(owners, v);
-        if c == 0 {
-            return false;
-        }
-        let u = representative(alike, v);
-        if 65533 < u {
-            return false;
-        }
-        if !change(included, c - 1, 1, u + 2) {
-            return false;
-        }
-        j += 1;
-    }
-    true
-}
+ghost use Rattle.tables.specs.Right.{Leaders, Owners};
 
 // Whether a programme has the same list at a position as the one before it.
 fn same_list(s: &[u8], p: u16, at: u8) -> bool
@@ -111,162 +43,104 @@ fn same_list(s: &[u8], p: u16, at: u8) -> bool
     number(s, PROGRAMMES, p, at) == number(s, PROGRAMMES, p - 1, at)
 }
 
-// Whether it has both lists.
-fn same_lists(s: &[u8], p: u16) -> bool
-    ensures { λ r. ⌜ (r ≡ true → (0 < p) × SameList (sheetOf (now (s .entry))) p (p - 1) contentList × SameList (sheetOf (now (s .entry))) p (p - 1) setList) ⌝ }
+// Whether it has the same contents and, with `both`, the same sets.
+fn same_lists(s: &[u8], both: bool, p: u16) -> bool
+    ensures { λ r. ⌜ (r ≡ true → (0 < p) × SameList (sheetOf (now (s .entry))) p (p - 1) contentList × (both ≡ true → SameList (sheetOf (now (s .entry))) p (p - 1) setList)) ⌝ }
 {
     if !same_list(s, p, CONTENT_LIST) {
         return false;
     }
+    if !both {
+        return true;
+    }
     same_list(s, p, SET_LIST)
 }
 
-// One programme, with the rows of the groups in two lists. What stands in the table at the start does not matter.
-fn programme_passes(
+// Whether a programme can be seen to keep rule 21 and, with `both`, rule 22: by the rows of the groups in two lists, or by the programme
+// before it. What stands in the table at the start does not matter.
+fn kept_by_rows(
     s: &[u8],
     base: u16,
     records: u16,
     sets: u16,
     owners: &[u16],
     alike: &[u16],
+    both: bool,
     list: &[u16],
     partners: &[u16],
     g: u16,
     p: u16,
     included: &mut [u16],
 ) -> bool
-    ensures { λ r. ⌜ (length (now (included .exit)) ≡ length (now (included .entry))) × (r ≡ true → base ≡ offset (sheetOf (now (s .entry))) references → records ≡ offset (sheetOf (now (s .entry))) contents → sets ≡ offset (sheetOf (now (s .entry))) valueSets → Owners (sheetOf (now (s .entry))) (now (owners .entry)) → Alike (sheetOf (now (s .entry))) (now (alike .entry)) → LeadersIn (sheetOf (now (s .entry))) (now (list .entry)) (now (partners .entry)) g → length (now (included .entry)) ≡ count (sheetOf (now (s .entry))) objects → OneSpan (sheetOf (now (s .entry))) → ProgrammeKept (sheetOf (now (s .entry))) p) ⌝ }
+    ensures { λ r. ⌜ (length (now (included .exit)) ≡ length (now (included .entry))) × (r ≡ true → Begins (sheetOf (now (s .entry))) base records sets → Passing (sheetOf (now (s .entry))) both (now (owners .entry)) (now (alike .entry)) → LeadersIn (sheetOf (now (s .entry))) (now (list .entry)) (now (partners .entry)) g → length (now (included .entry)) ≡ count (sheetOf (now (s .entry))) objects → (0 < p → Kept (sheetOf (now (s .entry))) both (p - 1)) → Kept (sheetOf (now (s .entry))) both p) ⌝ }
 {
-    clear(included);
-    if !enter_objects(s, base, records, p, included) {
-        return false;
+    if same_lists(s, both, p) {
+        return true;
     }
-    if !enter_sets(s, base, count(s, VALUE_SETS), owners, alike, p, included) {
+    clear(included);
+    if !enter(s, base, records, owners, alike, both, p, included) {
         return false;
     }
     groups_kept(s, base, sets, list, partners, g, included)
 }
 
-// The same, or what the programme before it shows.
-fn programme_kept(
+// The same by the leaders of its objects. The table of what is included has noughts at the start and in the end.
+fn kept_by_leaders(
     s: &[u8],
     base: u16,
     records: u16,
     sets: u16,
     owners: &[u16],
     alike: &[u16],
-    list: &[u16],
-    partners: &[u16],
-    g: u16,
+    both: bool,
+    leaders: &[u16],
     p: u16,
     included: &mut [u16],
+    heads: &mut [u16],
 ) -> bool
-    ensures { λ r. ⌜ (length (now (included .exit)) ≡ length (now (included .entry))) × (r ≡ true → base ≡ offset (sheetOf (now (s .entry))) references → records ≡ offset (sheetOf (now (s .entry))) contents → sets ≡ offset (sheetOf (now (s .entry))) valueSets → Owners (sheetOf (now (s .entry))) (now (owners .entry)) → Alike (sheetOf (now (s .entry))) (now (alike .entry)) → LeadersIn (sheetOf (now (s .entry))) (now (list .entry)) (now (partners .entry)) g → length (now (included .entry)) ≡ count (sheetOf (now (s .entry))) objects → OneSpan (sheetOf (now (s .entry))) → (0 < p → ProgrammeKept (sheetOf (now (s .entry))) (p - 1)) → ProgrammeKept (sheetOf (now (s .entry))) p) ⌝ }
+    ensures { λ r. ⌜ (length (now (included .exit)) ≡ length (now (included .entry))) × (length (now (heads .exit)) ≡ length (now (heads .entry))) × (r ≡ true → Begins (sheetOf (now (s .entry))) base records sets → Passing (sheetOf (now (s .entry))) both (now (owners .entry)) (now (alike .entry)) → Leaders (sheetOf (now (s .entry))) (now (leaders .entry)) → GroupsApart (sheetOf (now (s .entry))) → Ready (sheetOf (now (s .entry))) p (now (included .entry)) (now (heads .entry)) → (0 < p → Kept (sheetOf (now (s .entry))) both (p - 1)) → Ready (sheetOf (now (s .entry))) (p + 1) (now (included .exit)) (now (heads .exit)) × Kept (sheetOf (now (s .entry))) both p) ⌝ }
 {
-    if same_lists(s, p) {
+    if same_lists(s, both, p) {
         return true;
     }
-    programme_passes(
-        s,
-        base,
-        records,
-        sets,
-        owners,
-        alike,
-        list,
-        partners,
-        g,
-        p,
-        included,
-    )
-}
-
-// Whether a programme can be seen to keep rule 21, by itself or by the one before it.
-pub fn keeps_groups(
-    s: &[u8],
-    base: u16,
-    records: u16,
-    sets: u16,
-    list: &[u16],
-    partners: &[u16],
-    g: u16,
-    p: u16,
-    included: &mut [u16],
-) -> bool
-    ensures { λ r. ⌜ (length (now (included .exit)) ≡ length (now (included .entry))) × (r ≡ true → base ≡ offset (sheetOf (now (s .entry))) references → records ≡ offset (sheetOf (now (s .entry))) contents → sets ≡ offset (sheetOf (now (s .entry))) valueSets → LeadersIn (sheetOf (now (s .entry))) (now (list .entry)) (now (partners .entry)) g → (0 < p → rule21 (sheetOf (now (s .entry))) programmes (p - 1) ≡ false) → rule21 (sheetOf (now (s .entry))) programmes p ≡ false) ⌝ }
-{
-    if same_list(s, p, CONTENT_LIST) {
-        return true;
-    }
-    clear(included);
-    if !enter_objects(s, base, records, p, included) {
+    if !enter(s, base, records, owners, alike, both, p, included) {
         return false;
     }
-    groups_kept(s, base, sets, list, partners, g, included)
+    if !groups_asked(s, base, records, sets, leaders, p, included, heads) {
+        return false;
+    }
+    mark_items(s, Naming::Included, p, Mark::Store(0), included);
+    true
 }
 
-// Whether it can be seen to keep rule 22.
-pub fn keeps_sets(
-    s: &[u8],
-    base: u16,
-    records: u16,
-    sets: u16,
-    owners: &[u16],
-    alike: &[u16],
-    list: &[u16],
-    partners: &[u16],
-    g: u16,
-    p: u16,
-    included: &mut [u16],
-) -> bool
-    ensures { λ r. ⌜ (length (now (included .exit)) ≡ length (now (included .entry))) × (r ≡ true → base ≡ offset (sheetOf (now (s .entry))) references → records ≡ offset (sheetOf (now (s .entry))) contents → sets ≡ offset (sheetOf (now (s .entry))) valueSets → Owners (sheetOf (now (s .entry))) (now (owners .entry)) → Alike (sheetOf (now (s .entry))) (now (alike .entry)) → LeadersIn (sheetOf (now (s .entry))) (now (list .entry)) (now (partners .entry)) g → length (now (included .entry)) ≡ count (sheetOf (now (s .entry))) objects → OneSpan (sheetOf (now (s .entry))) → (0 < p → rule22 (sheetOf (now (s .entry))) programmes (p - 1) ≡ false) → rule22 (sheetOf (now (s .entry))) programmes p ≡ false) ⌝ }
-{
-    if number(s, PROGRAMMES, p, SET_LIST) == 0 {
-        return true;
-    }
-    if same_lists(s, p) {
-        return true;
-    }
-    programme_passes(
-        s,
-        base,
-        records,
-        sets,
-        owners,
-        alike,
-        list,
-        partners,
-        g,
-        p,
-        included,
-    )
-}
-
-// How many programmes from the first on can be seen to keep the rules, in tables with a place for each object.
-pub fn kept_below(
+// How many programmes from the first on can be seen to keep them, by the rows, where those before `from` do.
+fn rows_from(
     s: &[u8],
     owners: &[u16],
     alike: &[u16],
+    both: bool,
+    from: u16,
     list: &mut [u16],
     partners: &mut [u16],
     included: &mut [u16],
 ) -> u16
-    ensures { λ r. ⌜ (length (now (list .exit)) ≡ length (now (list .entry))) × (length (now (partners .exit)) ≡ length (now (partners .entry))) × (length (now (included .exit)) ≡ length (now (included .entry))) × (Owners (sheetOf (now (s .entry))) (now (owners .entry)) → Alike (sheetOf (now (s .entry))) (now (alike .entry)) → length (now (list .entry)) ≡ count (sheetOf (now (s .entry))) objects → length (now (partners .entry)) ≡ count (sheetOf (now (s .entry))) objects → length (now (included .entry)) ≡ count (sheetOf (now (s .entry))) objects → OneSpan (sheetOf (now (s .entry))) → (p : ℕ) → p < r → ProgrammeKept (sheetOf (now (s .entry))) p) ⌝ }
+    ensures { λ r. ⌜ (length (now (list .exit)) ≡ length (now (list .entry))) × (length (now (partners .exit)) ≡ length (now (partners .entry))) × (length (now (included .exit)) ≡ length (now (included .entry))) × (Passing (sheetOf (now (s .entry))) both (now (owners .entry)) (now (alike .entry)) → Full (sheetOf (now (s .entry))) (now (list .entry)) (now (partners .entry)) (now (included .entry)) → GroupsApart (sheetOf (now (s .entry))) → KeptTo (sheetOf (now (s .entry))) both from → KeptTo (sheetOf (now (s .entry))) both r) ⌝ }
 {
     let base = offset(s, REFERENCES);
     let records = offset(s, CONTENTS);
     let sets = offset(s, VALUE_SETS);
     let g = list_leaders(s, list, partners);
     let n = count(s, PROGRAMMES);
-    let mut p: u16 = 0;
+    let mut p: u16 = from;
     while p < n {
-        if !programme_kept(
+        if !kept_by_rows(
             s,
             base,
             records,
             sets,
             owners,
             alike,
+            both,
             list,
             partners,
             g,
@@ -278,6 +152,87 @@ pub fn kept_below(
         p += 1;
     }
     n
+}
+
+// The same by the leaders.
+fn leaders_from(
+    s: &[u8],
+    owners: &[u16],
+    alike: &[u16],
+    both: bool,
+    from: u16,
+    leaders: &mut [u16],
+    heads: &mut [u16],
+    included: &mut [u16],
+) -> u16
+    ensures { λ r. ⌜ (length (now (leaders .exit)) ≡ length (now (leaders .entry))) × (length (now (heads .exit)) ≡ length (now (heads .entry))) × (length (now (included .exit)) ≡ length (now (included .entry))) × (Passing (sheetOf (now (s .entry))) both (now (owners .entry)) (now (alike .entry)) → Full (sheetOf (now (s .entry))) (now (leaders .entry)) (now (heads .entry)) (now (included .entry)) → GroupsApart (sheetOf (now (s .entry))) → KeptTo (sheetOf (now (s .entry))) both from → KeptTo (sheetOf (now (s .entry))) both r) ⌝ }
+{
+    let base = offset(s, REFERENCES);
+    let records = offset(s, CONTENTS);
+    let sets = offset(s, VALUE_SETS);
+    clear(leaders);
+    first_namers(s, Naming::Complements, leaders);
+    clear(heads);
+    clear(included);
+    let n = count(s, PROGRAMMES);
+    let mut p: u16 = from;
+    while p < n {
+        if !kept_by_leaders(
+            s,
+            base,
+            records,
+            sets,
+            owners,
+            alike,
+            both,
+            leaders,
+            p,
+            included,
+            heads,
+        ) {
+            return p;
+        }
+        p += 1;
+    }
+    n
+}
+
+// Whether the content lists have, one with another, less than an entry for 32 objects. Nothing rests on this but time.
+fn short_lists(s: &[u8]) -> bool {
+    let o = count(s, OBJECTS);
+    if o < 64 {
+        return false;
+    }
+    let n = count(s, PROGRAMMES);
+    if n == 0 {
+        return false;
+    }
+    let mut entries: u32 = 0;
+    let mut p: u16 = 0;
+    while p < n {
+        entries += number(s, PROGRAMMES, p, CONTENT_LIST) as u32;
+        p += 1;
+    }
+    entries / (n as u32) < o as u32 / 32
+}
+
+// The same in tables with a place for each object: by the leaders where the content lists are short, else by the rows.
+pub fn kept_from(
+    s: &[u8],
+    owners: &[u16],
+    alike: &[u16],
+    both: bool,
+    from: u16,
+    list: &mut [u16],
+    partners: &mut [u16],
+    included: &mut [u16],
+) -> u16
+    ensures { λ r. ⌜ (length (now (list .exit)) ≡ length (now (list .entry))) × (length (now (partners .exit)) ≡ length (now (partners .entry))) × (length (now (included .exit)) ≡ length (now (included .entry))) × (Passing (sheetOf (now (s .entry))) both (now (owners .entry)) (now (alike .entry)) → Full (sheetOf (now (s .entry))) (now (list .entry)) (now (partners .entry)) (now (included .entry)) → GroupsApart (sheetOf (now (s .entry))) → KeptTo (sheetOf (now (s .entry))) both from → KeptTo (sheetOf (now (s .entry))) both r) ⌝ }
+{
+    if short_lists(s) {
+        return leaders_from(s, owners, alike, both, from, list, partners, included);
+    }
+    rows_from(s, owners, alike, both, from, list, partners, included)
 }
 
 // Whether all programmes can be seen to keep rules 21 and 22 and to name no content twice. What stands in the last three tables at the
@@ -301,10 +256,12 @@ pub fn programmes_pass(
     if partners.len() < n {
         return false;
     }
-    kept_below(
+    kept_from(
         s,
         owners,
         &owners[..0],
+        true,
+        0,
         &mut list[..n],
         &mut partners[..n],
         &mut included[..n],

@@ -215,7 +215,6 @@ module _ (s : Sheet) (header : headerBroken s ≡ false) (records : RecordsKept 
   -- what the pass over the programmes rests on
   ground : GroupsGround s
   ground = (
-    any-nowhere (rule5 s programmes) (count s programmes) (λ k l. programme-at k l .1),
     any-nowhere (rule11 s valueSets) (count s valueSets) set-once,
     any-nowhere (rule19 s objects) (count s objects) (λ k l. object-parts k l .11),
   )
@@ -223,4 +222,4 @@ module _ (s : Sheet) (header : headerBroken s ≡ false) (records : RecordsKept 
   pub passed : (GroupsGround s → ProgrammesKept s) → rule23 s 0 0 ≡ false → rule24 s 0 0 ≡ false → verdict s ≡ Accepted
   passed programmes-kept groups tracks =
       let p = programmes-kept ground in
-      screened-accepted (λ k l. p k l .0) (any-nowhere (rule21 s programmes) (count s programmes) (λ k l. p k l .1)) (any-nowhere (rule22 s programmes) (count s programmes) (λ k l. p k l .2)) groups tracks
+      screened-accepted (λ k l. p k l .0) (any-nowhere (rule21 s programmes) (count s programmes) (λ k l. p k l .1)) (any-nowhere (rule22 s programmes) (count s programmes) (λ k l. p k l .2 refl)) groups tracks

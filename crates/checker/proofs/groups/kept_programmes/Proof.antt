@@ -1,4 +1,5 @@
 -- The tables are right, and the pass tells the rest. Assumes nothing.
+use Prim.Native.Nat.{ℕ}
 use mathlib.Core.Path.{sym, _∙_}
 use native.Mathlib.Omega.{arith}
 use borrow.Author.Tests.{not-false}
@@ -19,13 +20,13 @@ cast-m : tie.Need-cast-m
 cast-m c = search needs
 
 returns : tie.Need-returns
-returns c = λ p l. absurd (omega (arith, l))
+returns c = λ apart p l. absurd (omega (arith, l))
 
 sets-once-requires : tie.Need-sets-once-requires
 sets-once-requires c κs = search needs
 
 returns-2 : tie.Need-returns-2
-returns-2 c = λ p l. absurd (omega (arith, l))
+returns-2 c = λ apart p l. absurd (omega (arith, l))
 
 slice-aggregate-first-namers : tie.Need-slice-aggregate-first-namers
 slice-aggregate-first-namers c = search needs
@@ -51,35 +52,35 @@ slice-aggregate-fill-alike-3 c = search needs
 fill-alike-requires : tie.Need-fill-alike-requires
 fill-alike-requires c κs = search needs
 
-slice-aggregate-kept-below : tie.Need-slice-aggregate-kept-below
-slice-aggregate-kept-below c = search needs
+slice-aggregate-kept-from : tie.Need-slice-aggregate-kept-from
+slice-aggregate-kept-from c = search needs
 
-slice-aggregate-kept-below-2 : tie.Need-slice-aggregate-kept-below-2
-slice-aggregate-kept-below-2 c = search needs
+slice-aggregate-kept-from-2 : tie.Need-slice-aggregate-kept-from-2
+slice-aggregate-kept-from-2 c = search needs
 
-array-borrow-prefix-list : tie.Need-array-borrow-prefix-list
-array-borrow-prefix-list c = search needs
+array-borrow-prefix-leaders : tie.Need-array-borrow-prefix-leaders
+array-borrow-prefix-leaders c = search needs
 
-slice-aggregate-kept-below-3 : tie.Need-slice-aggregate-kept-below-3
-slice-aggregate-kept-below-3 c = sym (length-take-le (c .before .before .before .before .before .before .before .before .before .before .before .before .before .before .before .before .before .count .result) (replicate 2048 0) (omega (arith, c .before .before .before .before .before .before .before .before .before .before .before .before .before .before .before .before .if1 .left)))
+slice-aggregate-kept-from-3 : tie.Need-slice-aggregate-kept-from-3
+slice-aggregate-kept-from-3 c = sym (length-take-le (c .before .before .before .before .before .before .before .before .before .before .before .before .before .before .before .before .before .count .result) (c .before .before .before .before .before .before .before .before .before .first-namers2 .last .1 .1 .0) (omega (arith, c .before .before .before .before .before .before .before .before .before .before .before .before .before .before .before .before .if1 .left, c .before .before .before .before .before .before .before .before .before .first-namers2 .ensures .0)))
 
 array-borrow-prefix-partners : tie.Need-array-borrow-prefix-partners
 array-borrow-prefix-partners c = search needs
 
-slice-aggregate-kept-below-4 : tie.Need-slice-aggregate-kept-below-4
-slice-aggregate-kept-below-4 c = sym (length-take-le (c .before .before .before .before .before .before .before .before .before .before .before .before .before .before .before .before .before .before .count .result) (replicate 2048 0) (omega (arith, c .before .before .before .before .before .before .before .before .before .before .before .before .before .before .before .before .before .if1 .left)))
+slice-aggregate-kept-from-4 : tie.Need-slice-aggregate-kept-from-4
+slice-aggregate-kept-from-4 c = sym (length-take-le (c .before .before .before .before .before .before .before .before .before .before .before .before .before .before .before .before .before .before .count .result) (replicate 2048 0) (omega (arith, c .before .before .before .before .before .before .before .before .before .before .before .before .before .before .before .before .before .if1 .left)))
 
 array-borrow-prefix-included : tie.Need-array-borrow-prefix-included
 array-borrow-prefix-included c = search needs
 
-slice-aggregate-kept-below-5 : tie.Need-slice-aggregate-kept-below-5
-slice-aggregate-kept-below-5 c = sym (length-take-le (c .before .before .before .before .before .before .before .before .before .before .before .before .before .before .before .before .before .before .before .count .result) (replicate 2048 0) (omega (arith, c .before .before .before .before .before .before .before .before .before .before .before .before .before .before .before .before .before .before .if1 .left)))
+slice-aggregate-kept-from-5 : tie.Need-slice-aggregate-kept-from-5
+slice-aggregate-kept-from-5 c = sym (length-take-le (c .before .before .before .before .before .before .before .before .before .before .before .before .before .before .before .before .before .before .before .count .result) (replicate 2048 0) (omega (arith, c .before .before .before .before .before .before .before .before .before .before .before .before .before .before .before .before .before .before .if1 .left)))
 
-kept-below-requires : tie.Need-kept-below-requires
-kept-below-requires c κs = search needs
+kept-from-requires : tie.Need-kept-from-requires
+kept-from-requires c κs = search needs
 
 returns-3 : tie.Need-returns-3
-returns-3 c = λ p l. let kept = c .before .before .before .kept-below .ensures .3 (firsts-made (sheetOf (c .before .before .before .before .before .before .before .before .before .before .before .before .before .before .before .before .before .before .before .before .before .before .before .before .before .args .s .now)) (replicate 4680 0) (λ x h. nought 4680 x) SetSpans (c .before .before .before .before .before .before .before .before .before .before .before .before .before .before .before .before .before .before .first-namers .last .1 .1 .0) (c .before .before .before .before .before .before .before .before .before .before .before .before .before .before .before .before .before .before .first-namers .ensures .0) (c .before .before .before .before .before .before .before .before .before .before .before .before .before .before .before .before .before .before .first-namers .ensures .1)) (c .before .before .before .before .before .before .before .before .before .before .fill-alike .ensures .1 (λ x h. nought 4680 x)) (length-take-le (c .before .before .before .before .before .before .before .before .before .before .before .before .before .before .before .before .before .before .before .before .before .before .before .count .result) (replicate 2048 0) (omega (arith, c .before .before .before .before .before .before .before .before .before .before .before .before .before .before .before .before .before .before .before .before .before .before .if1 .left)) ∙ c .before .before .before .before .before .before .before .before .before .before .before .before .before .before .before .before .before .before .before .before .before .before .before .count .ensures) (length-take-le (c .before .before .before .before .before .before .before .before .before .before .before .before .before .before .before .before .before .before .before .before .before .before .before .count .result) (replicate 2048 0) (omega (arith, c .before .before .before .before .before .before .before .before .before .before .before .before .before .before .before .before .before .before .before .before .before .before .if1 .left)) ∙ c .before .before .before .before .before .before .before .before .before .before .before .before .before .before .before .before .before .before .before .before .before .before .before .count .ensures) (length-take-le (c .before .before .before .before .before .before .before .before .before .before .before .before .before .before .before .before .before .before .before .before .before .before .before .count .result) (replicate 2048 0) (omega (arith, c .before .before .before .before .before .before .before .before .before .before .before .before .before .before .before .before .before .before .before .before .before .before .if1 .left)) ∙ c .before .before .before .before .before .before .before .before .before .before .before .before .before .before .before .before .before .before .before .before .before .before .before .count .ensures) (c .before .before .before .before .before .before .before .before .before .before .before .before .before .before .before .before .before .before .before .before .before .sets-once .ensures (not-false _ (c .before .before .before .before .before .before .before .before .before .before .before .before .before .before .before .before .before .before .before .before .if2 .left))) p l in (kept .1, kept .2)
+returns-3 c = λ apart. let full = length-take-le {A = ℕ} (c .before .before .before .before .before .before .before .before .before .before .before .before .before .before .before .before .before .before .before .before .before .before .before .count .result) (replicate 2048 0) (omega (arith, c .before .before .before .before .before .before .before .before .before .before .before .before .before .before .before .before .before .before .before .before .before .before .if1 .left)) ∙ c .before .before .before .before .before .before .before .before .before .before .before .before .before .before .before .before .before .before .before .before .before .before .before .count .ensures in c .before .before .before .kept-from .ensures .3 ((firsts-made (sheetOf (c .before .before .before .before .before .before .before .before .before .before .before .before .before .before .before .before .before .before .before .before .before .before .before .before .before .args .s .now)) (replicate 4680 0) (λ x h. nought 4680 x) SetSpans (c .before .before .before .before .before .before .before .before .before .before .before .before .before .before .before .before .before .before .first-namers .last .1 .1 .0) (c .before .before .before .before .before .before .before .before .before .before .before .before .before .before .before .before .before .before .first-namers .ensures .0) (c .before .before .before .before .before .before .before .before .before .before .before .before .before .before .before .before .before .before .first-namers .ensures .1)), c .before .before .before .before .before .before .before .before .before .before .fill-alike .ensures .1 (λ x h. nought 4680 x), λ f. c .before .before .before .before .before .before .before .before .before .before .before .before .before .before .before .before .before .before .before .before .before .sets-once .ensures (not-false _ (c .before .before .before .before .before .before .before .before .before .before .before .before .before .before .before .before .before .before .before .before .if2 .left))) (length-take-le (c .before .before .before .before .before .before .before .before .before .before .before .before .before .before .before .before .before .before .before .before .before .before .before .count .result) (c .before .before .before .before .before .before .before .before .before .before .before .before .before .before .before .first-namers2 .last .1 .1 .0) (omega (arith, c .before .before .before .before .before .before .before .before .before .before .before .before .before .before .before .before .before .before .before .before .before .before .if1 .left, c .before .before .before .before .before .before .before .before .before .before .before .before .before .before .before .first-namers2 .ensures .0)) ∙ c .before .before .before .before .before .before .before .before .before .before .before .before .before .before .before .before .before .before .before .before .before .before .before .count .ensures, full, full) apart (λ q h. absurd (omega (arith, h)))
 
 pub kept-programmes-spec : {M : Type 1} → statement M
 kept-programmes-spec =
@@ -98,13 +99,13 @@ kept-programmes-spec =
     slice-aggregate-fill-alike-2
     slice-aggregate-fill-alike-3
     fill-alike-requires
-    slice-aggregate-kept-below
-    slice-aggregate-kept-below-2
-    array-borrow-prefix-list
-    slice-aggregate-kept-below-3
+    slice-aggregate-kept-from
+    slice-aggregate-kept-from-2
+    array-borrow-prefix-leaders
+    slice-aggregate-kept-from-3
     array-borrow-prefix-partners
-    slice-aggregate-kept-below-4
+    slice-aggregate-kept-from-4
     array-borrow-prefix-included
-    slice-aggregate-kept-below-5
-    kept-below-requires
+    slice-aggregate-kept-from-5
+    kept-from-requires
     returns-3)

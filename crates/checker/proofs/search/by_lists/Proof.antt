@@ -1,4 +1,5 @@
 -- The tables are right. Assumes nothing.
+use native.Mathlib.Omega.{arith}
 use Rattle.sheet.specs.Words.{sheetOf}
 use Rattle.tables.proofs.MarkLaws.{nought}
 use Rattle.checker.specs.Tables.{Right, firstTable, secondTable}
@@ -46,7 +47,7 @@ slice-aggregate-broken-below-3 : tie.Need-slice-aggregate-broken-below-3
 slice-aggregate-broken-below-3 c = search needs
 
 broken-below-requires : tie.Need-broken-below-requires
-broken-below-requires c κs = search needs
+broken-below-requires c κs = λ j l. absurd (omega (arith, l))
 
 returns-2 : tie.Need-returns-2
 returns-2 c = let f : Right (sheetOf (c .before .before .before .before .before .before .before .before .before .before .before .before .before .before .before .before .args .s .now)) (firstTable (c .before .before .before .before .before .before .before .before .before .before .before .before .before .before .before .before .args .rule) (c .before .before .before .before .before .before .before .before .before .before .before .before .before .before .before .before .args .section)) (c .before .before .before .before .before .before .before .before .before .before .fill-table .last .1 .1 .0) = rw (c .before .before .before .before .before .before .before .before .before .before .before .before .first-table .ensures) at (c .before .before .before .before .before .before .before .before .before .before .fill-table .ensures .1 (λ x l. nought 32768 x)) in let g : Right (sheetOf (c .before .before .before .before .before .before .before .before .before .before .before .before .before .before .before .before .args .s .now)) (secondTable (c .before .before .before .before .before .before .before .before .before .before .before .before .before .before .before .before .args .rule) (c .before .before .before .before .before .before .before .before .before .before .before .before .before .before .before .before .args .section)) (c .before .before .before .before .before .before .fill-table2 .last .1 .1 .0) = rw (c .before .before .before .before .before .before .before .before .second-table .ensures) at (c .before .before .before .before .before .before .fill-table2 .ensures .1 (λ x l. nought 32768 x)) in c .before .broken-below .ensures .1 f g

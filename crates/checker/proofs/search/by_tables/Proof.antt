@@ -1,10 +1,16 @@
 -- The tables are right. Assumes nothing.
+use mathlib.Core.Path.{sym}
+use native.Mathlib.Omega.{arith}
 use Rattle.sheet.specs.Words.{sheetOf}
+use Rattle.profile.proofs.CountingLaws.{lowest-none}
 use Rattle.tables.proofs.MarkLaws.{nought}
 use Rattle.checker.specs.Tables.{Right, firstTable, secondTable}
 use borrow.Author.Needs.{needs}
 use Rattle.checker.proofs.search.by_tables.Statement.{statement}
 use Rattle.checker.proofs.search.by_tables.Tie as tie
+
+returns : tie.Need-returns
+returns c = sym (lowest-none _ _ (λ j l. c .before .before .pre j (omega (arith, l, c .if1 .taken))))
 
 first-table-requires : tie.Need-first-table-requires
 first-table-requires c κs = search needs
@@ -34,15 +40,16 @@ slice-aggregate-broken-below-3 : tie.Need-slice-aggregate-broken-below-3
 slice-aggregate-broken-below-3 c = search needs
 
 broken-below-requires : tie.Need-broken-below-requires
-broken-below-requires c κs = search needs
+broken-below-requires c κs = c .before .before .before .before .before .before .before .before .before .before .before .before .before .pre
 
-returns : tie.Need-returns
-returns c = let f : Right (sheetOf (c .before .before .before .before .before .before .before .before .before .before .before .before .before .before .args .s .now)) (firstTable (c .before .before .before .before .before .before .before .before .before .before .before .before .before .before .args .rule) (c .before .before .before .before .before .before .before .before .before .before .before .before .before .before .args .section)) (c .before .before .before .before .before .before .before .before .before .before .fill-table .last .1 .1 .0) = rw (c .before .before .before .before .before .before .before .before .before .before .before .before .first-table .ensures) at (c .before .before .before .before .before .before .before .before .before .before .fill-table .ensures .1 (λ x l. nought 6552 x)) in let g : Right (sheetOf (c .before .before .before .before .before .before .before .before .before .before .before .before .before .before .args .s .now)) (secondTable (c .before .before .before .before .before .before .before .before .before .before .before .before .before .before .args .rule) (c .before .before .before .before .before .before .before .before .before .before .before .before .before .before .args .section)) (c .before .before .before .before .before .before .fill-table2 .last .1 .1 .0) = rw (c .before .before .before .before .before .before .before .before .second-table .ensures) at (c .before .before .before .before .before .before .fill-table2 .ensures .1 (λ x l. nought 2048 x)) in c .before .broken-below .ensures .1 f g
+returns-2 : tie.Need-returns-2
+returns-2 c = let f : Right (sheetOf (c .before .before .before .before .before .before .before .before .before .before .before .before .before .before .before .args .s .now)) (firstTable (c .before .before .before .before .before .before .before .before .before .before .before .before .before .before .before .args .rule) (c .before .before .before .before .before .before .before .before .before .before .before .before .before .before .before .args .section)) (c .before .before .before .before .before .before .before .before .before .before .fill-table .last .1 .1 .0) = rw (c .before .before .before .before .before .before .before .before .before .before .before .before .first-table .ensures) at (c .before .before .before .before .before .before .before .before .before .before .fill-table .ensures .1 (λ x l. nought 6552 x)) in let g : Right (sheetOf (c .before .before .before .before .before .before .before .before .before .before .before .before .before .before .before .args .s .now)) (secondTable (c .before .before .before .before .before .before .before .before .before .before .before .before .before .before .before .args .rule) (c .before .before .before .before .before .before .before .before .before .before .before .before .before .before .before .args .section)) (c .before .before .before .before .before .before .fill-table2 .last .1 .1 .0) = rw (c .before .before .before .before .before .before .before .before .second-table .ensures) at (c .before .before .before .before .before .before .fill-table2 .ensures .1 (λ x l. nought 2048 x)) in c .before .broken-below .ensures .1 f g
 
 pub by-tables-spec : {M : Type 1} → statement M
 by-tables-spec =
     tie.close
     (tie.spec
+    returns
     first-table-requires
     slice-aggregate-fill-table
     fill-table-requires
@@ -53,4 +60,4 @@ by-tables-spec =
     slice-aggregate-broken-below-2
     slice-aggregate-broken-below-3
     broken-below-requires
-    returns)
+    returns-2)

@@ -9,6 +9,7 @@ use Rattle.sheet.specs.Words.{sheetOf}
 use Rattle.profile.specs.Verdict.{ruleBroken}
 use Rattle.checker.specs.Checked.{checked, ruleVerdict}
 use Rattle.checker.specs.Kept.{KeptBelow}
+use Rattle.checker.proofs.GroupLaws.{groups-apart}
 use Rattle.checker.proofs.SearchLaws.{broken-none, verdict-broken, verdict-none}
 use borrow.Author.Needs.{needs}
 use Rattle.checker.proofs.search.first_broken.Statement.{statement}
@@ -24,13 +25,13 @@ loop-holds : tie.Need-loop-holds Inv-loop μ-loop
 loop-holds c = (search needs, below-none _, λ p l. absurd (omega (arith, l)))
 
 kept-at-requires : tie.Need-kept-at-requires Inv-loop μ-loop
-kept-at-requires c κs = c .before .loop .inv .2
+kept-at-requires c κs = (c .before .loop .inv .2, λ e. groups-apart (sheetOf (c .before .before .before .args .sheet .now)) (c .before .loop .inv .1 18 (omega (arith, e))))
 
 add-rule-verdict : tie.Need-add-rule-verdict Inv-loop μ-loop
 add-rule-verdict c = search needs
 
 rule-verdict-requires : tie.Need-rule-verdict-requires Inv-loop μ-loop
-rule-verdict-requires c κs = c .kept-at .ensures
+rule-verdict-requires c κs = (c .kept-at .ensures, λ e. groups-apart (sheetOf (c .before .before .before .before .args .sheet .now)) (c .before .before .loop .inv .1 18 (omega (arith, e))))
 
 enum-known-v : tie.Need-enum-known-v Inv-loop μ-loop
 enum-known-v c = search needs

@@ -1,4 +1,5 @@
 -- Empty tables are right. Assumes nothing.
+use native.Mathlib.Omega.{arith}
 use Rattle.sheet.specs.Words.{sheetOf}
 use Rattle.checker.proofs.SearchLaws.{empty-right}
 use Rattle.checker.specs.Tables.{firstTable, secondTable}
@@ -19,7 +20,7 @@ slice-aggregate-broken-below : tie.Need-slice-aggregate-broken-below
 slice-aggregate-broken-below c = search needs
 
 broken-below-requires : tie.Need-broken-below-requires
-broken-below-requires c κs = search needs
+broken-below-requires c κs = λ j l. absurd (omega (arith, l))
 
 returns : tie.Need-returns
 returns c = c .before .broken-below .ensures .1 (empty-right (sheetOf (c .before .before .before .before .before .args .s .now)) (firstTable (c .before .before .before .before .before .args .rule) (c .before .before .before .before .before .args .section))) (empty-right (sheetOf (c .before .before .before .before .before .args .s .now)) (secondTable (c .before .before .before .before .before .args .rule) (c .before .before .before .before .before .args .section)))

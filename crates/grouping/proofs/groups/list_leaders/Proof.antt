@@ -42,7 +42,7 @@ same-length-2 : tie.Need-same-length-2 Inv-loop μ-loop
 same-length-2 c = c .before .loop .inv .2
 
 returns : tie.Need-returns Inv-loop μ-loop
-returns c = let z : c .before .loop .l ≡ count (sheetOf (c .before .before .before .before .before .before .args .s .now)) objects = omega (arith, c .before .loop .inv .0, c .before .before .count .ensures, c .loop-test .left) in (c .before .loop .inv .1, c .before .loop .inv .2, λ full also few. rw z at (c .before .loop .inv .3 few))
+returns c = let z : c .before .loop .l ≡ count (sheetOf (c .before .before .before .before .before .before .args .s .now)) objects = omega (arith, c .before .loop .inv .0, c .before .before .count .ensures, c .loop-test .left) in (c .before .loop .inv .1, c .before .loop .inv .2, λ few. rw z at (c .before .loop .inv .3 few))
 
 pub list-leaders-spec : {M : Type 1} → statement M
 list-leaders-spec =

@@ -15,7 +15,7 @@ pub fn sheets(size: Size) -> Vec<Generated> {
     let mut sheets = vec![complements(size), alternating_packs(size), jumping_sets(size)];
     sheets.push(groups_with_sets("sets of groups of three", 3, size.part(180), size));
     sheets.push(groups_with_sets("sets of one group", size.part(540), 1, size));
-    sheets.push(short_lists(size));
+    sheets.extend(short_lists(size));
     sheets.push(falling_labels(size));
     sheets.extend(labels(size));
     sheets.extend(contents(size));
@@ -147,17 +147,23 @@ fn pairs_with_sets(size: Size) -> Plan {
     plan
 }
 
+/// Top objects in groups of so many.
+fn grouped(members: usize, groups: usize) -> Plan {
+    let mut plan = top_objects(members * groups);
+    for leader in (0..members * groups).step_by(members) {
+        let others = word(leader + 1)..word(leader + members);
+        plan.objects[leader].complements = others.collect();
+    }
+    plan
+}
+
 /// Programmes that include all objects of some groups, and name the one set of each; their
 /// lists begin at the first content and set, or the second, in turn.
 fn groups_with_sets(name: &str, members: usize, groups: usize, size: Size) -> Generated {
-    let mut plan = top_objects(members * groups);
+    let mut plan = grouped(members, groups);
     let objects = plan.objects.len();
     for object in 0..objects {
         plan.add_sets(word(object), &[ValueSet::NONE]);
-        if object % members == 0 {
-            let others = word(object + 1)..word(object + members);
-            plan.objects[object].complements = others.collect();
-        }
     }
     let entries: Vec<u16> = (0..word(objects)).chain([0]).collect();
     let plan = with_programmes(plan, entries.repeat(2), size);
@@ -168,21 +174,50 @@ fn groups_with_sets(name: &str, members: usize, groups: usize, size: Size) -> Ge
     generated(name, bytes(&words), Accepted)
 }
 
-/// Pairs of objects: the first programme includes all, each other one the first object or
-/// the second.
-fn short_lists(size: Size) -> Generated {
-    let mut plan = top_objects(2 * size.part(190));
-    let objects = plan.objects.len();
-    for leader in (0..objects).step_by(2) {
-        plan.objects[leader].complements = vec![word(leader + 1)];
-    }
-    let plan = with_programmes(plan, (0..word(objects)).collect(), size);
-    let list = |number| match number {
-        0 => (0, objects),
-        _ => (number % 2, 1),
+/// Many objects in groups, and programmes that include few of them.
+fn short_lists(size: Size) -> Vec<Generated> {
+    let pairs = grouped(2, size.part(190));
+    let threes = grouped(3, size.part(120));
+    let mut with_set = threes.clone();
+    with_set.add_sets(0, &[ValueSet::NONE]);
+    let sheet = |name, plan, members, of_last, sets_of_first| {
+        short_listed(name, plan, members, of_last, sets_of_first, size)
     };
-    let words = with_lists(&plan, (PROGRAMME, programme::CONTENTS), list);
-    generated("short lists beside many pairs", bytes(&words), Accepted)
+    vec![
+        sheet("short lists beside many pairs", pairs, 2, 1, 0),
+        sheet("short lists beside one group", grouped(size.part(380), 1), size.part(380), 1, 0),
+        sheet("short lists, two of three in the last", threes, 3, 2, 0),
+        sheet("short lists, a set for one of three", with_set, 3, 1, 1),
+    ]
+}
+
+/// The first programme includes all objects and names so many sets, each other one
+/// includes an object of the first group, and the last so many of them.
+fn short_listed(
+    name: &str,
+    plan: Plan,
+    members: usize,
+    of_last: usize,
+    sets_of_first: usize,
+    size: Size,
+) -> Generated {
+    let objects = plan.objects.len();
+    let plan = with_programmes(plan, (0..word(objects)).collect(), size);
+    let last = plan.programmes.len() - 1;
+    let contents = |number| match number {
+        0 => (0, objects),
+        _ if number == last => (0, of_last),
+        _ => (number % members, 1),
+    };
+    let sets = |number| (0, if number == 0 { sets_of_first } else { 0 });
+    let mut words = with_lists(&plan, (PROGRAMME, programme::CONTENTS), contents);
+    set_lists(&mut words, objects, (PROGRAMME, programme::SETS), sets);
+    let expected = match (of_last, sets_of_first) {
+        (1, 0) => Accepted,
+        (1, _) => broken(22, 1, 0),
+        _ => broken(21, 1, last),
+    };
+    generated(name, bytes(&words), expected)
 }
 
 /// Top objects as many as leave space for the run, on packs of so many channels in turn.

@@ -1,8 +1,8 @@
 -- By its parts. Assumes nothing.
 use Rattle.grouping.specs.Groups.{objectFrom}
 use borrow.Author.Needs.{needs}
-use Rattle.grouping.proofs.programmes.object_from.Statement.{statement}
-use Rattle.grouping.proofs.programmes.object_from.Tie as tie
+use Rattle.grouping.proofs.entering.object_from.Statement.{statement}
+use Rattle.grouping.proofs.entering.object_from.Tie as tie
 
 add-word : tie.Need-add-word
 add-word c = search needs

@@ -15,8 +15,8 @@ use Rattle.profile.specs.Rules.{ownerAt}
 use Rattle.tables.specs.Right.{Owners}
 use Rattle.grouping.specs.Groups.{Noted, representative}
 use Rattle.grouping.proofs.PassLaws.{noted-none, noted-more, owner-read, set-entry}
-use Rattle.grouping.proofs.programmes.enter_sets.Statement.{statement}
-use Rattle.grouping.proofs.programmes.enter_sets.Tie as tie
+use Rattle.grouping.proofs.entering.enter_sets.Statement.{statement}
+use Rattle.grouping.proofs.entering.enter_sets.Tie as tie
 
 abbrev Inv-loop : tie.InvT-loop
 Inv-loop s base total owners alike p included₀ from n j₀ included j = (j ≤ n) × (length included ≡ length included₀) × (base ≡ offset (sheetOf s) references → Owners (sheetOf s) owners → Noted (ownerAt (sheetOf s) p) (λ k. representative alike (namedSet (sheetOf s) p k)) j included₀ included × ((k : ℕ) → k < j → namedSet (sheetOf s) p k < total))

@@ -11,8 +11,8 @@ use Rattle.sheet.specs.Layout.{number, offset}
 use Rattle.sheet.specs.Fields.{programmes, contents, references, contentList}
 use Rattle.grouping.specs.Groups.{Changed, objectAt}
 use Rattle.grouping.proofs.PassLaws.{changed-none, changed-more, object-entry}
-use Rattle.grouping.proofs.programmes.enter_objects.Statement.{statement}
-use Rattle.grouping.proofs.programmes.enter_objects.Tie as tie
+use Rattle.grouping.proofs.entering.enter_objects.Statement.{statement}
+use Rattle.grouping.proofs.entering.enter_objects.Tie as tie
 
 abbrev Inv-loop : tie.InvT-loop
 Inv-loop s base records p included₀ from n i₀ included i = (i ≤ n) × (length included ≡ length included₀) × (base ≡ offset (sheetOf s) references → records ≡ offset (sheetOf s) contents → Changed (objectAt (sheetOf s) p) i 0 1 included₀ included)

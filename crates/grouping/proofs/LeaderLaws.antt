@@ -1,0 +1,181 @@
+-- Groups by the leaders of a programme's objects. Assumes nothing.
+use Prim.Native.Nat.{ℕ, zero, suc, _+_, _-_, _<_, _≤_}
+use mathlib.Core.Path.{_≡_, refl, sym, ap, subst, _∙_}
+use mathlib.Core.Bool.{Bool, true, false, true≢false, cond, not, _&&_, _||_}
+use mathlib.Core.List.{List}
+use mathlib.Core.Logic.{_⊎_, ⊎-elim, inl, inr}
+use native.Mathlib.Omega.{arith}
+use native.Mathlib.Numerals.{add-one}
+use borrow.Author.Tests.{eqb-true, eqb-false, eq-eqb, ne-eqb, le-leb, ltb-true, ltb-false, not-false}
+use lib.Dec.{eqb, leb, ltb}
+use lib.ListN.{length, getD}
+use Rattle.sheet.specs.Words.{Sheet}
+use Rattle.sheet.specs.Layout.{count, number}
+use Rattle.sheet.specs.Fields.{programmes, objects, contentList, complementList}
+use Rattle.profile.specs.Counting.{any, howMany}
+use Rattle.profile.specs.Relations.{leader, leaderOf, member, members, includes}
+use Rattle.profile.specs.Rules.{setsDiffer}
+use Rattle.profile.proofs.GroupLaws.{member-zero}
+use Rattle.profile.proofs.SumLaws.{howMany-eq}
+use Rattle.tables.specs.declared.Naming.the-variants.{Included}
+use Rattle.tables.specs.declared.Mark.the-variants.{Store}
+use Rattle.tables.specs.Marks.{Standing, marked, repeat, timesBy}
+use Rattle.tables.proofs.MarkLaws.{repeat-store}
+use Rattle.tables.proofs.TableLaws.{included-marked}
+use Rattle.grouping.specs.Groups.{Asked, AskedFor, GroupKept, GroupsApart, UpTo, groupAt, groupWhole, manyIn, objectAt, setsIn}
+use Rattle.grouping.proofs.CountLaws.{Apart, two-counted}
+use Rattle.grouping.proofs.MemberLaws.{group-count}
+use Rattle.grouping.proofs.PassLaws.{past, sets-own}
+
+-- one place of a table is written: what it has, and what the others have
+module _ (h h′ : List ℕ) (l v : ℕ) (long : length h′ ≡ length h) (now : Standing (λ z. cond (eqb l z) v (getD h z 0)) h′) where
+  pub put : l < length h → getD h′ l 0 ≡ v
+  put inside = now l (rw long inside) ∙ ap (λ (b : Bool). cond b v (getD h l 0)) (eq-eqb l l refl)
+
+  pub others : (x : ℕ) → x < length h → (l ≡ x → ⊥) → getD h′ x 0 ≡ getD h x 0
+  others x inside other = now x (rw long inside) ∙ ap (λ (b : Bool). cond b v (getD h x 0)) (ne-eqb l x other)
+
+module _ (s : Sheet) (p : ℕ) (t : List ℕ) (seen : ℕ) where
+  pub asked-none : (h : List ℕ) → Asked s p t seen 0 h h
+  unfolding howMany
+  asked-none h few = (λ x l. omega (arith, few x l), λ l k. (λ r. omega arith, λ r. absurd (omega (arith, few l k))))
+
+  -- an object more
+  module _ (i l : ℕ) (h₀ h h′ : List ℕ) (e : l ≡ groupAt s p i) (long : length h′ ≡ length h) (step : AskedFor s t seen l h h′) where
+    -- by place: that of the group, or another
+    split : (P : ℕ → Type 0) → P l → ((x : ℕ) → x < length h′ → (l ≡ x → ⊥) → P x) → (x : ℕ) → x < length h′ → P x
+    split P here there x k =
+        (elim (eqb l x) as (λ b. eqb l x ≡ b → P x) [
+          | true ↦ λ q. subst P (eqb-true l x q) here
+          | false ↦ λ q. there x k (eqb-false l x q)
+        ]) refl
+
+    counted : (x : ℕ) → howMany (λ k. eqb (groupAt s p k) x) (i + 1) ≡ howMany (λ k. eqb (groupAt s p k) x) i + cond (eqb l x) 1 0
+    unfolding howMany
+    counted x = ap (howMany (λ k. eqb (groupAt s p k) x)) (add-one i) ∙ ap (λ (y : ℕ). howMany (λ k. eqb (groupAt s p k) x) i + cond (eqb y x) 1 0) (sym e)
+
+    module _ (before : UpTo (seen + 2) h × ((l : ℕ) → l < length h → (getD h l 0 ≤ seen + 1 → howMany (λ k. eqb (groupAt s p k) l) i ≤ getD h l 0 - seen) × (seen + 1 < getD h l 0 → GroupKept s t l))) where
+      inside : l < length h
+      inside = step .0
+
+      abbrev Here : Type 0
+      Here = (getD h′ l 0 ≤ seen + 2) × ((getD h′ l 0 ≤ seen + 1 → howMany (λ k. eqb (groupAt s p k) l) (i + 1) ≤ getD h′ l 0 - seen) × (seen + 1 < getD h′ l 0 → GroupKept s t l))
+
+      more : howMany (λ k. eqb (groupAt s p k) l) (i + 1) ≡ howMany (λ k. eqb (groupAt s p k) l) i + 1
+      more = counted l ∙ ap (λ (b : Bool). howMany (λ k. eqb (groupAt s p k) l) i + cond b 1 0) (eq-eqb l l refl)
+
+      here : Here
+      here =
+          ⊎-elim
+          (λ a. (omega (arith, a .1), (λ r. omega (arith, more, a .0, a .1, before .1 l inside .0 (omega (arith, a .0))), λ r. absurd (omega (arith, r, a .1)))))
+          (λ q. ⊎-elim
+          (λ a. (omega (arith, a .1), (λ r. absurd (omega (arith, r, a .1)), λ r. a .0)))
+          (λ a. (omega (arith, a .1, before .0 l inside), (λ r. absurd (omega (arith, r, a .0, a .1)), λ r. before .1 l inside .1 (a .0))))
+          q)
+          (step .2)
+
+      same : (x : ℕ) → (l ≡ x → ⊥) → howMany (λ k. eqb (groupAt s p k) x) (i + 1) ≡ howMany (λ k. eqb (groupAt s p k) x) i + 0
+      same x other = counted x ∙ ap (λ (b : Bool). howMany (λ k. eqb (groupAt s p k) x) i + cond b 1 0) (ne-eqb l x other)
+
+      there : (x : ℕ) → x < length h′ → (l ≡ x → ⊥) → (getD h′ x 0 ≤ seen + 2) × ((getD h′ x 0 ≤ seen + 1 → howMany (λ k. eqb (groupAt s p k) x) (i + 1) ≤ getD h′ x 0 - seen) × (seen + 1 < getD h′ x 0 → GroupKept s t x))
+      there x k other =
+          let z : getD h′ x 0 ≡ getD h x 0 = step .1 x (rw long at k) other in
+          let k₀ : x < length h = rw long at k in
+          (omega (arith, z, before .0 x k₀), (λ r. omega (arith, z, same x other, before .1 x k₀ .0 (omega (arith, z, r))), λ r. before .1 x k₀ .1 (omega (arith, z, r))))
+
+      both : (x : ℕ) → x < length h′ → (getD h′ x 0 ≤ seen + 2) × ((getD h′ x 0 ≤ seen + 1 → howMany (λ k. eqb (groupAt s p k) x) (i + 1) ≤ getD h′ x 0 - seen) × (seen + 1 < getD h′ x 0 → GroupKept s t x))
+      both = split (λ x. (getD h′ x 0 ≤ seen + 2) × ((getD h′ x 0 ≤ seen + 1 → howMany (λ k. eqb (groupAt s p k) x) (i + 1) ≤ getD h′ x 0 - seen) × (seen + 1 < getD h′ x 0 → GroupKept s t x))) here there
+
+    pub asked-more : Asked s p t seen i h₀ h → Asked s p t seen (i + 1) h₀ h′
+    asked-more before few = (λ x k. both (before few) x k .0, λ x k. both (before few) x k .1)
+
+-- a group of which one member at most is included is kept
+module _ (s : Sheet) (t : List ℕ) (l : ℕ) where
+  pub one-kept : manyIn s t l ≤ 1 → GroupKept s t l
+  unfolding groupWhole manyIn
+  one-kept few = (ap (λ (b : Bool). b || eqb (manyIn s t l) (members s l) && (eqb (setsIn s t l) 0 || eqb (setsIn s t l) (members s l))) (le-leb (manyIn s t l) 1 few), each)
+    where
+      each : 1 < getD t l 0 → (i : ℕ) → i < members s l → 1 < getD t (member s l i) 0 → setsDiffer s (getD t l 0 - 2) (getD t (member s l i) 0 - 2) ≡ false
+      each a zero k b = ap (λ (x : ℕ). setsDiffer s (getD t l 0 - 2) (getD t x 0 - 2)) (member-zero s l) ∙ sets-own s (getD t l 0 - 2)
+      each a (suc i) k b =
+          absurd (omega (
+            arith,
+            few,
+            two-counted (λ x. not (eqb (getD t (member s l x) 0) 0)) (members s l) 0 (suc i) (λ q. let z : 0 ≡ suc i = q in omega arith) (omega arith) k
+                (some (member s l 0) (subst (λ (x : ℕ). 1 < getD t x 0) (sym (member-zero s l)) a)) (some (member s l (suc i)) b),
+          ))
+        where
+          some : (x : ℕ) → 1 < getD t x 0 → not (eqb (getD t x 0) 0) ≡ true
+          some x a = ap not (ne-eqb (getD t x 0) 0 (λ q. let z : getD t x 0 ≡ 0 = q in absurd (omega arith)))
+
+-- one object with the test at most
+at-most-one : (p : ℕ → Bool) → howMany p 1 ≤ 1
+unfolding howMany
+at-most-one p =
+    (elim (p 0) as (λ b. p 0 ≡ b → 0 + cond b 1 0 ≤ 1) [
+      | true ↦ λ e. omega arith
+      | false ↦ λ e. omega arith
+    ]) refl
+
+-- where the table tells what the programme includes, the groups that were asked for and those with one object at most are all
+module _ (s : Sheet) (p : ℕ) (t : List ℕ) (apart : GroupsApart s) (entries : Apart (objectAt s p) (number s programmes p contentList)) (tells : (x : ℕ) → includes s p x ≡ not (eqb (getD t x 0) 0)) where
+  abbrev n : ℕ
+  n = number s programmes p contentList
+
+  -- the members of a group that are included are the objects with its leader
+  led : (l : ℕ) → l < count s objects → leader s l ≡ true → manyIn s t l ≡ howMany (λ i. eqb (groupAt s p i) l) n
+  unfolding manyIn includes objectAt groupAt
+  led l k h =
+      howMany-eq (λ i. not (eqb (getD t (member s l i) 0) 0)) (λ i. includes s p (member s l i)) (members s l) (λ i m. sym (tells (member s l i)))
+      ∙ group-count s apart (objectAt s p) n l entries k h
+
+  -- an object that leads none is alone
+  alone : (l : ℕ) → leader s l ≡ false → manyIn s t l ≤ 1
+  unfolding manyIn leader members
+  alone l h =
+      let z : number s objects l complementList ≡ 0 = omega (arith, ltb-false 0 (number s objects l complementList) h) in
+      subst (λ (k : ℕ). howMany (λ i. not (eqb (getD t (member s l i) 0) 0)) (suc k) ≤ 1) (sym z) (at-most-one (λ i. not (eqb (getD t (member s l i) 0) 0)))
+
+  pub asked-kept : (seen : ℕ) (h h′ : List ℕ) → UpTo seen h → length h′ ≡ count s objects → Asked s p t seen n h h′ → (l : ℕ) → l < count s objects → GroupKept s t l
+  asked-kept seen h h′ few long asked l k =
+      let so = asked few .1 l (rw long k) in
+      (elim (ltb (seen + 1) (getD h′ l 0)) as (λ b. ltb (seen + 1) (getD h′ l 0) ≡ b → GroupKept s t l) [
+        | true ↦ λ e. so .1 (ltb-true (seen + 1) (getD h′ l 0) e)
+        | false ↦ λ e. (elim (leader s l) as (λ b. leader s l ≡ b → GroupKept s t l) [
+          | true ↦ λ h. one-kept s t l (omega (arith, led l k h, so .0 (ltb-false (seen + 1) (getD h′ l 0) e), ltb-false (seen + 1) (getD h′ l 0) e))
+          | false ↦ λ h. one-kept s t l (alone l h)
+        ]) refl
+      ]) refl
+
+-- what stands in a place of a table lies inside it
+pub lies-inside : (h : List ℕ) (l : ℕ) → 0 < getD h l 0 → l < length h
+lies-inside h l some =
+    (elim (ltb l (length h)) as (λ b. ltb l (length h) ≡ b → l < length h) [
+      | true ↦ λ e. ltb-true l (length h) e
+      | false ↦ λ e. absurd (omega (arith, some, past h l (ltb-false l (length h) e)))
+    ]) refl
+
+-- nothing stands in the table once the places of what the programme includes have 0
+module _ (s : Sheet) (p : ℕ) (t t′ : List ℕ) (long : length t′ ≡ length t) (tells : (x : ℕ) → includes s p x ≡ not (eqb (getD t x 0) 0))
+    (now : Standing (λ x. repeat (marked (Store 0)) (timesBy s Included p x) (getD t x 0)) t′) where
+  -- what is never named is not included
+  unnamed : (x : ℕ) → eqb (timesBy s Included p x) 0 ≡ true → getD t x 0 ≡ 0
+  unnamed x e =
+      let z : _≡_ {A = ℕ} (cond (includes s p x) 1 0) 0 = sym (included-marked s p x) ∙ repeat-store 1 (timesBy s Included p x) 0 ∙ ap (λ (b : Bool). cond b 0 1) e in
+      eqb-true (getD t x 0) 0 (not-false _ (sym (tells x) ∙ none (includes s p x) z))
+    where
+      none : (b : Bool) → _≡_ {A = ℕ} (cond b 1 0) 0 → b ≡ false
+      none true z = absurd (omega (arith, z))
+      none false z = refl
+
+  pub left-empty : Standing (λ x. 0) t′
+  left-empty x l =
+      now x l ∙ repeat-store 0 (timesBy s Included p x) (getD t x 0)
+      ∙ (elim (eqb (timesBy s Included p x) 0) as (λ b. eqb (timesBy s Included p x) 0 ≡ b → cond b (getD t x 0) 0 ≡ 0) [
+        | true ↦ λ e. unnamed x e
+        | false ↦ λ e. refl
+      ]) refl
+
+pub group-entry : (s : Sheet) (p i l o : ℕ) → l ≡ leaderOf s o → o ≡ objectAt s p i → l ≡ groupAt s p i
+unfolding groupAt
+group-entry s p i l o a b = a ∙ ap (leaderOf s) b
