@@ -7,23 +7,18 @@ use crate::answers::say_unknown;
 use crate::answers::say_words;
 use crate::commands::Command;
 use listener::Answer;
-use listener::Reply;
 use listener::State;
 use listener::calls::open;
 
 // The words of the bench's listing buffer.
 const WORDS: usize = 28;
 
-// Writes a reply's answer and gives its state.
-fn answered(reply: Reply) -> State {
+// Opens the sheet, and writes the answer.
+pub fn opened(sheet: &[u8]) -> State {
+    let reply = open(sheet);
     let answer = reply.answer;
     say_answer(answer);
     reply.state
-}
-
-// Opens the sheet.
-pub fn opened(sheet: &[u8]) -> State {
-    answered(open(sheet))
 }
 
 // `tracks 0 1 5`, or why not.
@@ -41,24 +36,28 @@ fn list(sheet: &[u8], state: State) {
     say(b"\n");
 }
 
-// Answers a command, and gives the state after it.
+// Answers a command, and gives the state after it. The answer to a call is written here and not by a function that is given the reply,
+// since that would copy the state.
 pub fn obey(sheet: &[u8], state: State, command: Command) -> State {
-    match command {
-        Command::Programme(p) => answered(state.choose_programme(sheet, p)),
-        Command::Object(o) => answered(state.choose_object(sheet, o)),
-        Command::Gain(o, gain) => answered(state.set_gain(sheet, o, gain)),
-        Command::Offset(o, offset) => answered(state.set_offset(sheet, o, offset)),
+    let reply = match command {
+        Command::Programme(p) => state.choose_programme(sheet, p),
+        Command::Object(o) => state.choose_object(sheet, o),
+        Command::Gain(o, gain) => state.set_gain(sheet, o, gain),
+        Command::Offset(o, offset) => state.set_offset(sheet, o, offset),
         Command::List => {
             list(sheet, state);
-            state
+            return state;
         }
         Command::State => {
             say_state(state);
-            state
+            return state;
         }
         Command::Unknown => {
             say_unknown();
-            state
+            return state;
         }
-    }
+    };
+    let answer = reply.answer;
+    say_answer(answer);
+    reply.state
 }
