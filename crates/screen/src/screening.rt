@@ -45,9 +45,9 @@ fn entries(s: &[u8], section: u8, k: u16) -> u32
     }
 }
 
-// The lists of a section that have more entries together are left to the search: where many records share long lists, walking them
-// takes too long.
-const MOST_ENTRIES: u32 = 262144;
+// The lists of a section that have more entries together, twice as many as section 6 can have, are left to the search: where many records
+// share long lists, walking them takes too long, and for nothing where the sheet doesn't pass.
+const MOST_ENTRIES: u32 = 65536;
 
 // Whether a section's lists have few entries together, as they have in a short sheet. Nothing rests on this but time.
 fn few_entries(s: &[u8], section: u8) -> bool {

@@ -15,6 +15,8 @@ pub fn sheets(size: Size) -> Vec<Generated> {
     let mut sheets = vec![complements(size), alternating_packs(size), jumping_sets(size)];
     sheets.push(groups_with_sets("sets of groups of three", 3, size.part(180), size));
     sheets.push(groups_with_sets("sets of one group", size.part(540), 1, size));
+    sheets.extend(one_of_each(3, size.part(215), size));
+    sheets.extend(one_of_each(4, size.part(86), size));
     sheets.extend(short_lists(size));
     sheets.push(falling_labels(size));
     sheets.extend(labels(size));
@@ -172,6 +174,29 @@ fn groups_with_sets(name: &str, members: usize, groups: usize, size: Size) -> Ge
     let mut words = with_lists(&plan, (PROGRAMME, programme::CONTENTS), contents);
     set_lists(&mut words, 2 * entries.len(), (PROGRAMME, programme::SETS), sets);
     generated(name, bytes(&words), Accepted)
+}
+
+/// Groups: the first programme includes all objects, each other one the first of each
+/// group, or the second and so on in turn; in the second sheet the last programme
+/// includes two of the first group.
+fn one_of_each(members: usize, groups: usize, size: Size) -> [Generated; 2] {
+    let plan = grouped(members, groups);
+    let objects = plan.objects.len();
+    let of_each = |member: usize| (member..objects).step_by(members).map(word);
+    let run = (0..word(objects)).chain((0..members).flat_map(of_each)).collect();
+    let plan = with_programmes(plan, run, size);
+    let last = plan.programmes.len() - 1;
+    let turn = |number| (objects + number % members * groups, groups);
+    let sheet = |name: &str, list_of_last, expected| {
+        let list = |number| match number {
+            0 => (0, objects),
+            _ if number == last => list_of_last,
+            _ => turn(number),
+        };
+        let words = with_lists(&plan, (PROGRAMME, programme::CONTENTS), list);
+        generated(&format!("one of each group of {members}{name}"), bytes(&words), expected)
+    };
+    [sheet("", turn(last), Accepted), sheet(", two in the last", (0, 2), broken(21, 1, last))]
 }
 
 /// Many objects in groups, and programmes that include few of them.
