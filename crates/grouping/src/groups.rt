@@ -11,7 +11,7 @@ use sheet::layout::field;
 use sheet::layout::number;
 use sheet::words::word;
 use sheet::words::word_count;
-ghost use Prim.Native.Nat.{ℕ, suc, _+_, _-_, _<_};
+ghost use Prim.Native.Nat.{ℕ, suc, _+_, _-_, _<_, _≤_};
 ghost use lib.Dec.{eqb, ltb};
 ghost use lib.ListN.{getD, length};
 ghost use mathlib.Core.Bool.{cond, false, not, true};
@@ -40,9 +40,8 @@ fn noted_differ(s: &[u8], sets: u16, e: u16, c: u16) -> bool
     sets_differ(s, sets, e - 2, c - 2)
 }
 
-// Of a group whose leader has e in the table, and whose n complements are listed from `first` on: one at most is included, or all are,
-// sets are named for all or none, and those of the complements have the words of the leader's. Section 6 begins at `base`, section 7 at
-// `sets`.
+// Of a group whose leader has e in the table, and whose n complements are listed from `first` on: all members are included, sets are
+// named for all or none, and those of the complements have the words of the leader's. Section 6 begins at `base`, section 7 at `sets`.
 fn members_kept(
     s: &[u8],
     base: u16,
@@ -73,7 +72,27 @@ fn members_kept(
         i += 1;
     }
     let all = n as u32 + 1;
-    (many <= 1) | ((many == all) & ((noted == 0) | (noted == all)))
+    (many == all) & ((noted == 0) | (noted == all))
+}
+
+// Whether of such a group one member at most is included.
+fn one_included(s: &[u8], base: u16, first: u16, n: u16, included: &[u16], e: u16) -> bool
+    ensures { λ r. ⌜ (r ≡ true → cond (not (eqb e 0)) 1 0 + howMany (λ i. not (eqb (getD (now (included .entry)) (word (sheetOf (now (s .entry))) (base + (first + i))) 0) 0)) n ≤ 1) ⌝ }
+{
+    if word_count(s) < base as usize + (first as usize + n as usize) {
+        return false;
+    }
+    let mut many: u32 = one(e != 0) as u32;
+    let mut i: u16 = 0;
+    while i < n {
+        let c = at(
+            included,
+            word(s, base as usize + (first as usize + i as usize)),
+        );
+        many += one(c != 0) as u32;
+        i += 1;
+    }
+    many <= 1
 }
 
 // A group of two, by what the table has for both.
@@ -102,6 +121,9 @@ pub fn group_kept(s: &[u8], base: u16, sets: u16, included: &[u16], l: u16, m: u
         return pair_kept(s, sets, e, at(included, m));
     }
     let first = field(s, OBJECTS, l, COMPLEMENT_LIST);
+    if one_included(s, base, first, n, included, e) {
+        return true;
+    }
     members_kept(s, base, sets, first, n, included, e)
 }
 

@@ -1,7 +1,9 @@
--- As a group of two, or by its list. Assumes nothing.
+-- As a group of two, by one member at most, or by its list. Assumes nothing.
 use mathlib.Core.Path.{sym, _∙_}
+use native.Mathlib.Omega.{arith}
 use Rattle.sheet.specs.Words.{sheetOf}
-use Rattle.grouping.proofs.PassLaws.{group-whole, group-agrees}
+use Rattle.grouping.proofs.LeaderLaws.{one-kept}
+use Rattle.grouping.proofs.PassLaws.{group-whole, group-agrees, many-counted}
 use Rattle.grouping.proofs.RowLaws.{led-pair}
 use borrow.Author.Needs.{needs}
 use Rattle.grouping.proofs.groups.group_kept.Statement.{statement}
@@ -25,11 +27,17 @@ returns c = λ e a b partner. led-pair (sheetOf (c .before .before .before .befo
 field-requires : tie.Need-field-requires
 field-requires c κs = search needs
 
+one-included-requires : tie.Need-one-included-requires
+one-included-requires c κs = search needs
+
+returns-2 : tie.Need-returns-2
+returns-2 c = λ e a b partner. one-kept (sheetOf (c .before .before .before .before .before .before .before .before .args .s .now)) (c .before .before .before .before .before .before .before .before .args .included .now) (c .before .before .before .before .before .before .before .before .args .l) (omega (arith, c .before .one-included .ensures (c .if2 .taken), many-counted (sheetOf (c .before .before .before .before .before .before .before .before .args .s .now)) (c .before .before .before .before .before .before .before .before .args .included .now) (c .before .before .before .before .before .before .before .before .args .base) (c .before .before .field .result) (c .before .before .before .before .before .number .result) (c .before .before .before .before .at .result) (c .before .before .before .before .before .before .before .before .args .l) a (c .before .before .field .ensures) (c .before .before .before .before .before .number .ensures) (c .before .before .before .before .at .ensures)))
+
 members-kept-requires : tie.Need-members-kept-requires
 members-kept-requires c κs = search needs
 
-returns-2 : tie.Need-returns-2
-returns-2 c = λ e a b partner. let kept = c .members-kept .ensures e b in (sym (group-whole (sheetOf (c .before .before .before .before .before .before .before .args .s .now)) (c .before .before .before .before .before .before .before .args .included .now) (c .before .before .before .before .before .before .before .args .base) (c .before .field .result) (c .before .before .before .before .number .result) (c .before .before .before .at .result) (c .before .before .before .before .before .before .before .args .l) a (c .before .field .ensures) (c .before .before .before .before .number .ensures) (c .before .before .before .at .ensures)) ∙ kept .0, group-agrees (sheetOf (c .before .before .before .before .before .before .before .args .s .now)) (c .before .before .before .before .before .before .before .args .included .now) (c .before .before .before .before .before .before .before .args .base) (c .before .field .result) (c .before .before .before .before .number .result) (c .before .before .before .at .result) (c .before .before .before .before .before .before .before .args .l) a (c .before .field .ensures) (c .before .before .before .before .number .ensures) (c .before .before .before .at .ensures) (kept .1))
+returns-3 : tie.Need-returns-3
+returns-3 c = λ e a b partner. let kept = c .members-kept .ensures e b in (sym (group-whole (sheetOf (c .before .before .before .before .before .before .before .before .before .args .s .now)) (c .before .before .before .before .before .before .before .before .before .args .included .now) (c .before .before .before .before .before .before .before .before .before .args .base) (c .before .before .before .field .result) (c .before .before .before .before .before .before .number .result) (c .before .before .before .before .before .at .result) (c .before .before .before .before .before .before .before .before .before .args .l) a (c .before .before .before .field .ensures) (c .before .before .before .before .before .before .number .ensures) (c .before .before .before .before .before .at .ensures)) ∙ kept .0, group-agrees (sheetOf (c .before .before .before .before .before .before .before .before .before .args .s .now)) (c .before .before .before .before .before .before .before .before .before .args .included .now) (c .before .before .before .before .before .before .before .before .before .args .base) (c .before .before .before .field .result) (c .before .before .before .before .before .before .number .result) (c .before .before .before .before .before .at .result) (c .before .before .before .before .before .before .before .before .before .args .l) a (c .before .before .before .field .ensures) (c .before .before .before .before .before .before .number .ensures) (c .before .before .before .before .before .at .ensures) (kept .1))
 
 pub group-kept-spec : {M : Type 1} → statement M
 group-kept-spec =
@@ -41,5 +49,7 @@ group-kept-spec =
     pair-kept-requires
     returns
     field-requires
+    one-included-requires
+    returns-2
     members-kept-requires
-    returns-2)
+    returns-3)

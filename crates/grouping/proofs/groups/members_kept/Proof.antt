@@ -14,7 +14,7 @@ use Rattle.sheet.specs.Layout.{offset}
 use Rattle.sheet.specs.Fields.{valueSets}
 use Rattle.profile.specs.Counting.{howMany}
 use Rattle.profile.specs.Rules.{setsDiffer}
-use Rattle.grouping.specs.Groups.{groupWhole}
+use Rattle.grouping.proofs.PassLaws.{all-whole}
 use Rattle.grouping.proofs.groups.members_kept.Statement.{statement}
 use Rattle.grouping.proofs.groups.members_kept.Tie as tie
 
@@ -105,8 +105,7 @@ add-all : tie.Need-add-all Inv-loop μ-loop
 add-all c = search needs
 
 returns-3 : tie.Need-returns-3 Inv-loop μ-loop
-unfolding groupWhole
-returns-3 c = let z : c .before .loop .i ≡ c .before .before .before .before .before .before .before .before .args .n = omega (arith, c .before .loop .inv .0, c .loop-test .left) in λ e at. (rw (c .before .loop .inv .3, c .before .loop .inv .4, z, add-one) at e, rw z at (c .before .loop .inv .5 at))
+returns-3 c = let z : c .before .loop .i ≡ c .before .before .before .before .before .before .before .before .args .n = omega (arith, c .before .loop .inv .0, c .loop-test .left) in λ e at. (all-whole _ _ _ (rw (c .before .loop .inv .3, c .before .loop .inv .4, z, add-one) at e), rw z at (c .before .loop .inv .5 at))
 
 pub members-kept-spec : {M : Type 1} → statement M
 members-kept-spec =
