@@ -32,17 +32,17 @@ fn group_asked(
     included: &[u16],
     seen: u16,
     l: u16,
-    heads: &mut [u16],
+    groups: &mut [u16],
 ) -> bool
     requires { ⌜ seen < 65534 ⌝ }
-    ensures { λ r. ⌜ (length (now (heads .exit)) ≡ length (now (heads .entry))) × (r ≡ true → base ≡ offset (sheetOf (now (s .entry))) references → sets ≡ offset (sheetOf (now (s .entry))) valueSets → AskedFor (sheetOf (now (s .entry))) (now (included .entry)) seen l (now (heads .entry)) (now (heads .exit))) ⌝ }
+    ensures { λ r. ⌜ (length (now (groups .exit)) ≡ length (now (groups .entry))) × (r ≡ true → base ≡ offset (sheetOf (now (s .entry))) references → sets ≡ offset (sheetOf (now (s .entry))) valueSets → AskedFor (sheetOf (now (s .entry))) (now (included .entry)) seen l (now (groups .entry)) (now (groups .exit))) ⌝ }
 {
-    let h = at(heads, l);
+    let h = at(groups, l);
     if seen + 1 < h {
         return true;
     }
     if h <= seen {
-        return change(heads, l, h, seen + 1);
+        return change(groups, l, h, seen + 1);
     }
     if !group_kept(
         s,
@@ -54,7 +54,7 @@ fn group_asked(
     ) {
         return false;
     }
-    change(heads, l, h, seen + 2)
+    change(groups, l, h, seen + 2)
 }
 
 // The groups of all objects that a programme includes. With programme p `seen` is 2 p, so that what the table has of the programmes
@@ -67,9 +67,9 @@ pub fn groups_asked(
     leaders: &[u16],
     p: u16,
     included: &[u16],
-    heads: &mut [u16],
+    groups: &mut [u16],
 ) -> bool
-    ensures { λ r. ⌜ (length (now (heads .exit)) ≡ length (now (heads .entry))) × (r ≡ true → base ≡ offset (sheetOf (now (s .entry))) references → records ≡ offset (sheetOf (now (s .entry))) contents → sets ≡ offset (sheetOf (now (s .entry))) valueSets → Leaders (sheetOf (now (s .entry))) (now (leaders .entry)) → Asked (sheetOf (now (s .entry))) p (now (included .entry)) (2 * p) (number (sheetOf (now (s .entry))) programmes p contentList) (now (heads .entry)) (now (heads .exit))) ⌝ }
+    ensures { λ r. ⌜ (length (now (groups .exit)) ≡ length (now (groups .entry))) × (r ≡ true → base ≡ offset (sheetOf (now (s .entry))) references → records ≡ offset (sheetOf (now (s .entry))) contents → sets ≡ offset (sheetOf (now (s .entry))) valueSets → Leaders (sheetOf (now (s .entry))) (now (leaders .entry)) → Asked (sheetOf (now (s .entry))) p (now (included .entry)) (2 * p) (number (sheetOf (now (s .entry))) programmes p contentList) (now (groups .entry)) (now (groups .exit))) ⌝ }
 {
     if 32766 < p {
         return false;
@@ -80,7 +80,7 @@ pub fn groups_asked(
     let mut i: u16 = 0;
     while i < n {
         let l = leader_by(s, leaders, object_from(s, base, records, from, i));
-        if !group_asked(s, base, sets, included, seen, l, heads) {
+        if !group_asked(s, base, sets, included, seen, l, groups) {
             return false;
         }
         i += 1;

@@ -96,9 +96,9 @@ fn kept_by_leaders(
     leaders: &[u16],
     p: u16,
     included: &mut [u16],
-    heads: &mut [u16],
+    groups: &mut [u16],
 ) -> bool
-    ensures { λ r. ⌜ (length (now (included .exit)) ≡ length (now (included .entry))) × (length (now (heads .exit)) ≡ length (now (heads .entry))) × (r ≡ true → Begins (sheetOf (now (s .entry))) base records sets → Passing (sheetOf (now (s .entry))) both (now (owners .entry)) (now (alike .entry)) → Leaders (sheetOf (now (s .entry))) (now (leaders .entry)) → GroupsApart (sheetOf (now (s .entry))) → Ready (sheetOf (now (s .entry))) p (now (included .entry)) (now (heads .entry)) → (0 < p → Kept (sheetOf (now (s .entry))) both (p - 1)) → Ready (sheetOf (now (s .entry))) (p + 1) (now (included .exit)) (now (heads .exit)) × Kept (sheetOf (now (s .entry))) both p) ⌝ }
+    ensures { λ r. ⌜ (length (now (included .exit)) ≡ length (now (included .entry))) × (length (now (groups .exit)) ≡ length (now (groups .entry))) × (r ≡ true → Begins (sheetOf (now (s .entry))) base records sets → Passing (sheetOf (now (s .entry))) both (now (owners .entry)) (now (alike .entry)) → Leaders (sheetOf (now (s .entry))) (now (leaders .entry)) → GroupsApart (sheetOf (now (s .entry))) → Ready (sheetOf (now (s .entry))) p (now (included .entry)) (now (groups .entry)) → (0 < p → Kept (sheetOf (now (s .entry))) both (p - 1)) → Ready (sheetOf (now (s .entry))) (p + 1) (now (included .exit)) (now (groups .exit)) × Kept (sheetOf (now (s .entry))) both p) ⌝ }
 {
     if same_lists(s, both, p) {
         return true;
@@ -106,7 +106,7 @@ fn kept_by_leaders(
     if !enter(s, base, records, owners, alike, both, p, included) {
         return false;
     }
-    if !groups_asked(s, base, records, sets, leaders, p, included, heads) {
+    if !groups_asked(s, base, records, sets, leaders, p, included, groups) {
         return false;
     }
     mark_items(s, Naming::Included, p, Mark::Store(0), included);
@@ -162,17 +162,17 @@ fn leaders_from(
     both: bool,
     from: u16,
     leaders: &mut [u16],
-    heads: &mut [u16],
+    groups: &mut [u16],
     included: &mut [u16],
 ) -> u16
-    ensures { λ r. ⌜ (length (now (leaders .exit)) ≡ length (now (leaders .entry))) × (length (now (heads .exit)) ≡ length (now (heads .entry))) × (length (now (included .exit)) ≡ length (now (included .entry))) × (Passing (sheetOf (now (s .entry))) both (now (owners .entry)) (now (alike .entry)) → Full (sheetOf (now (s .entry))) (now (leaders .entry)) (now (heads .entry)) (now (included .entry)) → GroupsApart (sheetOf (now (s .entry))) → KeptTo (sheetOf (now (s .entry))) both from → KeptTo (sheetOf (now (s .entry))) both r) ⌝ }
+    ensures { λ r. ⌜ (length (now (leaders .exit)) ≡ length (now (leaders .entry))) × (length (now (groups .exit)) ≡ length (now (groups .entry))) × (length (now (included .exit)) ≡ length (now (included .entry))) × (Passing (sheetOf (now (s .entry))) both (now (owners .entry)) (now (alike .entry)) → Full (sheetOf (now (s .entry))) (now (leaders .entry)) (now (groups .entry)) (now (included .entry)) → GroupsApart (sheetOf (now (s .entry))) → KeptTo (sheetOf (now (s .entry))) both from → KeptTo (sheetOf (now (s .entry))) both r) ⌝ }
 {
     let base = offset(s, REFERENCES);
     let records = offset(s, CONTENTS);
     let sets = offset(s, VALUE_SETS);
     clear(leaders);
     first_namers(s, Naming::Complements, leaders);
-    clear(heads);
+    clear(groups);
     clear(included);
     let n = count(s, PROGRAMMES);
     let mut p: u16 = from;
@@ -188,7 +188,7 @@ fn leaders_from(
             leaders,
             p,
             included,
-            heads,
+            groups,
         ) {
             return p;
         }

@@ -17,10 +17,10 @@ use Rattle.grouping.proofs.leaders.groups_asked.Statement.{statement}
 use Rattle.grouping.proofs.leaders.groups_asked.Tie as tie
 
 abbrev Inv-loop : tie.InvT-loop
-Inv-loop s base records sets leaders p included heads₀ seen from n i₀ heads i = (i ≤ n) × (length heads ≡ length heads₀) × (base ≡ offset (sheetOf s) references → records ≡ offset (sheetOf s) contents → sets ≡ offset (sheetOf s) valueSets → Leaders (sheetOf s) leaders → Asked (sheetOf s) p included seen i heads₀ heads)
+Inv-loop s base records sets leaders p included groups₀ seen from n i₀ groups i = (i ≤ n) × (length groups ≡ length groups₀) × (base ≡ offset (sheetOf s) references → records ≡ offset (sheetOf s) contents → sets ≡ offset (sheetOf s) valueSets → Leaders (sheetOf s) leaders → Asked (sheetOf s) p included seen i groups₀ groups)
 
 abbrev μ-loop : tie.MeasureT-loop
-μ-loop s base records sets leaders p included heads₀ seen from n i₀ heads i = n - i
+μ-loop s base records sets leaders p included groups₀ seen from n i₀ groups i = n - i
 
 returns : tie.Need-returns Inv-loop μ-loop
 returns c = (refl, λ e. absurd (true≢false (sym e)))
@@ -35,7 +35,7 @@ number-requires : tie.Need-number-requires Inv-loop μ-loop
 number-requires c κs = search needs
 
 loop-holds : tie.Need-loop-holds Inv-loop μ-loop
-loop-holds c = (search needs, refl, λ a b d led. asked-none (sheetOf (c .before .before .before .before .before .before .before .args .s .now)) (c .before .before .before .before .before .before .before .args .p) (c .before .before .before .before .before .before .before .args .included .now) (2 * c .before .before .before .before .before .before .before .args .p) (c .before .before .before .before .before .before .before .args .heads .now))
+loop-holds c = (search needs, refl, λ a b d led. asked-none (sheetOf (c .before .before .before .before .before .before .before .args .s .now)) (c .before .before .before .before .before .before .before .args .p) (c .before .before .before .before .before .before .before .args .included .now) (2 * c .before .before .before .before .before .before .before .args .p) (c .before .before .before .before .before .before .before .args .groups .now))
 
 object-from-requires : tie.Need-object-from-requires Inv-loop μ-loop
 object-from-requires c κs = search needs
@@ -59,7 +59,7 @@ loop-less : tie.Need-loop-less Inv-loop μ-loop
 loop-less c = search needs
 
 loop-again : tie.Need-loop-again Inv-loop μ-loop
-loop-again c = (search needs, c .before .before .before .group-asked .ensures .0 ∙ c .before .before .before .before .before .before .before .before .loop .inv .1, λ a b d led. asked-more (sheetOf (c .before .before .before .before .before .before .before .before .before .before .before .before .before .before .before .before .args .s .now)) (c .before .before .before .before .before .before .before .before .before .before .before .before .before .before .before .before .args .p) (c .before .before .before .before .before .before .before .before .before .before .before .before .before .before .before .before .args .included .now) (2 * c .before .before .before .before .before .before .before .before .before .before .before .before .before .before .before .before .args .p) (c .before .before .before .before .before .before .before .before .loop .i) (c .before .before .before .before .before .leader-by .result) (c .before .before .before .before .before .before .before .before .before .before .before .before .before .before .before .before .args .heads .now) (c .before .before .before .before .before .before .before .before .loop .heads) (c .before .before .before .group-asked .last .1 .1 .1 .1 .1 .1 .0) (group-entry (sheetOf (c .before .before .before .before .before .before .before .before .before .before .before .before .before .before .before .before .args .s .now)) (c .before .before .before .before .before .before .before .before .before .before .before .before .before .before .before .before .args .p) (c .before .before .before .before .before .before .before .before .loop .i) (c .before .before .before .before .before .leader-by .result) (c .before .before .before .before .before .before .object-from .result) (c .before .before .before .before .before .leader-by .ensures led) (c .before .before .before .before .before .before .object-from .ensures ∙ object-entry (sheetOf (c .before .before .before .before .before .before .before .before .before .before .before .before .before .before .before .before .args .s .now)) (c .before .before .before .before .before .before .before .before .before .before .before .before .before .before .before .before .args .base) (c .before .before .before .before .before .before .before .before .before .before .before .before .before .before .before .before .args .records) (c .before .before .before .before .before .before .before .before .before .before .field .result) (c .before .before .before .before .before .before .before .before .before .before .before .before .before .before .before .before .args .p) (c .before .before .before .before .before .before .before .before .loop .i) a b (c .before .before .before .before .before .before .before .before .before .before .field .ensures))) (c .before .before .before .group-asked .ensures .0) (c .before .before .before .group-asked .ensures .1 (not-false _ (c .if2 .left)) a d) (c .before .before .before .before .before .before .before .before .loop .inv .2 a b d led))
+loop-again c = (search needs, c .before .before .before .group-asked .ensures .0 ∙ c .before .before .before .before .before .before .before .before .loop .inv .1, λ a b d led. asked-more (sheetOf (c .before .before .before .before .before .before .before .before .before .before .before .before .before .before .before .before .args .s .now)) (c .before .before .before .before .before .before .before .before .before .before .before .before .before .before .before .before .args .p) (c .before .before .before .before .before .before .before .before .before .before .before .before .before .before .before .before .args .included .now) (2 * c .before .before .before .before .before .before .before .before .before .before .before .before .before .before .before .before .args .p) (c .before .before .before .before .before .before .before .before .loop .i) (c .before .before .before .before .before .leader-by .result) (c .before .before .before .before .before .before .before .before .before .before .before .before .before .before .before .before .args .groups .now) (c .before .before .before .before .before .before .before .before .loop .groups) (c .before .before .before .group-asked .last .1 .1 .1 .1 .1 .1 .0) (group-entry (sheetOf (c .before .before .before .before .before .before .before .before .before .before .before .before .before .before .before .before .args .s .now)) (c .before .before .before .before .before .before .before .before .before .before .before .before .before .before .before .before .args .p) (c .before .before .before .before .before .before .before .before .loop .i) (c .before .before .before .before .before .leader-by .result) (c .before .before .before .before .before .before .object-from .result) (c .before .before .before .before .before .leader-by .ensures led) (c .before .before .before .before .before .before .object-from .ensures ∙ object-entry (sheetOf (c .before .before .before .before .before .before .before .before .before .before .before .before .before .before .before .before .args .s .now)) (c .before .before .before .before .before .before .before .before .before .before .before .before .before .before .before .before .args .base) (c .before .before .before .before .before .before .before .before .before .before .before .before .before .before .before .before .args .records) (c .before .before .before .before .before .before .before .before .before .before .field .result) (c .before .before .before .before .before .before .before .before .before .before .before .before .before .before .before .before .args .p) (c .before .before .before .before .before .before .before .before .loop .i) a b (c .before .before .before .before .before .before .before .before .before .before .field .ensures))) (c .before .before .before .group-asked .ensures .0) (c .before .before .before .group-asked .ensures .1 (not-false _ (c .if2 .left)) a d) (c .before .before .before .before .before .before .before .before .loop .inv .2 a b d led))
 
 same-length-2 : tie.Need-same-length-2 Inv-loop μ-loop
 same-length-2 c = c .before .loop .inv .1

@@ -17,10 +17,10 @@ use Rattle.grouping.proofs.programmes.leaders_from.Statement.{statement
 use Rattle.grouping.proofs.programmes.leaders_from.Tie as tie
 
 abbrev Inv-loop : tie.InvT-loop
-Inv-loop s owners alike both from leaders heads₀ included₀ base records sets n p₀ heads included p = (length heads ≡ length heads₀) × (length included ≡ length included₀) × (Passing (sheetOf s) both owners alike → Leaders (sheetOf s) leaders → GroupsApart (sheetOf s) → length heads₀ ≡ count (sheetOf s) objects → length included₀ ≡ count (sheetOf s) objects → KeptTo (sheetOf s) both from → Ready (sheetOf s) p included heads × KeptTo (sheetOf s) both p)
+Inv-loop s owners alike both from leaders groups₀ included₀ base records sets n p₀ groups included p = (length groups ≡ length groups₀) × (length included ≡ length included₀) × (Passing (sheetOf s) both owners alike → Leaders (sheetOf s) leaders → GroupsApart (sheetOf s) → length groups₀ ≡ count (sheetOf s) objects → length included₀ ≡ count (sheetOf s) objects → KeptTo (sheetOf s) both from → Ready (sheetOf s) p included groups × KeptTo (sheetOf s) both p)
 
 abbrev μ-loop : tie.MeasureT-loop
-μ-loop s owners alike both from leaders heads₀ included₀ base records sets n p₀ heads included p = n - p
+μ-loop s owners alike both from leaders groups₀ included₀ base records sets n p₀ groups included p = n - p
 
 offset-requires : tie.Need-offset-requires Inv-loop μ-loop
 offset-requires c κs = search needs
