@@ -27,11 +27,11 @@ KeptTo s both k = (p : ℕ) → p < k → Kept s both p
 abbrev pub ProgrammesKept : Sheet → Type 0
 ProgrammesKept s = KeptTo s true (count s programmes)
 
--- each value set is in one span
+-- rule 11 is kept by the value sets: each is in one span
 abbrev pub OneSpan : Sheet → Type 0
 OneSpan s = any (rule11 s valueSets) (count s valueSets) ≡ false
 
--- no two groups have a member in common, and none has one twice
+-- rule 19 is kept: so no two groups have a member in common, and none has one twice
 abbrev pub GroupsApart : Sheet → Type 0
 GroupsApart s = any (rule19 s objects) (count s objects) ≡ false
 
