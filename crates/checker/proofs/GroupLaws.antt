@@ -17,10 +17,10 @@ use Rattle.profile.specs.Verdict.{breaks, brokenRecord, brokenSection, ruleBrok
 use Rattle.profile.proofs.CountingLaws.{finds, howMany-le}
 use Rattle.profile.proofs.GroupLaws.{any-witness}
 use Rattle.profile.proofs.SumLaws.{any-nowhere}
-use Rattle.tables.specs.Right.{Spanned, counted}
+use Rattle.tables.specs.steps.Right.{Spanned, counted}
 use Rattle.tables.proofs.TableLaws.{counted-one}
-use Rattle.grouping.specs.Groups.{GroupsApart, OneSpan}
-use Rattle.checker.specs.Kept.{KeptBelow, Unbroken}
+use Rattle.grouping.specs.steps.Groups.{GroupsApart, OneSpan}
+use Rattle.checker.specs.steps.Kept.{KeptBelow, Unbroken}
 
 -- each set is counted once
 pub sets-once : (s : Sheet) (t : List ℕ) → Spanned s t → ((v : ℕ) → v < count s valueSets → (v < length t) × (getD t v 0 ≡ 1)) → OneSpan s

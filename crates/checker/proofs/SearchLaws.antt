@@ -18,14 +18,14 @@ use Rattle.profile.proofs.CountingLaws.{lowest-at, lowest-none}
 use Rattle.tables.specs.declared.Naming.the-variants.{ContentObjects, Children, SetSpans}
 use Rattle.tables.specs.declared.Mark.the-variants.{Count}
 use Rattle.tables.specs.declared.Naming.{Naming}
-use Rattle.tables.specs.Marks.{Standing, marked, repeat, namedBy, firstBy}
-use Rattle.tables.specs.Right as tables
-use Rattle.tables.specs.Right.{counted}
+use Rattle.tables.specs.steps.Marks.{Standing, marked, repeat, namedBy, firstBy}
+use Rattle.tables.specs.steps.Right as tables
+use Rattle.tables.specs.steps.Right.{counted}
 use Rattle.tables.proofs.TableLaws.{namings-added, span-namings}
 use Rattle.checker.specs.declared.Table.{Table}
 use Rattle.checker.specs.declared.Table.the-variants.{Nothing, Named, Spanned, Listed, Tops, Complements, Owners, Leaders, Lacking, Languages, Repeats, Strays, Ordinals}
 use Rattle.checker.specs.Checked.{ruleVerdict}
-use Rattle.checker.specs.Tables.{Right}
+use Rattle.checker.specs.steps.Tables.{Right}
 use Rattle.checker.proofs.SubjectLaws.{Rest, rest-ended}
 
 module _ (s : Sheet) where

@@ -13,7 +13,7 @@ use Rattle.sheet.specs.Words.{Sheet}
 use Rattle.profile.specs.Counting.{every}
 use Rattle.profile.specs.Verdict.{breaks, rules, subjectTable, subjectKind, subjects, brokenRecord, sectionBroken}
 use Rattle.profile.proofs.ListLaws.{every-at}
-use Rattle.checker.specs.Rows.{digit, subjectRows, subjectRow, subjectsOf}
+use Rattle.checker.specs.steps.Rows.{digit, subjectRows, subjectRow, subjectsOf}
 
 -- no rule has a number past 24
 past-rows : (rule section : ℕ) → 25 ≤ rule → subjectKind rule section ≡ 0

@@ -1,4 +1,2 @@
-pub mod Tables
-pub mod Rows
 pub mod Checked
-pub mod Kept
+pub mod steps

@@ -15,9 +15,9 @@ use tables::marks::count_namings;
 use tables::marks::first_namers;
 ghost use lib.ListN.{length};
 ghost use mathlib.Core.Path.{_≡_};
-ghost use Rattle.checker.specs.Tables.{Right, firstTable, secondTable};
+ghost use Rattle.checker.specs.steps.Tables.{Right, firstTable, secondTable};
 ghost use Rattle.sheet.specs.Words.{sheetOf};
-ghost use Rattle.tables.specs.Marks.{Standing};
+ghost use Rattle.tables.specs.steps.Marks.{Standing};
 
 // The first table that a rule is lent for the records of a section.
 pub fn first_table(rule: u8, section: u8) -> Table

@@ -27,8 +27,8 @@ use sheet::layout::count;
 use tables::marks::mark_included;
 ghost use lib.ListN.{length};
 ghost use mathlib.Core.Path.{_≡_};
-ghost use Rattle.checker.specs.Tables.{Right, firstTable, secondTable};
-ghost use Rattle.checker.specs.Rows.{subjectRow, subjectsOf};
+ghost use Rattle.checker.specs.steps.Tables.{Right, firstTable, secondTable};
+ghost use Rattle.checker.specs.steps.Rows.{subjectRow, subjectsOf};
 ghost use Rattle.profile.specs.Verdict.{breaks};
 ghost use Rattle.sheet.specs.Words.{sheetOf};
 

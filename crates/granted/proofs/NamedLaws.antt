@@ -13,7 +13,7 @@ use Rattle.profile.specs.Relations.{namesSet, setFor, objectMinimum, objectMaxi
 use Rattle.granted.specs.declared.Range.{Range}
 use Rattle.granted.specs.Granted.{startValue, grantedMinimum, grantedMaximum, grants}
 use Rattle.granted.specs.Fitting.{gainFits, offsetFits, soundGain, soundOffset}
-use Rattle.granted.specs.Steps.{namedFor, startBy, rangeBy, grantedRange, isRange, gainWithin, offsetWithin, soundGainBy, soundOffsetBy}
+use Rattle.granted.specs.steps.NamedSet.{namedFor, startBy, rangeBy, grantedRange, isRange, gainWithin, offsetWithin, soundGainBy, soundOffsetBy}
 
 module _ (s : Sheet) (p o : ℕ) where
   pub start-named : (t : Sort) → startBy s o (namedFor s p o) t ≡ startValue s p o t

@@ -9,7 +9,7 @@ use Rattle.sheet.specs.Layout.{field, number, reference, entry}
 use Rattle.sheet.specs.Fields.{programmes, objects, setList, setSpan}
 use Rattle.profile.specs.Relations.{hasSet, namedSet, namesSet, setFor}
 use Rattle.tables.proofs.TableLaws.{lowest-any}
-use Rattle.granted.specs.Steps.{setPlace}
+use Rattle.granted.specs.steps.NamedSet.{setPlace}
 
 module _ (s : Sheet) (p o : ℕ) where
   place-names : ltb (setPlace s p o) (number s programmes p setList) ≡ namesSet s p o

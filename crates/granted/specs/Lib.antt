@@ -1,3 +1,3 @@
 pub mod Granted
 pub mod Fitting
-pub mod Steps
+pub mod steps

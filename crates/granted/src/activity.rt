@@ -5,9 +5,9 @@ use relations::groups::member;
 use relations::groups::members;
 use tables::reads::leader_by;
 ghost use mathlib.Core.Path.{_≡_};
-ghost use Rattle.granted.specs.Steps.{flagged, flaggedActivity, flaggedMembers};
+ghost use Rattle.granted.specs.steps.NamedSet.{flagged, flaggedActivity, flaggedMembers};
 ghost use Rattle.sheet.specs.Words.{sheetOf};
-ghost use Rattle.tables.specs.Right.{Included, Leaders};
+ghost use Rattle.tables.specs.steps.Right.{Included, Leaders};
 
 // Whether an object is flagged.
 pub fn flagged(table: &[u16], o: u16) -> bool

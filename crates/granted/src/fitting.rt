@@ -16,7 +16,7 @@ use values::values::is_absent;
 ghost use mathlib.Core.Bool.{_&&_};
 ghost use mathlib.Core.Path.{_≡_};
 ghost use Rattle.granted.specs.Fitting.{sameGain, sameOffset, soundGain, soundOffset};
-ghost use Rattle.granted.specs.Steps.{gainWithin, isRange, offsetWithin, soundGainBy, soundOffsetBy};
+ghost use Rattle.granted.specs.steps.NamedSet.{gainWithin, isRange, offsetWithin, soundGainBy, soundOffsetBy};
 ghost use Rattle.sheet.specs.Words.{sheetOf};
 
 pub fn same_gain(a: Gain, b: Gain) -> bool

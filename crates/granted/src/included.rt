@@ -16,8 +16,8 @@ ghost use mathlib.Core.Path.{_≡_};
 ghost use Rattle.granted.specs.Granted.{inWholeGroup};
 ghost use Rattle.profile.specs.Relations.{included};
 ghost use Rattle.sheet.specs.Words.{sheetOf};
-ghost use Rattle.tables.specs.Marks.{Standing, firstBy, marked, repeat, timesBy};
-ghost use Rattle.tables.specs.Right.{Included, Leaders};
+ghost use Rattle.tables.specs.steps.Marks.{Standing, firstBy, marked, repeat, timesBy};
+ghost use Rattle.tables.specs.steps.Right.{Included, Leaders};
 ghost use Rattle.tables.specs.declared.Mark.the-variants.{Store};
 ghost use Rattle.tables.specs.declared.Naming.the-variants.{Complements};
 

@@ -22,9 +22,9 @@ use sheet::layout::reference;
 use values::Sort;
 ghost use mathlib.Core.Path.{_≡_};
 ghost use Rattle.granted.specs.Granted.{inWholeGroup, startValue, startsActive};
-ghost use Rattle.granted.specs.Steps.{grantedRange, namedFor, rangeBy, setPlace, startBy};
+ghost use Rattle.granted.specs.steps.NamedSet.{grantedRange, namedFor, rangeBy, setPlace, startBy};
 ghost use Rattle.sheet.specs.Words.{sheetOf};
-ghost use Rattle.tables.specs.Right.{Included, Leaders};
+ghost use Rattle.tables.specs.steps.Right.{Included, Leaders};
 
 // Where the programme's set list has the first set of the object, the list's length where it has none.
 fn set_place(s: &[u8], p: u16, o: u16) -> u16

@@ -9,9 +9,9 @@ use lib.Dec.{eqb, ltb}
 use lib.ListN.{length, getD}
 use Rattle.sheet.specs.Words.{Sheet}
 use Rattle.profile.specs.Rules.{setsDiffer}
-use Rattle.tables.specs.Marks.{Standing}
-use Rattle.tables.specs.Right.{told}
-use Rattle.grouping.specs.Groups.{Alike, representative}
+use Rattle.tables.specs.steps.Marks.{Standing}
+use Rattle.tables.specs.steps.Right.{told}
+use Rattle.grouping.specs.steps.Groups.{Alike, representative}
 use Rattle.grouping.proofs.PassLaws.{past, sets-own}
 
 -- one more than a number tells it

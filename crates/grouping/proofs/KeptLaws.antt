@@ -18,8 +18,8 @@ use Rattle.profile.proofs.BoolLaws.{or-false, or-either, and-both}
 use Rattle.profile.proofs.CountingLaws.{any-none, any-howMany}
 use Rattle.profile.proofs.GroupLaws.{any-witness, own-leader, leader-lists, member-zero, member-at, no-leader}
 use Rattle.profile.proofs.SumLaws.{any-nowhere, howMany-eq, howMany-all}
-use Rattle.tables.specs.Marks.{Standing}
-use Rattle.grouping.specs.Groups.{Changed, Entered, GroupKept, Kept, Noted, OneSpan, SameList, groupWhole, manyIn, objectAt, setsIn}
+use Rattle.tables.specs.steps.Marks.{Standing}
+use Rattle.grouping.specs.steps.Groups.{Changed, Entered, GroupKept, Kept, Noted, OneSpan, SameList, groupWhole, manyIn, objectAt, setsIn}
 use Rattle.grouping.proofs.CountLaws.{Apart, any-eq, two-counted}
 use Rattle.grouping.proofs.MemberLaws.{one-owner}
 use Rattle.grouping.proofs.PassLaws.{past, sets-alike}

@@ -19,10 +19,10 @@ use Rattle.profile.proofs.GroupLaws.{member-zero}
 use Rattle.profile.proofs.SumLaws.{howMany-eq}
 use Rattle.tables.specs.declared.Naming.the-variants.{Included}
 use Rattle.tables.specs.declared.Mark.the-variants.{Store}
-use Rattle.tables.specs.Marks.{Standing, marked, repeat, timesBy}
+use Rattle.tables.specs.steps.Marks.{Standing, marked, repeat, timesBy}
 use Rattle.tables.proofs.MarkLaws.{repeat-store}
 use Rattle.tables.proofs.TableLaws.{included-marked}
-use Rattle.grouping.specs.Groups.{Asked, AskedFor, GroupKept, GroupsApart, UpTo, groupAt, groupWhole, manyIn, objectAt, setsIn}
+use Rattle.grouping.specs.steps.Groups.{Asked, AskedFor, GroupKept, GroupsApart, UpTo, groupAt, groupWhole, manyIn, objectAt, setsIn}
 use Rattle.grouping.proofs.CountLaws.{Apart, two-counted}
 use Rattle.grouping.proofs.MemberLaws.{group-count}
 use Rattle.grouping.proofs.PassLaws.{past, sets-own}

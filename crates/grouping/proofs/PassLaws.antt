@@ -23,11 +23,11 @@ use Rattle.profile.proofs.CountingLaws.{any-none}
 use Rattle.profile.proofs.GroupLaws.{any-witness}
 use Rattle.profile.proofs.SumLaws.{any-nowhere, howMany-shift}
 use Rattle.tables.specs.declared.Naming.the-variants.{SetSpans}
-use Rattle.tables.specs.Marks.{Standing, firstBy}
-use Rattle.tables.specs.Right.{Owners, told}
+use Rattle.tables.specs.steps.Marks.{Standing, firstBy}
+use Rattle.tables.specs.steps.Right.{Owners, told}
 use Rattle.tables.proofs.MarkLaws.{set-standing}
 use Rattle.tables.proofs.TableLaws.{owner-told}
-use Rattle.grouping.specs.Groups.{Changed, GroupKept, Noted, PairKept, groupWhole, manyIn, objectAt, objectFrom, setsIn}
+use Rattle.grouping.specs.steps.Groups.{Changed, GroupKept, Noted, PairKept, groupWhole, manyIn, objectAt, objectFrom, setsIn}
 
 -- one place is written
 pub written : (t : List ℕ) (y v : ℕ) → Standing (λ z. cond (eqb y z) v (getD t z 0)) (set t y v)

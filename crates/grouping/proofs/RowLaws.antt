@@ -19,7 +19,7 @@ use Rattle.profile.specs.Rules.{setsDiffer}
 use Rattle.profile.proofs.CountingLaws.{any-none}
 use Rattle.profile.proofs.GroupLaws.{any-witness}
 use Rattle.profile.proofs.SumLaws.{howMany-eq}
-use Rattle.grouping.specs.Groups.{GroupKept, HasRow, LeadersIn, Listed, PairKept, Partner, RowAdded, RowKept, groupWhole, manyIn, setsIn}
+use Rattle.grouping.specs.steps.Groups.{GroupKept, HasRow, LeadersIn, Listed, PairKept, Partner, RowAdded, RowKept, groupWhole, manyIn, setsIn}
 use Rattle.grouping.proofs.PassLaws.{pair-group, sets-own}
 
 -- a row more

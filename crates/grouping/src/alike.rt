@@ -14,12 +14,12 @@ ghost use Prim.Native.Nat.{_<_};
 ghost use lib.ListN.{length};
 ghost use mathlib.Core.Bool.{false};
 ghost use mathlib.Core.Path.{_≡_};
-ghost use Rattle.grouping.specs.Groups.{Alike, representative};
+ghost use Rattle.grouping.specs.steps.Groups.{Alike, representative};
 ghost use Rattle.profile.specs.Rules.{setsDiffer};
 ghost use Rattle.sheet.specs.Fields.{valueSets};
 ghost use Rattle.sheet.specs.Layout.{offset};
 ghost use Rattle.sheet.specs.Words.{sheetOf};
-ghost use Rattle.tables.specs.Marks.{Standing};
+ghost use Rattle.tables.specs.steps.Marks.{Standing};
 
 // The set that stands for a set.
 pub fn representative(alike: &[u16], v: u16) -> u16

@@ -15,13 +15,13 @@ ghost use Prim.Native.Nat.{ℕ, _<_};
 ghost use lib.ListN.{length};
 ghost use mathlib.Core.Bool.{true};
 ghost use mathlib.Core.Path.{_≡_};
-ghost use Rattle.grouping.specs.Groups.{Changed, Entered, Noted, objectAt, objectFrom, representative};
+ghost use Rattle.grouping.specs.steps.Groups.{Changed, Entered, Noted, objectAt, objectFrom, representative};
 ghost use Rattle.profile.specs.Relations.{namedSet};
 ghost use Rattle.profile.specs.Rules.{ownerAt};
 ghost use Rattle.sheet.specs.Fields.{contentList, contents, programmes, references, setList};
 ghost use Rattle.sheet.specs.Layout.{number, offset};
 ghost use Rattle.sheet.specs.Words.{sheetOf};
-ghost use Rattle.tables.specs.Right.{Owners};
+ghost use Rattle.tables.specs.steps.Right.{Owners};
 
 // The object of the content that an entry of a content list names, where section 6 begins at `base` and section 2 at `records`.
 pub fn object_from(s: &[u8], base: u16, records: u16, from: u16, i: u16) -> u16

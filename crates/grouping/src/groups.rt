@@ -17,7 +17,7 @@ ghost use lib.ListN.{getD, length};
 ghost use mathlib.Core.Bool.{cond, false, not, true};
 ghost use mathlib.Core.Logic.{_⊎_};
 ghost use mathlib.Core.Path.{_≡_};
-ghost use Rattle.grouping.specs.Groups.{GroupKept, LeadersIn, Listed, PairKept, Partner, RowAdded, groupWhole};
+ghost use Rattle.grouping.specs.steps.Groups.{GroupKept, LeadersIn, Listed, PairKept, Partner, RowAdded, groupWhole};
 ghost use Rattle.profile.specs.Counting.{howMany};
 ghost use Rattle.profile.specs.Rules.{setsDiffer};
 ghost use Rattle.sheet.specs.Fields.{objects, references, valueSets};

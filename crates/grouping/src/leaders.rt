@@ -17,11 +17,11 @@ ghost use Prim.Native.Nat.{_*_, _<_};
 ghost use lib.ListN.{length};
 ghost use mathlib.Core.Bool.{true};
 ghost use mathlib.Core.Path.{_≡_};
-ghost use Rattle.grouping.specs.Groups.{Asked, AskedFor};
+ghost use Rattle.grouping.specs.steps.Groups.{Asked, AskedFor};
 ghost use Rattle.sheet.specs.Fields.{contentList, contents, programmes, references, valueSets};
 ghost use Rattle.sheet.specs.Layout.{number, offset};
 ghost use Rattle.sheet.specs.Words.{sheetOf};
-ghost use Rattle.tables.specs.Right.{Leaders};
+ghost use Rattle.tables.specs.steps.Right.{Leaders};
 
 // One object more of a leader's group. At the second one the group is asked for: it has all its members in the programme, or it is not
 // kept, so that no group is walked for a member or two.

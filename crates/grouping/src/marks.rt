@@ -4,7 +4,7 @@ ghost use lib.Dec.{eqb};
 ghost use lib.ListN.{getD, length};
 ghost use mathlib.Core.Bool.{cond, true};
 ghost use mathlib.Core.Path.{_≡_};
-ghost use Rattle.tables.specs.Marks.{Standing};
+ghost use Rattle.tables.specs.steps.Marks.{Standing};
 
 // Writes `to` at a place where `from` stands.
 pub fn change(table: &mut [u16], x: u16, from: u16, to: u16) -> bool

@@ -23,11 +23,11 @@ ghost use Prim.Native.Nat.{_+_, _-_, _<_};
 ghost use lib.ListN.{length};
 ghost use mathlib.Core.Bool.{true};
 ghost use mathlib.Core.Path.{_≡_};
-ghost use Rattle.grouping.specs.Groups.{Begins, Full, GroupsApart, GroupsGround, Kept, KeptTo, LeadersIn, Passing, ProgrammesKept, Ready, SameList};
+ghost use Rattle.grouping.specs.steps.Groups.{Begins, Full, GroupsApart, GroupsGround, Kept, KeptTo, LeadersIn, Passing, ProgrammesKept, Ready, SameList};
 ghost use Rattle.sheet.specs.Fields.{contentList, objects, setList};
 ghost use Rattle.sheet.specs.Layout.{count};
 ghost use Rattle.sheet.specs.Words.{sheetOf};
-ghost use Rattle.tables.specs.Right.{Leaders, Owners};
+ghost use Rattle.tables.specs.steps.Right.{Leaders, Owners};
 
 // Whether a programme has the same list at a position as the one before it.
 fn same_list(s: &[u8], p: u16, at: u8) -> bool

@@ -17,7 +17,7 @@ use Rattle.listener.specs.State.{stateObjects}
 use Rattle.listener.specs.Programme.{started}
 use Rattle.listener.specs.Sound.{sound}
 use Rattle.listener.specs.Calls.{opens, answerBy, replyBy, notOpen, notSound, notIncluded, noProgramme, programmeAnswer, chosenProgramme, notInGroup, objectAnswer, moved, chosenObject, noRange, outsideRange, valueAnswer, withSetting, behind, numberAnswer, groupAnswer, rangeAnswer}
-use Rattle.listener.specs.Steps.{isDone}
+use Rattle.listener.specs.steps.Settings.{isDone}
 
 -- an answer, or what is asked next
 abbrev next : Answer → Answer → Answer

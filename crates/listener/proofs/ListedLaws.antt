@@ -11,7 +11,7 @@ use Rattle.sheet.specs.Fields.{objects, trackList, childList}
 use Rattle.profile.specs.Counting.{concatBelow, tabulate}
 use Rattle.profile.proofs.ListLaws.{length-concat, length-tabulate}
 use Rattle.profile.proofs.SumLaws.{sum-eq}
-use Rattle.relations.specs.Sizes.{childrenTracks}
+use Rattle.relations.specs.steps.Sizes.{childrenTracks}
 use Rattle.profile.specs.Relations.{trackAt}
 use Rattle.listener.specs.declared.State.{State}
 use Rattle.listener.specs.declared.Answer.{Answer}
@@ -21,7 +21,7 @@ use Rattle.listener.specs.declared.Refusal.the-variants.{TooFewWords}
 use Rattle.listener.specs.State.{stateObjects, active}
 use Rattle.listener.specs.Calls.{answerBy, notOpen, notSound, behind}
 use Rattle.listener.specs.Listing.{Entry, ownEntries, objectEntries, entries, listedTracks, tooFewWords, listingAnswer, listedBy, listed, bufferedBy, buffered}
-use Rattle.listener.specs.Written.{ownTracks, childTracks, objectTracks, tracksWhen, stateTracks, objectNumber, numberWhen, stateNumber}
+use Rattle.listener.specs.steps.Tracks.{ownTracks, childTracks, objectTracks, tracksWhen, stateTracks, objectNumber, numberWhen, stateNumber}
 use Rattle.listener.proofs.BehindLaws.{behind-done, behind-refused}
 
 abbrev track : Entry → ℕ

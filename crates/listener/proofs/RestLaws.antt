@@ -22,7 +22,7 @@ use Rattle.listener.specs.declared.State.{State}
 use Rattle.listener.specs.State.{stateObjects, resting, setting, active, isResting}
 use Rattle.listener.specs.Programme.{startSetting}
 use Rattle.listener.specs.Sound.{soundAt, sound}
-use Rattle.listener.specs.Steps.{restingFrom}
+use Rattle.listener.specs.steps.Settings.{restingFrom}
 use Rattle.listener.proofs.StepLaws.{every-eq}
 
 and-swap : (a b c : Bool) → ((a && b) && c) ≡ ((a && c) && b)

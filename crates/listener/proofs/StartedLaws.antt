@@ -15,7 +15,7 @@ use Rattle.listener.specs.Programme.{started}
 use Rattle.listener.specs.Calls.{opens, answerBy, notOpen, noProgramme}
 use Rattle.listener.specs.Listing.{tooFewWords, listedBy, bufferedBy}
 use Rattle.listener.specs.StartListing.{startTracks, startNumber, startAnswer, startListed, startBuffered}
-use Rattle.listener.specs.Written.{stateTracks, stateNumber}
+use Rattle.listener.specs.steps.Tracks.{stateTracks, stateNumber}
 use Rattle.listener.proofs.ListedLaws.{listed-tracks, entries-number}
 
 module _ (s : Sheet) (p : ℕ) (buffer : List ℕ) where

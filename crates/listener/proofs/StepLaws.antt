@@ -13,16 +13,16 @@ use Rattle.profile.specs.Relations.{member, members, leaderOf}
 use Rattle.profile.proofs.SumLaws.{howMany-eq}
 use Rattle.profile.proofs.ListLaws.{length-tabulate, getD-tabulate}
 use Rattle.tables.specs.declared.Naming.the-variants.{Complements}
-use Rattle.tables.specs.Marks.{Standing, firstBy}
-use Rattle.tables.specs.Right.{Leaders}
+use Rattle.tables.specs.steps.Marks.{Standing, firstBy}
+use Rattle.tables.specs.steps.Right.{Leaders}
 use Rattle.tables.proofs.MarkLaws.{nought}
 use Rattle.tables.proofs.TableLaws.{flag}
 use Rattle.listener.specs.declared.Setting.{Setting}
 use Rattle.listener.specs.declared.State.{State}
 use Rattle.listener.specs.State.{stateObjects, blank, setting, active}
 use Rattle.listener.specs.Sound.{activeMembers, soundActivity, soundAt}
-use Rattle.granted.specs.Steps.{flagged, flaggedMembers, flaggedActivity}
-use Rattle.listener.specs.Steps.{flaggedSound}
+use Rattle.granted.specs.steps.NamedSet.{flagged, flaggedMembers, flaggedActivity}
+use Rattle.listener.specs.steps.Settings.{flaggedSound}
 
 -- a pass over a table of noughts
 pub leaders-made : (s : Sheet) (n : ℕ) (t : List ℕ) → Standing (λ x. firstBy s Complements x (getD (replicate n 0) x 0)) t → Leaders s t

@@ -26,10 +26,10 @@ ghost use mathlib.Core.Path.{_≡_};
 ghost use Rattle.listener.specs.Calls.{behind, chosenObject, chosenProgramme, gainSet, groupAnswer, moved, numberAnswer, offsetSet, opened, opens, rangeAnswer};
 ghost use Rattle.granted.specs.Fitting.{gainFits, offsetFits};
 ghost use Rattle.listener.specs.State.{restingState};
-ghost use Rattle.listener.specs.Steps.{isDone, movedFrom, rangeAnswerBy};
+ghost use Rattle.listener.specs.steps.Settings.{isDone, movedFrom, rangeAnswerBy};
 ghost use Rattle.profile.specs.Relations.{includes};
 ghost use Rattle.sheet.specs.Words.{sheetOf};
-ghost use Rattle.tables.specs.Right.{Leaders};
+ghost use Rattle.tables.specs.steps.Right.{Leaders};
 ghost use Rattle.values.specs.declared.Sort.the-variants.{Gains, Offsets};
 
 // Whether the sheet is accepted and not of level 0.

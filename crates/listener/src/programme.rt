@@ -16,7 +16,7 @@ ghost use mathlib.Core.Path.{_≡_};
 ghost use Rattle.listener.specs.Programme.{startSetting, started};
 ghost use Rattle.profile.specs.Relations.{includes};
 ghost use Rattle.sheet.specs.Words.{sheetOf};
-ghost use Rattle.tables.specs.Right.{Included, Leaders};
+ghost use Rattle.tables.specs.steps.Right.{Included, Leaders};
 
 // What choosing a programme gives an object.
 fn start_setting(s: &[u8], p: u16, leaders: &[u16], marks: &[u16], o: u16) -> Setting

@@ -22,11 +22,11 @@ ghost use lib.ListN.{length};
 ghost use mathlib.Core.Bool.{false};
 ghost use mathlib.Core.Path.{_≡_};
 ghost use Rattle.listener.specs.Sound.{sound};
-ghost use Rattle.listener.specs.Steps.{flaggedSound};
+ghost use Rattle.listener.specs.steps.Settings.{flaggedSound};
 ghost use Rattle.profile.specs.Relations.{includes};
 ghost use Rattle.sheet.specs.Words.{sheetOf};
-ghost use Rattle.tables.specs.Marks.{Standing};
-ghost use Rattle.tables.specs.Right.{Included, Leaders};
+ghost use Rattle.tables.specs.steps.Marks.{Standing};
+ghost use Rattle.tables.specs.steps.Right.{Included, Leaders};
 
 // Writes 1 for the objects that the programme includes, into a table of noughts. Gives one more than the highest number of one below 84,
 // 0 where there is none.

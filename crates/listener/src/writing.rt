@@ -23,7 +23,7 @@ ghost use mathlib.Core.Path.{_≡_};
 ghost use Rattle.listener.specs.Listing.{buffered, listed, listedBy};
 ghost use Rattle.listener.specs.StartListing.{startBuffered, startListed};
 ghost use Rattle.listener.specs.declared.Answer.the-variants.{Refused};
-ghost use Rattle.listener.specs.Written.{childTracks, objectNumber, objectTracks, ownTracks, stateNumber, stateTracks};
+ghost use Rattle.listener.specs.steps.Tracks.{childTracks, objectNumber, objectTracks, ownTracks, stateNumber, stateTracks};
 ghost use Rattle.sheet.specs.Words.{sheetOf};
 
 // How many entries an object gives.

@@ -14,7 +14,7 @@ ghost use Prim.Native.Nat.{_≤_};
 ghost use mathlib.Core.Bool.{cond};
 ghost use mathlib.Core.Path.{_≡_};
 ghost use Rattle.profile.specs.Relations.{lists, times};
-ghost use Rattle.relations.specs.Tests.{anyEntry, entryTest, howManyEntries, lowestEntry};
+ghost use Rattle.relations.specs.steps.Tests.{anyEntry, entryTest, howManyEntries, lowestEntry};
 ghost use Rattle.sheet.specs.Layout.{number};
 ghost use Rattle.sheet.specs.Words.{sheetOf};
 

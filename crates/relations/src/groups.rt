@@ -13,7 +13,7 @@ use sheet::layout::number;
 ghost use Prim.Native.Nat.{_≤_};
 ghost use mathlib.Core.Path.{_≡_};
 ghost use Rattle.profile.specs.Relations.{included, leaderOf, member, members, whollyIncluded};
-ghost use Rattle.relations.specs.Tests.{howManyMembers, memberTest};
+ghost use Rattle.relations.specs.steps.Tests.{howManyMembers, memberTest};
 ghost use Rattle.sheet.specs.Words.{sheetOf};
 
 // "A group is a leader [..] followed by those it lists." Member i of a leader's group.

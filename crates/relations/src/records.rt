@@ -17,7 +17,7 @@ use sheet::layout::field;
 ghost use Prim.Native.Nat.{_≤_};
 ghost use mathlib.Core.Path.{_≡_};
 ghost use Rattle.profile.specs.Relations.{complement, groups, owner, top};
-ghost use Rattle.relations.specs.Tests.{anyRecord, howManyRecords, lowestRecord, recordTest};
+ghost use Rattle.relations.specs.steps.Tests.{anyRecord, howManyRecords, lowestRecord, recordTest};
 ghost use Rattle.sheet.specs.Layout.{count};
 ghost use Rattle.sheet.specs.Words.{sheetOf};
 

@@ -10,7 +10,7 @@ use sheet::layout::number;
 ghost use Prim.Native.Nat.{max};
 ghost use mathlib.Core.Path.{_≡_};
 ghost use Rattle.profile.specs.Relations.{size};
-ghost use Rattle.relations.specs.Sizes.{childrenTracks, largestMember};
+ghost use Rattle.relations.specs.steps.Sizes.{childrenTracks, largestMember};
 ghost use Rattle.sheet.specs.Words.{sheetOf};
 
 // The tracks of an object's children.

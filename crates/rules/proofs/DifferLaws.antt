@@ -19,8 +19,8 @@ use Rattle.profile.specs.Rules.{setsDiffer}
 use Rattle.profile.proofs.BoolLaws.{and-second}
 use Rattle.profile.proofs.CountingLaws.{any-none}
 use Rattle.profile.proofs.SumLaws.{any-nowhere, any-one}
-use Rattle.tables.specs.Marks.{Standing}
-use Rattle.tables.specs.Right.{told}
+use Rattle.tables.specs.steps.Marks.{Standing}
+use Rattle.tables.specs.steps.Right.{told}
 use Rattle.tables.proofs.MarkLaws.{set-standing, nought}
 
 -- sets that do not differ have the same words

@@ -6,7 +6,7 @@ use Rattle.sheet.specs.Words.{Sheet}
 use Rattle.profile.specs.Relations.{leader}
 use Rattle.rules.specs.declared.GroupTest.{GroupTest}
 use Rattle.rules.specs.declared.GroupTest.the-variants.{Split, PartlySet}
-use Rattle.rules.specs.Loops.{groupTest}
+use Rattle.rules.specs.steps.Loops.{groupTest}
 
 pub no-leader : (s : Sheet) (p : ℕ) (test : GroupTest) (l : ℕ) → leader s l ≡ false → false ≡ groupTest s p test l
 no-leader s p Split l e = rw e refl

@@ -7,7 +7,7 @@ use native.Mathlib.Numerals.{add-one}
 use lib.Dec.{eqb}
 use lib.ListN.{length, getD, set, replicate, length-set}
 use Rattle.profile.specs.Counting.{any}
-use Rattle.tables.specs.Marks.{Standing}
+use Rattle.tables.specs.steps.Marks.{Standing}
 use Rattle.tables.proofs.MarkLaws.{set-standing, nought}
 use Rattle.tables.proofs.TableLaws.{flag}
 

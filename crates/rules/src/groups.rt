@@ -8,7 +8,7 @@ use sheet::fields::OBJECTS;
 ghost use mathlib.Core.Path.{_≡_};
 ghost use Rattle.profile.specs.Rules.{rule19, rule20, rule21};
 ghost use Rattle.sheet.specs.Words.{sheetOf};
-ghost use Rattle.tables.specs.Right.{Complemented, Included, Tops};
+ghost use Rattle.tables.specs.steps.Right.{Complemented, Included, Tops};
 
 pub fn rule19(s: &[u8], tops: &[u16], complements: &[u16], section: u8, o: u16) -> bool
     ensures { λ r. ⌜ (Tops (sheetOf (now (s .entry))) (now (tops .entry)) → Complemented (sheetOf (now (s .entry))) (now (complements .entry)) → r ≡ rule19 (sheetOf (now (s .entry))) section o) ⌝ }

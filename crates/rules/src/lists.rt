@@ -28,8 +28,8 @@ use sheet::layout::number;
 ghost use mathlib.Core.Path.{_≡_};
 ghost use Rattle.profile.specs.Rules.{beyond, listLacks, rule4, rule5, rule9};
 ghost use Rattle.relations.specs.declared.EntryTest.the-variants.{Lacks};
-ghost use Rattle.rules.specs.Loops.{firstTarget, secondTarget};
-ghost use Rattle.runs.specs.Runs.{NextRight, RepeatRight};
+ghost use Rattle.rules.specs.steps.Loops.{firstTarget, secondTarget};
+ghost use Rattle.runs.specs.steps.Runs.{NextRight, RepeatRight};
 ghost use Rattle.sheet.specs.Words.{sheetOf};
 
 // The list or span at a position of a record ends beyond the target section.

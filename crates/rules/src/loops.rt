@@ -38,11 +38,11 @@ ghost use lib.Dec.{ltb};
 ghost use mathlib.Core.Path.{_≡_};
 ghost use Rattle.profile.specs.Relations.{channels};
 ghost use Rattle.profile.specs.Rules.{badComplement, differs, setsDiffer};
-ghost use Rattle.relations.specs.Tests.{howManyMembers, memberTest};
-ghost use Rattle.rules.specs.Loops.{anyGroup, anyListed, badChannel, earlierEntry, fieldsDiffer, groupRight, groupTest, listedRight, listedTest, memberRight, ownSet, pairRight, pairTest, totalTimes, twoEntries};
+ghost use Rattle.relations.specs.steps.Tests.{howManyMembers, memberTest};
+ghost use Rattle.rules.specs.steps.Loops.{anyGroup, anyListed, badChannel, earlierEntry, fieldsDiffer, groupRight, groupTest, listedRight, listedTest, memberRight, ownSet, pairRight, pairTest, totalTimes, twoEntries};
 ghost use Rattle.sheet.specs.Fields.{complementList};
 ghost use Rattle.sheet.specs.Words.{sheetOf};
-ghost use Rattle.tables.specs.Right.{Complemented, Included, Tops};
+ghost use Rattle.tables.specs.steps.Right.{Complemented, Included, Tops};
 
 // Whether two records of a section differ in one of the seven words from a position on.
 fn fields_differ(s: &[u8], section: u8, from: u8, a: u16, b: u16) -> bool

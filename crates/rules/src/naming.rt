@@ -14,11 +14,11 @@ ghost use mathlib.Core.Path.{_≡_};
 ghost use Rattle.profile.specs.Counting.{any, howMany};
 ghost use Rattle.profile.specs.Relations.{hasSet, lists, namings};
 ghost use Rattle.profile.specs.Rules.{rule11, rule12};
-ghost use Rattle.runs.specs.Runs.{RepeatRight};
+ghost use Rattle.runs.specs.steps.Runs.{RepeatRight};
 ghost use Rattle.sheet.specs.Fields.{contentList, contents, objects, programmes, valueSets};
 ghost use Rattle.sheet.specs.Layout.{count};
 ghost use Rattle.sheet.specs.Words.{sheetOf};
-ghost use Rattle.tables.specs.Right.{Listed, Named, Spanned};
+ghost use Rattle.tables.specs.steps.Right.{Listed, Named, Spanned};
 
 // How often contents and child lists name an object.
 fn namings(s: &[u8], o: u16) -> u64

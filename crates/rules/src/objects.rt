@@ -25,9 +25,9 @@ use values::Sort;
 use values::values::is_absent;
 ghost use mathlib.Core.Path.{_≡_};
 ghost use Rattle.profile.specs.Rules.{rule13, rule14, rule15, rule16};
-ghost use Rattle.runs.specs.Runs.{OrdinalRight, StrayRight};
+ghost use Rattle.runs.specs.steps.Runs.{OrdinalRight, StrayRight};
 ghost use Rattle.sheet.specs.Words.{sheetOf};
-ghost use Rattle.tables.specs.Right.{Tops};
+ghost use Rattle.tables.specs.steps.Right.{Tops};
 
 pub fn rule13(s: &[u8], section: u8, o: u16) -> bool
     ensures { λ r. ⌜ r ≡ rule13 (sheetOf (now (s .entry))) section o ⌝ }

@@ -21,7 +21,7 @@ use values::values::is_absent;
 ghost use mathlib.Core.Path.{_≡_};
 ghost use Rattle.profile.specs.Rules.{leaves, objectLeaves, rule17, rule18, setLeaves};
 ghost use Rattle.sheet.specs.Words.{sheetOf};
-ghost use Rattle.tables.specs.Right.{Owners};
+ghost use Rattle.tables.specs.steps.Right.{Owners};
 
 pub fn rule17(s: &[u8], owners: &[u16], section: u8, k: u16) -> bool
     ensures { λ r. ⌜ (Owners (sheetOf (now (s .entry))) (now (owners .entry)) → r ≡ rule17 (sheetOf (now (s .entry))) section k) ⌝ }

@@ -27,13 +27,13 @@ ghost use mathlib.Core.Bool.{cond, not};
 ghost use mathlib.Core.Path.{_≡_};
 ghost use Rattle.profile.specs.Relations.{channels};
 ghost use Rattle.profile.specs.Rules.{repeats};
-ghost use Rattle.runs.specs.Runs.{RepeatRight};
-ghost use Rattle.rules.specs.Loops.{badChannel, keyOf, keyRight, keysAlike, twoEntries};
+ghost use Rattle.runs.specs.steps.Runs.{RepeatRight};
+ghost use Rattle.rules.specs.steps.Loops.{badChannel, keyOf, keyRight, keysAlike, twoEntries};
 ghost use Rattle.sheet.specs.Words.{sheetOf};
 ghost use Rattle.sheet.specs.Fields.{objects, programmes, setList, trackList};
 ghost use Rattle.sheet.specs.Layout.{number};
-ghost use Rattle.tables.specs.Marks.{Standing};
-ghost use Rattle.tables.specs.Right.{Leaders, Owners, told};
+ghost use Rattle.tables.specs.steps.Marks.{Standing};
+ghost use Rattle.tables.specs.steps.Right.{Leaders, Owners, told};
 ghost use Rattle.rules.specs.declared.Key.the-variants.{Owner};
 ghost use Rattle.rules.specs.declared.PairTest.the-variants.{DifferInGroup};
 

@@ -11,7 +11,7 @@ use tables::marks::mark_named_sets;
 ghost use mathlib.Core.Path.{_≡_};
 ghost use Rattle.profile.specs.Rules.{rule22};
 ghost use Rattle.sheet.specs.Words.{sheetOf};
-ghost use Rattle.tables.specs.Right.{Included, Leaders, Owners};
+ghost use Rattle.tables.specs.steps.Right.{Included, Leaders, Owners};
 
 pub fn rule22(s: &[u8], owners: &[u16], leaders: &[u16], marks: &[u16], section: u8, p: u16) -> bool
     ensures { λ r. ⌜ (Owners (sheetOf (now (s .entry))) (now (owners .entry)) → Leaders (sheetOf (now (s .entry))) (now (leaders .entry)) → Included (sheetOf (now (s .entry))) p (now (marks .entry)) → r ≡ rule22 (sheetOf (now (s .entry))) section p) ⌝ }

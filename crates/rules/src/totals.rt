@@ -9,7 +9,7 @@ use tables::totals::units;
 ghost use mathlib.Core.Path.{_≡_};
 ghost use Rattle.profile.specs.Rules.{rule23, rule24};
 ghost use Rattle.sheet.specs.Words.{sheetOf};
-ghost use Rattle.tables.specs.Right.{Complemented, Tops};
+ghost use Rattle.tables.specs.steps.Right.{Complemented, Tops};
 
 pub fn rule23(s: &[u8], tops: &[u16], complements: &[u16], section: u8, k: u16) -> bool
     ensures { λ r. ⌜ (Tops (sheetOf (now (s .entry))) (now (tops .entry)) → Complemented (sheetOf (now (s .entry))) (now (complements .entry)) → r ≡ rule23 (sheetOf (now (s .entry))) section k) ⌝ }

@@ -33,7 +33,7 @@ use values::values::is_value;
 ghost use mathlib.Core.Path.{_≡_};
 ghost use Rattle.profile.specs.Rules.{badLabel, badObject, badObjectWords, badPack, badSet, badSetWords, badSpeech, badWords, objectRange, rule6, setRange};
 ghost use Rattle.relations.specs.declared.EntryTest.the-variants.{NoLanguage};
-ghost use Rattle.runs.specs.Runs.{NextRight};
+ghost use Rattle.runs.specs.steps.Runs.{NextRight};
 ghost use Rattle.sheet.specs.Words.{sheetOf};
 
 // A label outside.

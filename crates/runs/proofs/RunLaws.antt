@@ -11,9 +11,9 @@ use lib.Dec.{eqb, ltb}
 use lib.ListN.{length, getD}
 use Rattle.profile.specs.Counting.{any, twoOf}
 use Rattle.profile.proofs.BoolLaws.{or-false, and-both}
-use Rattle.tables.specs.Marks.{Standing}
+use Rattle.tables.specs.steps.Marks.{Standing}
 use Rattle.tables.proofs.TableLaws.{any-below, eqb-turned}
-use Rattle.runs.specs.Runs.{Next, Repeat}
+use Rattle.runs.specs.steps.Runs.{Next, Repeat}
 
 -- the first of the numbers, and the others
 any-shift : (p : ℕ → Bool) (n : ℕ) → any p (suc n) ≡ (p 0 || any (λ i. p (suc i)) n)

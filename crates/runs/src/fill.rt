@@ -17,9 +17,9 @@ ghost use lib.Dec.{eqb, ltb};
 ghost use lib.ListN.{getD, length};
 ghost use mathlib.Core.Bool.{cond};
 ghost use mathlib.Core.Path.{_≡_};
-ghost use Rattle.runs.specs.Runs.{KeyRight, TestRight, referenceKey, referenceTest, stray};
+ghost use Rattle.runs.specs.steps.Runs.{KeyRight, TestRight, referenceKey, referenceTest, stray};
 ghost use Rattle.sheet.specs.Words.{sheetOf};
-ghost use Rattle.tables.specs.Marks.{Standing};
+ghost use Rattle.tables.specs.steps.Marks.{Standing};
 
 // Whether the second of two tracks is of another pack, or has an ordinal past its pack's channels.
 fn stray(s: &[u8], e: u16, f: u16) -> bool

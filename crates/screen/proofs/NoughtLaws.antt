@@ -8,8 +8,8 @@ use Rattle.sheet.specs.Words.{Sheet}
 use Rattle.tables.specs.declared.Naming.{Naming}
 use Rattle.tables.specs.declared.Naming.the-variants.{ContentObjects, Children, SetSpans}
 use Rattle.tables.specs.declared.Mark.the-variants.{Count}
-use Rattle.tables.specs.Marks.{Standing, marked, repeat, namedBy}
-use Rattle.tables.specs.Right.{counted, Named, Listed, Spanned}
+use Rattle.tables.specs.steps.Marks.{Standing, marked, repeat, namedBy}
+use Rattle.tables.specs.steps.Right.{counted, Named, Listed, Spanned}
 use Rattle.tables.proofs.TableLaws.{namings-added, span-namings, counted-one, listed-counted}
 use mathlib.Core.Bool.{true, false, not, _&&_, _||_}
 use lib.Dec.{eqb}

@@ -18,10 +18,10 @@ use Rattle.profile.specs.Rules.{beyond, lacks, listLacks, badWords, leaves, bad
 use Rattle.profile.proofs.BoolLaws.{or-false, or-none, or-none-3, or-none-4, and-both, and-second}
 use Rattle.profile.proofs.CountingLaws.{any-none}
 use Rattle.profile.proofs.SumLaws.{any-nowhere, howMany-eq}
-use Rattle.screen.specs.Entries.{listed, badChildAt, outOfOrderAt}
-use Rattle.screen.specs.Values.{valuesAt, hasRange, wordsBroken, valueLeaves, setWordsBroken, setBroken}
+use Rattle.screen.specs.steps.Entries.{listed, badChildAt, outOfOrderAt}
+use Rattle.screen.specs.steps.Values.{valuesAt, hasRange, wordsBroken, valueLeaves, setWordsBroken, setBroken}
 use Rattle.screen.specs.declared.ObjectValues.{ObjectValues}
-use Rattle.screen.specs.Objects.{objectListsBroken, objectValues, gainsBroken, offsetsBroken, valuesBroken, childrenBroken, tracksBroken, sourceKept, complementBroken, complementsKept, setsBroken, isPlain, restKept, objectBroken}
+use Rattle.screen.specs.steps.Objects.{objectListsBroken, objectValues, gainsBroken, offsetsBroken, valuesBroken, childrenBroken, tracksBroken, sourceKept, complementBroken, complementsKept, setsBroken, isPlain, restKept, objectBroken}
 
 -- two tests of each number below n
 module _ (p q : ℕ → Bool) (n : ℕ) (e : any (λ i. p i || q i) n ≡ false) where

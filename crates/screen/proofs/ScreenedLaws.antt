@@ -19,10 +19,10 @@ use Rattle.profile.proofs.CountingLaws.{any-none, any-howMany, finds, lowest-ho
 use Rattle.profile.proofs.SumLaws.{any-nowhere}
 use Rattle.profile.proofs.GroupLaws.{any-witness}
 use Rattle.profile.proofs.VerdictLaws.{none-accepted}
-use Rattle.grouping.specs.Groups.{GroupsGround, ProgrammesKept}
-use Rattle.screen.specs.Values.{setBroken}
-use Rattle.screen.specs.Objects.{objectBroken, objectValues, setsBroken}
-use Rattle.screen.specs.Screened.{contentBroken, programmeBroken, headerBroken, RecordsKept}
+use Rattle.grouping.specs.steps.Groups.{GroupsGround, ProgrammesKept}
+use Rattle.screen.specs.steps.Values.{setBroken}
+use Rattle.screen.specs.steps.Objects.{objectBroken, objectValues, setsBroken}
+use Rattle.screen.specs.steps.Screened.{contentBroken, programmeBroken, headerBroken, RecordsKept}
 use Rattle.screen.proofs.ObjectLaws.{or-none-7, or-none-8, set-kept}
 
 -- an or of five that fails

@@ -9,7 +9,7 @@ use Rattle.profile.specs.Rules.{badWords}
 use Rattle.profile.proofs.BoolLaws.{or-false, or-none, and-both}
 use Rattle.screen.specs.declared.Values.{Values}
 use Rattle.screen.specs.declared.ObjectValues.{ObjectValues}
-use Rattle.screen.specs.Values.{hasRange, valueLeaves, wordsBroken, setWordsBroken, gainBroken}
+use Rattle.screen.specs.steps.Values.{hasRange, valueLeaves, wordsBroken, setWordsBroken, gainBroken}
 use Rattle.screen.proofs.ObjectLaws.{and-nothing}
 
 -- neither a minimum nor a maximum

@@ -12,9 +12,9 @@ use Rattle.profile.specs.Counting.{any, twoOf}
 use Rattle.profile.specs.Limits.{exceeds, labelsLimit, programmeContentsLimit, programmeSetsLimit}
 use Rattle.profile.specs.Rules.{rule4, rule5, rule6, rule8, rule9, beyond, lacks, listLacks, badSpeech, badLabel, repeats, outside}
 use Rattle.profile.proofs.BoolLaws.{or-false, or-none-3, or-none-4}
-use Rattle.screen.specs.Entries.{listed, lackingAt, noLanguageAt, sameAt}
+use Rattle.screen.specs.steps.Entries.{listed, lackingAt, noLanguageAt, sameAt}
 use Rattle.screen.proofs.ObjectLaws.{no-excess}
-use Rattle.screen.specs.Screened.{speechBroken, contentBroken, programmeListsBroken, programmeBroken}
+use Rattle.screen.specs.steps.Screened.{speechBroken, contentBroken, programmeListsBroken, programmeBroken}
 
 -- an or of six that fails
 or-none-6 : (a b c d e f : Bool) → (a || b || c || d || e || f) ≡ false → (a ≡ false) × (b ≡ false) × (c ≡ false) × (d ≡ false) × (e ≡ false) × (f ≡ false)

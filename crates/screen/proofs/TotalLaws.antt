@@ -5,7 +5,7 @@ use mathlib.Core.Bool.{Bool, true, false, not, cond, _&&_}
 use native.Mathlib.Nat.{add-zero}
 use Rattle.sheet.specs.Words.{Sheet}
 use Rattle.profile.specs.Relations.{leader, lone, top, complement, size, share}
-use Rattle.relations.specs.Sizes.{largestMember}
+use Rattle.relations.specs.steps.Sizes.{largestMember}
 
 lone-leader : (s : Sheet) (o : ℕ) → leader s o ≡ true → lone s o ≡ false
 unfolding lone

@@ -1,4 +1,1 @@
-pub mod Entries
-pub mod Objects
-pub mod Screened
-pub mod Values
+pub mod steps

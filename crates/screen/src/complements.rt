@@ -13,12 +13,12 @@ ghost use lib.Dec.{eqb};
 ghost use mathlib.Core.Bool.{false, not};
 ghost use mathlib.Core.Path.{_≡_};
 ghost use Rattle.profile.specs.Counting.{any};
-ghost use Rattle.screen.specs.Entries.{listed};
-ghost use Rattle.screen.specs.Objects.{complementBroken, complementsKept};
+ghost use Rattle.screen.specs.steps.Entries.{listed};
+ghost use Rattle.screen.specs.steps.Objects.{complementBroken, complementsKept};
 ghost use Rattle.sheet.specs.Fields.{interact, objects, references};
 ghost use Rattle.sheet.specs.Layout.{field, offset, start};
 ghost use Rattle.sheet.specs.Words.{sheetOf};
-ghost use Rattle.tables.specs.Right.{Complemented, Tops};
+ghost use Rattle.tables.specs.steps.Right.{Complemented, Tops};
 
 // Whether two objects, whose words begin at these indices, differ in interact, gain, offset or the four range words.
 fn words_differ(s: &[u8], at: usize, from: usize, l: u16, q: u16) -> bool

@@ -12,7 +12,7 @@ ghost use lib.Dec.{ltb};
 ghost use mathlib.Core.Bool.{false, true};
 ghost use mathlib.Core.Path.{_≡_};
 ghost use Rattle.profile.specs.Counting.{any, twoOf};
-ghost use Rattle.screen.specs.Entries.{badChildAt, lackingAt, listed, noLanguageAt, outOfOrderAt, sameAt};
+ghost use Rattle.screen.specs.steps.Entries.{badChildAt, lackingAt, listed, noLanguageAt, outOfOrderAt, sameAt};
 ghost use Rattle.sheet.specs.Words.{sheetOf};
 
 // Whether a list or span ends beyond a section of so many records.

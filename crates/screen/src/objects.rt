@@ -41,11 +41,11 @@ ghost use mathlib.Core.Path.{_≡_};
 ghost use Rattle.profile.specs.Limits.{exceeds};
 ghost use Rattle.profile.specs.Relations.{packOf};
 ghost use Rattle.profile.specs.Rules.{rule15};
-ghost use Rattle.screen.specs.Objects.{childrenBroken, gainsBroken, isFront, isPlain, objectBroken, objectListsBroken, objectValues, offsetsBroken, restKept, sourceKept, tracksBroken, valuesBroken};
+ghost use Rattle.screen.specs.steps.Objects.{childrenBroken, gainsBroken, isFront, isPlain, objectBroken, objectListsBroken, objectValues, offsetsBroken, restKept, sourceKept, tracksBroken, valuesBroken};
 ghost use Rattle.sheet.specs.Fields.{objects};
 ghost use Rattle.sheet.specs.Layout.{start};
 ghost use Rattle.sheet.specs.Words.{sheetOf};
-ghost use Rattle.tables.specs.Right.{Complemented, Named, Tops};
+ghost use Rattle.tables.specs.steps.Right.{Complemented, Named, Tops};
 
 // Whether a list or span of so many entries is above a limit.
 fn exceeding(s: &[u8], column: u8, n: u16) -> bool

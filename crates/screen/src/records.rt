@@ -27,12 +27,12 @@ ghost use mathlib.Core.Bool.{false, true, _||_};
 ghost use mathlib.Core.Path.{_≡_};
 ghost use Rattle.profile.specs.Counting.{any};
 ghost use Rattle.profile.specs.Rules.{rule5, rule6, rule10, rule12};
-ghost use Rattle.screen.specs.Objects.{objectBroken};
-ghost use Rattle.screen.specs.Screened.{RecordsKept, RecordsTabled, contentBroken, headerBroken, programmeBroken};
+ghost use Rattle.screen.specs.steps.Objects.{objectBroken};
+ghost use Rattle.screen.specs.steps.Screened.{RecordsKept, RecordsTabled, contentBroken, headerBroken, programmeBroken};
 ghost use Rattle.sheet.specs.Fields.{contents, objects, packs, programmes, tracks};
 ghost use Rattle.sheet.specs.Layout.{count};
 ghost use Rattle.sheet.specs.Words.{sheetOf};
-ghost use Rattle.tables.specs.Right.{Complemented, Listed, Named, Tops};
+ghost use Rattle.tables.specs.steps.Right.{Complemented, Listed, Named, Tops};
 
 // The header and the sections themselves: rules 1, 2, 3 and 7.
 pub fn header_breaks(s: &[u8]) -> bool

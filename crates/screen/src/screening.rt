@@ -26,7 +26,7 @@ ghost use mathlib.Core.Bool.{true};
 ghost use mathlib.Core.Path.{_≡_};
 ghost use Rattle.profile.specs.Verdict.{verdict};
 ghost use Rattle.profile.specs.declared.Verdict.the-variants.{Accepted};
-ghost use Rattle.screen.specs.Screened.{Noughts};
+ghost use Rattle.screen.specs.steps.Screened.{Noughts};
 ghost use Rattle.sheet.specs.Words.{sheetOf};
 
 // How many entries the lists and the span of a record have.

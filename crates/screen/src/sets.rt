@@ -14,7 +14,7 @@ ghost use Prim.Native.Nat.{_+_, _<_};
 ghost use mathlib.Core.Bool.{cond, false};
 ghost use mathlib.Core.Path.{_≡_};
 ghost use Rattle.profile.specs.Counting.{any};
-ghost use Rattle.screen.specs.Values.{gainBroken, hasRange, setBroken, setWordsBroken, valueLeaves, valuesAt, wordsBroken};
+ghost use Rattle.screen.specs.steps.Values.{gainBroken, hasRange, setBroken, setWordsBroken, valueLeaves, valuesAt, wordsBroken};
 ghost use Rattle.sheet.specs.Fields.{valueSets};
 ghost use Rattle.sheet.specs.Layout.{start};
 ghost use Rattle.sheet.specs.Words.{sheetOf};

@@ -22,7 +22,7 @@ use values::language::language;
 use values::language::loudness;
 ghost use mathlib.Core.Bool.{false};
 ghost use mathlib.Core.Path.{_≡_};
-ghost use Rattle.screen.specs.Screened.{contentBroken, programmeBroken, programmeListsBroken, speechBroken};
+ghost use Rattle.screen.specs.steps.Screened.{contentBroken, programmeBroken, programmeListsBroken, speechBroken};
 ghost use Rattle.sheet.specs.Words.{sheetOf};
 
 // A list of so many labels is compared by pairs; a longer one is left to the search.

@@ -17,9 +17,9 @@ ghost use mathlib.Core.Bool.{cond, false, not, _&&_};
 ghost use mathlib.Core.Path.{_≡_};
 ghost use Rattle.profile.specs.Relations.{complement, countedTracks, groups, leader, lone, share, top};
 ghost use Rattle.profile.specs.Rules.{rule23, rule24};
-ghost use Rattle.relations.specs.Sizes.{loneObjects};
+ghost use Rattle.relations.specs.steps.Sizes.{loneObjects};
 ghost use Rattle.sheet.specs.Words.{sheetOf};
-ghost use Rattle.tables.specs.Right.{Complemented, Tops};
+ghost use Rattle.tables.specs.steps.Right.{Complemented, Tops};
 
 // A top object that no complement list names.
 fn alone(s: &[u8], tops: &[u16], complements: &[u16], o: u16) -> bool

@@ -17,9 +17,9 @@ use Rattle.profile.proofs.SumLaws.{sum-eq, sum-zero, sum-swap, sum-at, howMany-
 use Rattle.tables.specs.declared.Naming.{Naming}
 use Rattle.tables.specs.declared.Naming.the-variants.{ContentObjects, Children, Complements, ContentLists, Included, SetLists, SetSpans}
 use Rattle.tables.specs.declared.Mark.the-variants.{Count}
-use Rattle.tables.specs.Namings.{namers, items, item}
-use Rattle.tables.specs.Marks.{Standing, marked, repeat, timesBy, namedBy}
-use Rattle.tables.specs.Coverage.{begin, namedAt, behind, Reaching, cover}
+use Rattle.tables.specs.steps.Namings.{namers, items, item}
+use Rattle.tables.specs.steps.Marks.{Standing, marked, repeat, timesBy, namedBy}
+use Rattle.tables.specs.steps.Coverage.{begin, namedAt, behind, Reaching, cover}
 use Rattle.tables.proofs.MarkLaws.{repeat-add}
 use Rattle.tables.proofs.TableLaws.{run-times}
 

@@ -15,8 +15,8 @@ use Rattle.profile.specs.Counting.{any, howMany, sum}
 use Rattle.profile.proofs.CountingLaws.{any-howMany}
 use Rattle.tables.specs.declared.Naming.{Naming}
 use Rattle.tables.specs.declared.Mark.the-variants.{Count, Store, First}
-use Rattle.tables.specs.Namings.{items, item}
-use Rattle.tables.specs.Marks.{Standing, marked, repeat, timesBy, namesBy, firstFrom}
+use Rattle.tables.specs.steps.Namings.{items, item}
+use Rattle.tables.specs.steps.Marks.{Standing, marked, repeat, timesBy, namesBy, firstFrom}
 
 -- so many times, and so many again
 pub repeat-add : (f : ℕ → ℕ) (a b c : ℕ) → repeat f (a + b) c ≡ repeat f b (repeat f a c)

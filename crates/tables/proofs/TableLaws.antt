@@ -19,9 +19,9 @@ use Rattle.profile.proofs.SumLaws.{sum-eq, sum-swap, howMany-sum, any-nowhere}
 use Rattle.tables.specs.declared.Naming.{Naming}
 use Rattle.tables.specs.declared.Naming.the-variants.{ContentObjects, Children, Complements, ContentLists, Included, SetLists, SetSpans}
 use Rattle.tables.specs.declared.Mark.the-variants.{Count, Store}
-use Rattle.tables.specs.Namings.{namers, items, item}
-use Rattle.tables.specs.Marks.{Standing, marked, repeat, timesBy, namedBy, namesBy, firstFrom, firstBy}
-use Rattle.tables.specs.Right.{counted, told, NamedSets}
+use Rattle.tables.specs.steps.Namings.{namers, items, item}
+use Rattle.tables.specs.steps.Marks.{Standing, marked, repeat, timesBy, namedBy, namesBy, firstFrom, firstBy}
+use Rattle.tables.specs.steps.Right.{counted, told, NamedSets}
 use Rattle.tables.proofs.MarkLaws.{repeat-add, repeat-store}
 
 -- a count tells none, one and more apart

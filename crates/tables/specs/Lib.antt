@@ -1,4 +1,1 @@
-pub mod Namings
-pub mod Marks
-pub mod Right
-pub mod Coverage
+pub mod steps

@@ -24,9 +24,9 @@ ghost use mathlib.Core.Bool.{cond};
 ghost use mathlib.Core.Path.{_≡_};
 ghost use Rattle.profile.specs.Counting.{howMany, sum};
 ghost use Rattle.sheet.specs.Words.{sheetOf};
-ghost use Rattle.tables.specs.Coverage.{Reaching, begin, behind, cover, edge, namedAt};
-ghost use Rattle.tables.specs.Marks.{Standing, marked, namedBy, repeat};
-ghost use Rattle.tables.specs.Namings.{namers};
+ghost use Rattle.tables.specs.steps.Coverage.{Reaching, begin, behind, cover, edge, namedAt};
+ghost use Rattle.tables.specs.steps.Marks.{Standing, marked, namedBy, repeat};
+ghost use Rattle.tables.specs.steps.Namings.{namers};
 ghost use Rattle.tables.specs.declared.Mark.the-variants.{Count};
 
 // The index at which a record's run begins.

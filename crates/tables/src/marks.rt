@@ -26,8 +26,8 @@ ghost use mathlib.Core.Path.{_≡_};
 ghost use Rattle.profile.specs.Counting.{howMany};
 ghost use Rattle.profile.specs.Relations.{times};
 ghost use Rattle.sheet.specs.Words.{sheetOf, word};
-ghost use Rattle.tables.specs.Marks.{Standing, firstBy, marked, namedBy, repeat, timesBy};
-ghost use Rattle.tables.specs.Right.{Included, NamedSets};
+ghost use Rattle.tables.specs.steps.Marks.{Standing, firstBy, marked, namedBy, repeat, timesBy};
+ghost use Rattle.tables.specs.steps.Right.{Included, NamedSets};
 ghost use Rattle.tables.specs.declared.Mark.the-variants.{Count};
 ghost use Rattle.tables.specs.declared.Naming.the-variants.{Included as IncludedObjects};
 

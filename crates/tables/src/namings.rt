@@ -15,7 +15,7 @@ use sheet::layout::field;
 use sheet::layout::number;
 ghost use mathlib.Core.Path.{_≡_};
 ghost use Rattle.sheet.specs.Words.{sheetOf};
-ghost use Rattle.tables.specs.Namings.{item, items, namers};
+ghost use Rattle.tables.specs.steps.Namings.{item, items, namers};
 
 // How many records name others in that way.
 pub fn namers(s: &[u8], kind: Naming) -> u16

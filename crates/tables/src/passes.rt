@@ -21,8 +21,8 @@ ghost use Prim.Native.Nat.{suc, _<_};
 ghost use lib.ListN.{getD, length};
 ghost use mathlib.Core.Path.{_≡_};
 ghost use Rattle.sheet.specs.Words.{sheetOf};
-ghost use Rattle.tables.specs.Namings.{items};
-ghost use Rattle.tables.specs.Marks.{Standing, firstBy, marked, namedBy, repeat, timesBy};
+ghost use Rattle.tables.specs.steps.Namings.{items};
+ghost use Rattle.tables.specs.steps.Marks.{Standing, firstBy, marked, namedBy, repeat, timesBy};
 ghost use Rattle.tables.specs.declared.Mark.the-variants.{Count, First};
 ghost use Rattle.tables.specs.declared.Naming.the-variants.{Children, Complements, ContentLists, ContentObjects, SetSpans};
 

@@ -19,7 +19,7 @@ ghost use mathlib.Core.Path.{_≡_};
 ghost use Rattle.profile.specs.Counting.{any};
 ghost use Rattle.profile.specs.Relations.{complement, includes, leaderOf, lone, namesSet, owner, top};
 ghost use Rattle.sheet.specs.Words.{sheetOf};
-ghost use Rattle.tables.specs.Right.{Complemented, Included, Leaders, NamedSets, Owners, Tops, told};
+ghost use Rattle.tables.specs.steps.Right.{Complemented, Included, Leaders, NamedSets, Owners, Tops, told};
 
 // "A top object is one that a content names."
 pub fn top_by(s: &[u8], tops: &[u16], o: u16) -> bool

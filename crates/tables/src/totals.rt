@@ -9,9 +9,9 @@ use sheet::fields::OBJECTS;
 use sheet::layout::count;
 ghost use mathlib.Core.Path.{_≡_};
 ghost use Rattle.profile.specs.Relations.{countedTracks, share, units};
-ghost use Rattle.relations.specs.Sizes.{loneObjects};
+ghost use Rattle.relations.specs.steps.Sizes.{loneObjects};
 ghost use Rattle.sheet.specs.Words.{sheetOf};
-ghost use Rattle.tables.specs.Right.{Complemented, Tops};
+ghost use Rattle.tables.specs.steps.Right.{Complemented, Tops};
 
 // What an object adds to the counted tracks.
 pub fn share(s: &[u8], tops: &[u16], complements: &[u16], o: u16) -> u32

@@ -1,6 +1,6 @@
 -- By the rule and section. Assumes nothing.
 use borrow.Author.Tests.{eq-eqb, ne-eqb}
-use Rattle.checker.specs.Tables.{firstTable}
+use Rattle.checker.specs.steps.Tables.{firstTable}
 use borrow.Author.Needs.{needs}
 use Rattle.checker.proofs.lent.first_table.Statement.{statement}
 use Rattle.checker.proofs.lent.first_table.Tie as tie

@@ -1,6 +1,6 @@
 -- By the rule and section. Assumes nothing.
 use borrow.Author.Tests.{ne-eqb}
-use Rattle.checker.specs.Tables.{secondTable}
+use Rattle.checker.specs.steps.Tables.{secondTable}
 use borrow.Author.Needs.{needs}
 use Rattle.checker.proofs.lent.second_table.Statement.{statement}
 use Rattle.checker.proofs.lent.second_table.Tie as tie

@@ -7,8 +7,8 @@ use borrow.Author.Count.{below-more}
 use lib.ListN.{length}
 use Rattle.sheet.specs.Words.{sheetOf}
 use Rattle.profile.proofs.CountingLaws.{lowest-at, lowest-none}
-use Rattle.checker.specs.Kept.{Unbroken}
-use Rattle.checker.specs.Tables.{Right, firstTable, secondTable}
+use Rattle.checker.specs.steps.Kept.{Unbroken}
+use Rattle.checker.specs.steps.Tables.{Right, firstTable, secondTable}
 use borrow.Author.Needs.{needs}
 use Rattle.checker.proofs.search.broken_below.Statement.{statement}
 use Rattle.checker.proofs.search.broken_below.Tie as tie

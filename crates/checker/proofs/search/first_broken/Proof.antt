@@ -8,7 +8,7 @@ use borrow.Author.Count.{below-none, below-more}
 use Rattle.sheet.specs.Words.{sheetOf}
 use Rattle.profile.specs.Verdict.{ruleBroken}
 use Rattle.checker.specs.Checked.{checked, ruleVerdict}
-use Rattle.checker.specs.Kept.{KeptBelow}
+use Rattle.checker.specs.steps.Kept.{KeptBelow}
 use Rattle.checker.proofs.GroupLaws.{groups-apart}
 use Rattle.checker.proofs.SearchLaws.{broken-none, verdict-broken, verdict-none}
 use borrow.Author.Needs.{needs}

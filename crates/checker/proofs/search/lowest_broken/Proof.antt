@@ -3,7 +3,7 @@ use Prim.Native.Nat.{ℕ}
 use mathlib.Core.Path.{sym, subst}
 use native.Mathlib.Omega.{arith}
 use Rattle.sheet.specs.Words.{sheetOf}
-use Rattle.checker.specs.Kept.{Unbroken}
+use Rattle.checker.specs.steps.Kept.{Unbroken}
 use Rattle.checker.proofs.GroupLaws.{unbroken-21, unbroken-22}
 use borrow.Author.Needs.{needs}
 use Rattle.checker.proofs.search.lowest_broken.Statement.{statement}

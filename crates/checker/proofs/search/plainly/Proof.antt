@@ -2,7 +2,7 @@
 use native.Mathlib.Omega.{arith}
 use Rattle.sheet.specs.Words.{sheetOf}
 use Rattle.checker.proofs.SearchLaws.{empty-right}
-use Rattle.checker.specs.Tables.{firstTable, secondTable}
+use Rattle.checker.specs.steps.Tables.{firstTable, secondTable}
 use borrow.Author.Needs.{needs}
 use Rattle.checker.proofs.search.plainly.Statement.{statement}
 use Rattle.checker.proofs.search.plainly.Tie as tie

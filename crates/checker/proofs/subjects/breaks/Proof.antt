@@ -2,7 +2,7 @@
 use mathlib.Core.Path.{refl}
 use Rattle.sheet.specs.Words.{sheetOf}
 use Rattle.profile.specs.Verdict.{breaks, rules}
-use Rattle.checker.specs.Tables.{Right, firstTable, secondTable}
+use Rattle.checker.specs.steps.Tables.{Right, firstTable, secondTable}
 use Rattle.checker.proofs.SubjectLaws.{above, no-rule}
 use borrow.Author.Needs.{needs}
 use Rattle.checker.proofs.subjects.breaks.Statement.{statement}

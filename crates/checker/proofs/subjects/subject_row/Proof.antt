@@ -1,6 +1,6 @@
 -- The rows, by the rule's number. Assumes nothing.
 use mathlib.Core.Path.{refl}
-use Rattle.checker.specs.Rows.{subjectRow, subjectRows}
+use Rattle.checker.specs.steps.Rows.{subjectRow, subjectRows}
 use Rattle.checker.proofs.SubjectLaws.{above, empty-row}
 use Rattle.checker.proofs.subjects.subject_row.Statement.{statement}
 use Rattle.checker.proofs.subjects.subject_row.Tie as tie

@@ -1,5 +1,5 @@
 -- Legal, and in the range. Assumes nothing.
-use Rattle.granted.specs.Steps.{gainWithin}
+use Rattle.granted.specs.steps.NamedSet.{gainWithin}
 use borrow.Author.Needs.{needs}
 use Rattle.granted.proofs.fitting.gain_within.Statement.{statement}
 use Rattle.granted.proofs.fitting.gain_within.Tie as tie

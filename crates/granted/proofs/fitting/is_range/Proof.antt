@@ -1,5 +1,5 @@
 -- The minimum is there. Assumes nothing.
-use Rattle.granted.specs.Steps.{isRange}
+use Rattle.granted.specs.steps.NamedSet.{isRange}
 use borrow.Author.Needs.{needs}
 use Rattle.granted.proofs.fitting.is_range.Statement.{statement}
 use Rattle.granted.proofs.fitting.is_range.Tie as tie

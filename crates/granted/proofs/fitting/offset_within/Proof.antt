@@ -2,7 +2,7 @@
 use mathlib.Core.Path.{_≡_}
 use mir.Val.{toZ, ofZ}
 use mir.Syntax.{w16}
-use Rattle.granted.specs.Steps.{offsetWithin}
+use Rattle.granted.specs.steps.NamedSet.{offsetWithin}
 use borrow.Author.Needs.{needs}
 use Rattle.granted.proofs.fitting.offset_within.Statement.{statement}
 use Rattle.granted.proofs.fitting.offset_within.Tie as tie

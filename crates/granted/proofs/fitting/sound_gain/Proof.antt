@@ -1,5 +1,5 @@
 -- The start value, or in the range. Assumes nothing.
-use Rattle.granted.specs.Steps.{soundGainBy}
+use Rattle.granted.specs.steps.NamedSet.{soundGainBy}
 use borrow.Author.Needs.{needs}
 use Rattle.granted.proofs.fitting.sound_gain.Statement.{statement}
 use Rattle.granted.proofs.fitting.sound_gain.Tie as tie

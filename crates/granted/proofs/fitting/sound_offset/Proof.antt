@@ -4,7 +4,7 @@ use mathlib.Core.Bool.{true, false}
 use mir.Val.{toZ, ofZ}
 use mir.Syntax.{w16}
 use Rattle.granted.specs.Fitting.{sameOffset}
-use Rattle.granted.specs.Steps.{soundOffsetBy}
+use Rattle.granted.specs.steps.NamedSet.{soundOffsetBy}
 use borrow.Author.Needs.{needs}
 use Rattle.granted.proofs.fitting.sound_offset.Statement.{statement}
 use Rattle.granted.proofs.fitting.sound_offset.Tie as tie

@@ -7,8 +7,8 @@ use lib.ListN.{length, getD}
 use Rattle.sheet.specs.Words.{sheetOf}
 use Rattle.tables.specs.declared.Mark.the-variants.{Store}
 use Rattle.tables.specs.declared.Naming.the-variants.{Complements}
-use Rattle.tables.specs.Namings.{namers}
-use Rattle.tables.specs.Marks.{Standing, marked, repeat, timesBy, namesBy, firstFrom, firstBy}
+use Rattle.tables.specs.steps.Namings.{namers}
+use Rattle.tables.specs.steps.Marks.{Standing, marked, repeat, timesBy, namesBy, firstFrom, firstBy}
 use Rattle.tables.proofs.MarkLaws.{first-more}
 use Rattle.granted.proofs.included.find_leaders.Statement.{statement}
 use Rattle.granted.proofs.included.find_leaders.Tie as tie

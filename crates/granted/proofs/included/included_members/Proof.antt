@@ -5,7 +5,7 @@ use native.Mathlib.Omega.{arith}
 use native.Mathlib.Numerals.{add-one}
 use Rattle.profile.specs.Counting.{howMany}
 use Rattle.profile.specs.Relations.{member, members, includes, included}
-use Rattle.tables.specs.Right.{Included}
+use Rattle.tables.specs.steps.Right.{Included}
 use Rattle.sheet.specs.Words.{sheetOf}
 use borrow.Author.Needs.{needs}
 use Rattle.granted.proofs.included.included_members.Statement.{statement}

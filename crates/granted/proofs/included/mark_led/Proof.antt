@@ -13,8 +13,8 @@ use Rattle.profile.specs.Counting.{howMany}
 use Rattle.profile.specs.Relations.{leader}
 use Rattle.tables.specs.declared.Mark.the-variants.{Store}
 use Rattle.tables.specs.declared.Naming.the-variants.{Complements}
-use Rattle.tables.specs.Marks.{marked, repeat, timesBy}
-use Rattle.tables.specs.Namings.{item}
+use Rattle.tables.specs.steps.Marks.{marked, repeat, timesBy}
+use Rattle.tables.specs.steps.Namings.{item}
 use borrow.Author.Needs.{needs}
 use Rattle.granted.proofs.included.mark_led.Statement.{statement}
 use Rattle.granted.proofs.included.mark_led.Tie as tie

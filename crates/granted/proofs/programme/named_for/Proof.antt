@@ -2,7 +2,7 @@
 use mathlib.Core.Path.{refl}
 use native.Mathlib.Omega.{arith}
 use Rattle.sheet.specs.Words.{sheetOf}
-use Rattle.granted.specs.Steps.{namedFor, setPlace}
+use Rattle.granted.specs.steps.NamedSet.{namedFor, setPlace}
 use Rattle.granted.proofs.PlaceLaws.{place-inside, place-outside, place-set}
 use borrow.Author.Needs.{needs}
 use Rattle.granted.proofs.programme.named_for.Statement.{statement}

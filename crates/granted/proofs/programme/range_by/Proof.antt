@@ -1,5 +1,5 @@
 -- From the set, else the object. Assumes nothing.
-use Rattle.granted.specs.Steps.{rangeBy}
+use Rattle.granted.specs.steps.NamedSet.{rangeBy}
 use borrow.Author.Needs.{needs}
 use Rattle.granted.proofs.programme.range_by.Statement.{statement}
 use Rattle.granted.proofs.programme.range_by.Tie as tie

@@ -8,7 +8,7 @@ use Rattle.profile.specs.Counting.{lowest}
 use Rattle.profile.specs.Relations.{hasSet, namedSet}
 use Rattle.profile.proofs.CountingLaws.{lowest-at, lowest-none}
 use Rattle.sheet.specs.Words.{sheetOf}
-use Rattle.granted.specs.Steps.{setPlace}
+use Rattle.granted.specs.steps.NamedSet.{setPlace}
 use Rattle.granted.proofs.PlaceLaws.{place-has}
 use borrow.Author.Needs.{needs}
 use Rattle.granted.proofs.programme.set_place.Statement.{statement}

@@ -1,5 +1,5 @@
 -- From the set, else the object. Assumes nothing.
-use Rattle.granted.specs.Steps.{startBy}
+use Rattle.granted.specs.steps.NamedSet.{startBy}
 use borrow.Author.Needs.{needs}
 use Rattle.granted.proofs.programme.start_by.Statement.{statement}
 use Rattle.granted.proofs.programme.start_by.Tie as tie

@@ -1,8 +1,8 @@
 -- What stands there, or itself. Assumes nothing.
 use mathlib.Core.Path.{refl, sym}
 use borrow.Author.Tests.{ne-eqb}
-use Rattle.tables.specs.Right.{told}
-use Rattle.grouping.specs.Groups.{representative}
+use Rattle.tables.specs.steps.Right.{told}
+use Rattle.grouping.specs.steps.Groups.{representative}
 use borrow.Author.Needs.{needs}
 use Rattle.grouping.proofs.alike.representative.Statement.{statement}
 use Rattle.grouping.proofs.alike.representative.Tie as tie

@@ -9,7 +9,7 @@ use lib.ListN.{length}
 use Rattle.sheet.specs.Words.{sheetOf}
 use Rattle.sheet.specs.Layout.{number, offset}
 use Rattle.sheet.specs.Fields.{programmes, contents, references, contentList}
-use Rattle.grouping.specs.Groups.{Changed, objectAt}
+use Rattle.grouping.specs.steps.Groups.{Changed, objectAt}
 use Rattle.grouping.proofs.PassLaws.{changed-none, changed-more, object-entry}
 use Rattle.grouping.proofs.entering.enter_objects.Statement.{statement}
 use Rattle.grouping.proofs.entering.enter_objects.Tie as tie

@@ -12,8 +12,8 @@ use Rattle.sheet.specs.Layout.{number, offset}
 use Rattle.sheet.specs.Fields.{programmes, references, setList}
 use Rattle.profile.specs.Relations.{namedSet, owner}
 use Rattle.profile.specs.Rules.{ownerAt}
-use Rattle.tables.specs.Right.{Owners}
-use Rattle.grouping.specs.Groups.{Noted, representative}
+use Rattle.tables.specs.steps.Right.{Owners}
+use Rattle.grouping.specs.steps.Groups.{Noted, representative}
 use Rattle.grouping.proofs.PassLaws.{noted-none, noted-more, owner-read, set-entry}
 use Rattle.grouping.proofs.entering.enter_sets.Statement.{statement}
 use Rattle.grouping.proofs.entering.enter_sets.Tie as tie

@@ -1,5 +1,5 @@
 -- By its parts. Assumes nothing.
-use Rattle.grouping.specs.Groups.{objectFrom}
+use Rattle.grouping.specs.steps.Groups.{objectFrom}
 use borrow.Author.Needs.{needs}
 use Rattle.grouping.proofs.entering.object_from.Statement.{statement}
 use Rattle.grouping.proofs.entering.object_from.Tie as tie

@@ -7,7 +7,7 @@ use lib.ListN.{length}
 use Rattle.sheet.specs.Words.{sheetOf}
 use Rattle.sheet.specs.Layout.{number}
 use Rattle.sheet.specs.Fields.{objects, complementList}
-use Rattle.grouping.specs.Groups.{Listed}
+use Rattle.grouping.specs.steps.Groups.{Listed}
 use Rattle.grouping.proofs.RowLaws.{listed-row, listed-next}
 use Rattle.grouping.proofs.groups.add_rows.Statement.{statement}
 use Rattle.grouping.proofs.groups.add_rows.Tie as tie

@@ -11,7 +11,7 @@ use lib.ListN.{getD}
 use Rattle.sheet.specs.Words.{sheetOf}
 use Rattle.sheet.specs.Layout.{offset}
 use Rattle.sheet.specs.Fields.{references, valueSets}
-use Rattle.grouping.specs.Groups.{GroupKept, LeadersIn, RowKept}
+use Rattle.grouping.specs.steps.Groups.{GroupKept, LeadersIn, RowKept}
 use Rattle.grouping.proofs.RowLaws.{rows-kept}
 use Rattle.grouping.proofs.groups.groups_kept.Statement.{statement}
 use Rattle.grouping.proofs.groups.groups_kept.Tie as tie

@@ -7,7 +7,7 @@ use lib.ListN.{length}
 use Rattle.sheet.specs.Words.{sheetOf}
 use Rattle.sheet.specs.Layout.{count}
 use Rattle.sheet.specs.Fields.{objects}
-use Rattle.grouping.specs.Groups.{Listed}
+use Rattle.grouping.specs.steps.Groups.{Listed}
 use Rattle.grouping.proofs.groups.list_leaders.Statement.{statement}
 use Rattle.grouping.proofs.groups.list_leaders.Tie as tie
 

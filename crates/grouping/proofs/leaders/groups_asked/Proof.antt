@@ -8,8 +8,8 @@ use lib.ListN.{length}
 use Rattle.sheet.specs.Words.{sheetOf}
 use Rattle.sheet.specs.Layout.{number, offset}
 use Rattle.sheet.specs.Fields.{programmes, contents, references, valueSets, contentList}
-use Rattle.tables.specs.Right.{Leaders}
-use Rattle.grouping.specs.Groups.{Asked}
+use Rattle.tables.specs.steps.Right.{Leaders}
+use Rattle.grouping.specs.steps.Groups.{Asked}
 use Rattle.grouping.proofs.LeaderLaws.{asked-more, asked-none, group-entry}
 use Rattle.grouping.proofs.PassLaws.{object-entry}
 use borrow.Author.Needs.{needs}

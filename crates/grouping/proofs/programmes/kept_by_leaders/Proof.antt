@@ -6,7 +6,7 @@ use native.Mathlib.Omega.{arith}
 use borrow.Author.Tests.{not-false}
 use Rattle.sheet.specs.Words.{sheetOf}
 use Rattle.profile.specs.Relations.{namedSet}
-use Rattle.grouping.specs.Groups.{representative}
+use Rattle.grouping.specs.steps.Groups.{representative}
 use Rattle.grouping.proofs.KeptLaws.{entered-kept, entries-apart, same-kept, tells-entered}
 use Rattle.grouping.proofs.LeaderLaws.{asked-kept, left-empty}
 use borrow.Author.Needs.{needs}

@@ -5,7 +5,7 @@ use mathlib.Core.Bool.{true≢false}
 use borrow.Author.Tests.{not-false}
 use Rattle.sheet.specs.Words.{sheetOf}
 use Rattle.profile.specs.Relations.{namedSet}
-use Rattle.grouping.specs.Groups.{representative}
+use Rattle.grouping.specs.steps.Groups.{representative}
 use Rattle.grouping.proofs.KeptLaws.{entered-kept, same-kept}
 use borrow.Author.Needs.{needs}
 use Rattle.grouping.proofs.programmes.kept_by_rows.Statement.{statement}

@@ -9,9 +9,9 @@ use Rattle.sheet.specs.Words.{sheetOf}
 use Rattle.sheet.specs.Layout.{count}
 use Rattle.sheet.specs.Fields.{objects}
 use Rattle.tables.specs.declared.Naming.the-variants.{Complements}
-use Rattle.tables.specs.Marks.{firstBy}
-use Rattle.tables.specs.Right.{Leaders}
-use Rattle.grouping.specs.Groups.{GroupsApart, Kept, KeptTo, Passing, Ready}
+use Rattle.tables.specs.steps.Marks.{firstBy}
+use Rattle.tables.specs.steps.Right.{Leaders}
+use Rattle.grouping.specs.steps.Groups.{GroupsApart, Kept, KeptTo, Passing, Ready}
 use borrow.Author.Needs.{needs}
 use Rattle.grouping.proofs.programmes.leaders_from.Statement.{statement}
 use Rattle.grouping.proofs.programmes.leaders_from.Tie as tie

@@ -8,7 +8,7 @@ use lib.ListN.{length}
 use Rattle.sheet.specs.Words.{sheetOf}
 use Rattle.sheet.specs.Layout.{count}
 use Rattle.sheet.specs.Fields.{objects}
-use Rattle.grouping.specs.Groups.{Kept, KeptTo, LeadersIn, Passing}
+use Rattle.grouping.specs.steps.Groups.{Kept, KeptTo, LeadersIn, Passing}
 use borrow.Author.Needs.{needs}
 use Rattle.grouping.proofs.programmes.rows_from.Statement.{statement}
 use Rattle.grouping.proofs.programmes.rows_from.Tie as tie

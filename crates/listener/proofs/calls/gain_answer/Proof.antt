@@ -2,9 +2,9 @@
 use mathlib.Core.Path.{sym, ap, _∙_}
 use Rattle.granted.specs.Granted.{grants}
 use Rattle.granted.specs.Fitting.{gainFits}
-use Rattle.granted.specs.Steps.{grantedRange, isRange, gainWithin}
+use Rattle.granted.specs.steps.NamedSet.{grantedRange, isRange, gainWithin}
 use Rattle.listener.specs.Calls.{rangeAnswer}
-use Rattle.listener.specs.Steps.{rangeAnswerBy}
+use Rattle.listener.specs.steps.Settings.{rangeAnswerBy}
 use borrow.Author.Needs.{needs}
 use Rattle.listener.proofs.calls.gain_answer.Statement.{statement}
 use Rattle.listener.proofs.calls.gain_answer.Tie as tie

@@ -4,10 +4,10 @@ use mathlib.Core.Path.{_≡_, refl, sym, ap, _∙_}
 use native.Mathlib.Omega.{arith}
 use borrow.Author.Count.{below-none}
 use Rattle.sheet.specs.Words.{sheetOf}
-use Rattle.tables.specs.Right.{Leaders}
+use Rattle.tables.specs.steps.Right.{Leaders}
 use Rattle.listener.specs.State.{blank}
 use Rattle.listener.specs.Calls.{movedSetting, moved}
-use Rattle.listener.specs.Steps.{movedFrom}
+use Rattle.listener.specs.steps.Settings.{movedFrom}
 use Rattle.listener.proofs.FillLaws.{Filled, filled-more, filled-all}
 use Rattle.listener.proofs.StepLaws.{element-setting}
 use borrow.Author.Needs.{needs}

@@ -3,7 +3,7 @@ use mathlib.Core.Path.{_≡_, refl, sym, ap, _∙_}
 use mir.Val.{toZ, ofZ}
 use mir.Syntax.{w16}
 use borrow.Author.Tests.{eq-eqb, ne-eqb}
-use Rattle.listener.specs.Steps.{movedFrom}
+use Rattle.listener.specs.steps.Settings.{movedFrom}
 use borrow.Author.Needs.{needs}
 use Rattle.listener.proofs.calls.moved_setting.Statement.{statement}
 use Rattle.listener.proofs.calls.moved_setting.Tie as tie

@@ -4,9 +4,9 @@ use mir.Val.{toZ, ofZ}
 use mir.Syntax.{w16}
 use Rattle.granted.specs.Granted.{grants}
 use Rattle.granted.specs.Fitting.{offsetFits}
-use Rattle.granted.specs.Steps.{grantedRange, isRange, offsetWithin}
+use Rattle.granted.specs.steps.NamedSet.{grantedRange, isRange, offsetWithin}
 use Rattle.listener.specs.Calls.{rangeAnswer}
-use Rattle.listener.specs.Steps.{rangeAnswerBy}
+use Rattle.listener.specs.steps.Settings.{rangeAnswerBy}
 use borrow.Author.Needs.{needs}
 use Rattle.listener.proofs.calls.offset_answer.Statement.{statement}
 use Rattle.listener.proofs.calls.offset_answer.Tie as tie

@@ -1,6 +1,6 @@
 -- 28, then 30, then 31. Assumes nothing.
 use mathlib.Core.Path.{sym, _∙_}
-use Rattle.listener.specs.Steps.{rangeAnswerBy}
+use Rattle.listener.specs.steps.Settings.{rangeAnswerBy}
 use borrow.Author.Needs.{needs}
 use Rattle.listener.proofs.calls.range_answer.Statement.{statement}
 use Rattle.listener.proofs.calls.range_answer.Tie as tie

@@ -2,7 +2,7 @@
 use Prim.Native.Nat.{_-_, _≤_}
 use native.Mathlib.Omega.{arith}
 use Rattle.sheet.specs.Words.{sheetOf}
-use Rattle.tables.specs.Right.{Included, Leaders}
+use Rattle.tables.specs.steps.Right.{Included, Leaders}
 use Rattle.listener.specs.State.{blank, resting}
 use Rattle.listener.specs.Programme.{startSetting, started}
 use Rattle.listener.proofs.FillLaws.{Begun, begun-none, begun-more, begun-all}

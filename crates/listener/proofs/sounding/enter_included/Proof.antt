@@ -15,8 +15,8 @@ use Rattle.profile.specs.Relations.{includes}
 use Rattle.profile.proofs.BoolLaws.{and-both}
 use Rattle.tables.specs.declared.Mark.the-variants.{Store}
 use Rattle.tables.specs.declared.Naming.the-variants.{Included}
-use Rattle.tables.specs.Namings.{item}
-use Rattle.tables.specs.Marks.{Standing, marked, repeat, timesBy}
+use Rattle.tables.specs.steps.Namings.{item}
+use Rattle.tables.specs.steps.Marks.{Standing, marked, repeat, timesBy}
 use Rattle.tables.proofs.MarkLaws.{items-more}
 use Rattle.tables.proofs.TableLaws.{included-marked}
 use Rattle.listener.proofs.RestLaws.{Past, past-raised, past-left}

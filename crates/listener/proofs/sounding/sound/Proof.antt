@@ -17,7 +17,7 @@ use Rattle.tables.proofs.MarkLaws.{nought}
 use Rattle.listener.specs.declared.Setting.{Setting}
 use Rattle.listener.specs.State.{stateObjects, setting, active as isActive, isResting}
 use Rattle.listener.specs.Sound.{sound, soundAt}
-use Rattle.listener.specs.Steps.{flaggedSound, restingFrom}
+use Rattle.listener.specs.steps.Settings.{flaggedSound, restingFrom}
 use Rattle.listener.proofs.FillLaws.{Begun, begun-none, begun-more, begun-all}
 use Rattle.listener.proofs.StepLaws.{and-assoc, and-behind, leaders-made, element-setting, all-flags}
 use Rattle.listener.proofs.RestLaws.{sound-parts, rest-inactive}

@@ -2,7 +2,7 @@
 use mathlib.Core.Path.{_≡_, sym, _∙_}
 use mir.Val.{toZ, ofZ}
 use mir.Syntax.{w16}
-use Rattle.listener.specs.Steps.{flaggedSound}
+use Rattle.listener.specs.steps.Settings.{flaggedSound}
 use Rattle.listener.proofs.StepLaws.{and-assoc}
 use borrow.Author.Needs.{needs}
 use Rattle.listener.proofs.sounding.sound_at.Statement.{statement}

@@ -1,6 +1,6 @@
 -- Its own and its children's. Assumes nothing.
 use native.Mathlib.Omega.{arith}
-use Rattle.listener.specs.Written.{objectNumber}
+use Rattle.listener.specs.steps.Tracks.{objectNumber}
 use borrow.Author.Needs.{needs}
 use Rattle.listener.proofs.writing.object_number.Statement.{statement}
 use Rattle.listener.proofs.writing.object_number.Tie as tie

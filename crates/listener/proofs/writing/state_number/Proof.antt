@@ -5,7 +5,7 @@ use native.Mathlib.Omega.{arith}
 use native.Mathlib.Numerals.{add-one}
 use Rattle.profile.specs.Counting.{sum}
 use Rattle.sheet.specs.Words.{sheetOf}
-use Rattle.listener.specs.Written.{numberWhen, stateNumber}
+use Rattle.listener.specs.steps.Tracks.{numberWhen, stateNumber}
 use Rattle.listener.proofs.StepLaws.{element-active}
 use borrow.Author.Needs.{needs}
 use Rattle.listener.proofs.writing.state_number.Statement.{statement}

@@ -6,7 +6,7 @@ use lib.Seq.{sets}
 use Rattle.sheet.specs.Words.{sheetOf}
 use Rattle.sheet.specs.Layout.{entry}
 use Rattle.sheet.specs.Fields.{objects, childList}
-use Rattle.listener.specs.Written.{ownTracks, childTracks}
+use Rattle.listener.specs.steps.Tracks.{ownTracks, childTracks}
 use Rattle.listener.proofs.WrittenLaws.{Written, written-none, written-more, room, same-long, written-all}
 use Rattle.listener.proofs.writing.write_children.Statement.{statement}
 use Rattle.listener.proofs.writing.write_children.Tie as tie

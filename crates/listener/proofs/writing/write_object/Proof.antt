@@ -6,7 +6,7 @@ use native.Mathlib.Omega.{arith}
 use lib.ListN.{length, length-append}
 use lib.Seq.{sets, length-sets}
 use Rattle.sheet.specs.Words.{sheetOf}
-use Rattle.listener.specs.Written.{ownTracks, childTracks, objectTracks}
+use Rattle.listener.specs.steps.Tracks.{ownTracks, childTracks, objectTracks}
 use Rattle.listener.proofs.WrittenLaws.{sets-append}
 use Rattle.listener.proofs.writing.write_object.Statement.{statement}
 use Rattle.listener.proofs.writing.write_object.Tie as tie

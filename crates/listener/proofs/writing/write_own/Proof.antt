@@ -7,7 +7,7 @@ use lib.ListN.{set}
 use Rattle.profile.specs.Counting.{tabulate}
 use Rattle.sheet.specs.Words.{sheetOf}
 use Rattle.profile.specs.Relations.{trackAt}
-use Rattle.listener.specs.Written.{ownTracks}
+use Rattle.listener.specs.steps.Tracks.{ownTracks}
 use Rattle.listener.proofs.WrittenLaws.{Written, written-none, written-more, room, same-long, written-all}
 use Rattle.listener.proofs.writing.write_own.Statement.{statement}
 use Rattle.listener.proofs.writing.write_own.Tie as tie

@@ -8,7 +8,7 @@ use lib.Seq.{sets}
 use native.Mathlib.Nat.{zero-add}
 use native.Mathlib.Omega.{arith}
 use Rattle.sheet.specs.Words.{sheetOf}
-use Rattle.listener.specs.Written.{objectTracks, tracksWhen, stateTracks}
+use Rattle.listener.specs.steps.Tracks.{objectTracks, tracksWhen, stateTracks}
 use Rattle.listener.proofs.WrittenLaws.{Written, written-none, written-more, room, same-long, written-all}
 use Rattle.listener.proofs.StepLaws.{element-active}
 use borrow.Author.Needs.{needs}

@@ -1,7 +1,7 @@
 -- Some entry passes where not none does. Assumes nothing.
 use mathlib.Core.Path.{sym}
 use Rattle.profile.proofs.CountingLaws.{any-howMany}
-use Rattle.relations.specs.Tests.{howManyEntries, anyEntry}
+use Rattle.relations.specs.steps.Tests.{howManyEntries, anyEntry}
 use borrow.Author.Needs.{needs}
 use Rattle.relations.proofs.entries.any_entry.Statement.{statement}
 use Rattle.relations.proofs.entries.any_entry.Tie as tie

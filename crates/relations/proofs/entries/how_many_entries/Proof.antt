@@ -6,7 +6,7 @@ use native.Mathlib.Numerals.{add-one}
 use Rattle.profile.specs.Counting.{howMany}
 use Rattle.sheet.specs.Layout.{number, entry}
 use Rattle.sheet.specs.Words.{sheetOf}
-use Rattle.relations.specs.Tests.{entryTest, howManyEntries}
+use Rattle.relations.specs.steps.Tests.{entryTest, howManyEntries}
 use Rattle.relations.proofs.entries.how_many_entries.Statement.{statement}
 use Rattle.relations.proofs.entries.how_many_entries.Tie as tie
 use borrow.Author.Needs.{needs}

@@ -1,6 +1,6 @@
 -- An entry that is x. Assumes nothing.
 use Rattle.profile.specs.Relations.{lists}
-use Rattle.relations.specs.Tests.{anyEntry}
+use Rattle.relations.specs.steps.Tests.{anyEntry}
 use borrow.Author.Needs.{needs}
 use Rattle.relations.proofs.entries.lists.Statement.{statement}
 use Rattle.relations.proofs.entries.lists.Tie as tie

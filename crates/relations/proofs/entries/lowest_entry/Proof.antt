@@ -8,7 +8,7 @@ use Rattle.profile.specs.Counting.{lowest}
 use Rattle.profile.proofs.CountingLaws.{lowest-at, lowest-none}
 use Rattle.sheet.specs.Layout.{number, entry}
 use Rattle.sheet.specs.Words.{sheetOf}
-use Rattle.relations.specs.Tests.{entryTest, lowestEntry}
+use Rattle.relations.specs.steps.Tests.{entryTest, lowestEntry}
 use Rattle.relations.proofs.entries.lowest_entry.Statement.{statement}
 use Rattle.relations.proofs.entries.lowest_entry.Tie as tie
 use borrow.Author.Needs.{needs}

@@ -1,6 +1,6 @@
 -- The entries that are x. Assumes nothing.
 use Rattle.profile.specs.Relations.{times}
-use Rattle.relations.specs.Tests.{howManyEntries}
+use Rattle.relations.specs.steps.Tests.{howManyEntries}
 use borrow.Author.Needs.{needs}
 use Rattle.relations.proofs.entries.times.Statement.{statement}
 use Rattle.relations.proofs.entries.times.Tie as tie

@@ -6,7 +6,7 @@ use native.Mathlib.Numerals.{add-one}
 use Rattle.profile.specs.Counting.{howMany}
 use Rattle.profile.specs.Relations.{member, members}
 use Rattle.sheet.specs.Words.{sheetOf}
-use Rattle.relations.specs.Tests.{memberTest, howManyMembers}
+use Rattle.relations.specs.steps.Tests.{memberTest, howManyMembers}
 use Rattle.relations.proofs.groups.how_many_members.Statement.{statement}
 use Rattle.relations.proofs.groups.how_many_members.Tie as tie
 use borrow.Author.Needs.{needs}

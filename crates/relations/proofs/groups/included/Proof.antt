@@ -1,6 +1,6 @@
 -- The members that the programme includes. Assumes nothing.
 use Rattle.profile.specs.Relations.{included}
-use Rattle.relations.specs.Tests.{howManyMembers}
+use Rattle.relations.specs.steps.Tests.{howManyMembers}
 use borrow.Author.Needs.{needs}
 use Rattle.relations.proofs.groups.included.Statement.{statement}
 use Rattle.relations.proofs.groups.included.Tie as tie

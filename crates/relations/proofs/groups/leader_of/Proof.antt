@@ -1,7 +1,7 @@
 -- The object that lists it, else itself. Assumes nothing.
 use mathlib.Core.Path.{sym, _∙_}
 use Rattle.profile.specs.Relations.{leaderOf}
-use Rattle.relations.specs.Tests.{lowestRecord}
+use Rattle.relations.specs.steps.Tests.{lowestRecord}
 use borrow.Author.Needs.{needs}
 use Rattle.relations.proofs.groups.leader_of.Statement.{statement}
 use Rattle.relations.proofs.groups.leader_of.Tie as tie

@@ -1,6 +1,6 @@
 -- A named set that is the object's. Assumes nothing.
 use Rattle.profile.specs.Relations.{namesSet, namedSet}
-use Rattle.relations.specs.Tests.{anyEntry}
+use Rattle.relations.specs.steps.Tests.{anyEntry}
 use borrow.Author.Needs.{needs}
 use Rattle.relations.proofs.programmes.names_set.Statement.{statement}
 use Rattle.relations.proofs.programmes.names_set.Tie as tie

@@ -1,6 +1,6 @@
 -- The first named set that is the object's. Assumes nothing.
 use Rattle.profile.specs.Relations.{setFor, namedSet}
-use Rattle.relations.specs.Tests.{lowestEntry}
+use Rattle.relations.specs.steps.Tests.{lowestEntry}
 use borrow.Author.Needs.{needs}
 use Rattle.relations.proofs.programmes.set_for.Statement.{statement}
 use Rattle.relations.proofs.programmes.set_for.Tie as tie

@@ -1,7 +1,7 @@
 -- Some record passes where not none does. Assumes nothing.
 use mathlib.Core.Path.{sym}
 use Rattle.profile.proofs.CountingLaws.{any-howMany}
-use Rattle.relations.specs.Tests.{howManyRecords, anyRecord}
+use Rattle.relations.specs.steps.Tests.{howManyRecords, anyRecord}
 use borrow.Author.Needs.{needs}
 use Rattle.relations.proofs.records.any_record.Statement.{statement}
 use Rattle.relations.proofs.records.any_record.Tie as tie

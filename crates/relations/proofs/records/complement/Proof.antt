@@ -1,6 +1,6 @@
 -- An object that lists it. Assumes nothing.
 use Rattle.profile.specs.Relations.{complement}
-use Rattle.relations.specs.Tests.{anyRecord}
+use Rattle.relations.specs.steps.Tests.{anyRecord}
 use borrow.Author.Needs.{needs}
 use Rattle.relations.proofs.records.complement.Statement.{statement}
 use Rattle.relations.proofs.records.complement.Tie as tie

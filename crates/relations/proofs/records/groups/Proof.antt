@@ -1,6 +1,6 @@
 -- The objects with complements. Assumes nothing.
 use Rattle.profile.specs.Relations.{groups}
-use Rattle.relations.specs.Tests.{howManyRecords}
+use Rattle.relations.specs.steps.Tests.{howManyRecords}
 use borrow.Author.Needs.{needs}
 use Rattle.relations.proofs.records.groups.Statement.{statement}
 use Rattle.relations.proofs.records.groups.Tie as tie

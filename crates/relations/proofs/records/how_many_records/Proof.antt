@@ -6,7 +6,7 @@ use native.Mathlib.Numerals.{add-one}
 use Rattle.profile.specs.Counting.{howMany}
 use Rattle.sheet.specs.Layout.{count}
 use Rattle.sheet.specs.Words.{sheetOf}
-use Rattle.relations.specs.Tests.{recordTest, howManyRecords}
+use Rattle.relations.specs.steps.Tests.{recordTest, howManyRecords}
 use Rattle.relations.proofs.records.how_many_records.Statement.{statement}
 use Rattle.relations.proofs.records.how_many_records.Tie as tie
 use borrow.Author.Needs.{needs}

@@ -8,7 +8,7 @@ use Rattle.profile.specs.Counting.{lowest}
 use Rattle.profile.proofs.CountingLaws.{lowest-at, lowest-none}
 use Rattle.sheet.specs.Layout.{count}
 use Rattle.sheet.specs.Words.{sheetOf}
-use Rattle.relations.specs.Tests.{recordTest, lowestRecord}
+use Rattle.relations.specs.steps.Tests.{recordTest, lowestRecord}
 use Rattle.relations.proofs.records.lowest_record.Statement.{statement}
 use Rattle.relations.proofs.records.lowest_record.Tie as tie
 use borrow.Author.Needs.{needs}

@@ -1,6 +1,6 @@
 -- The first object whose span has the set. Assumes nothing.
 use Rattle.profile.specs.Relations.{owner}
-use Rattle.relations.specs.Tests.{lowestRecord}
+use Rattle.relations.specs.steps.Tests.{lowestRecord}
 use borrow.Author.Needs.{needs}
 use Rattle.relations.proofs.records.owner.Statement.{statement}
 use Rattle.relations.proofs.records.owner.Tie as tie

@@ -1,6 +1,6 @@
 -- A content that names the object. Assumes nothing.
 use Rattle.profile.specs.Relations.{top}
-use Rattle.relations.specs.Tests.{anyRecord}
+use Rattle.relations.specs.steps.Tests.{anyRecord}
 use borrow.Author.Needs.{needs}
 use Rattle.relations.proofs.records.top.Statement.{statement}
 use Rattle.relations.proofs.records.top.Tie as tie

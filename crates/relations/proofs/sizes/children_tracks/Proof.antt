@@ -7,7 +7,7 @@ use Rattle.profile.specs.Counting.{sum}
 use Rattle.sheet.specs.Layout.{number, entry}
 use Rattle.sheet.specs.Fields.{objects, trackList, childList}
 use Rattle.sheet.specs.Words.{sheetOf}
-use Rattle.relations.specs.Sizes.{childrenTracks}
+use Rattle.relations.specs.steps.Sizes.{childrenTracks}
 use Rattle.relations.proofs.sizes.children_tracks.Statement.{statement}
 use Rattle.relations.proofs.sizes.children_tracks.Tie as tie
 use borrow.Author.Needs.{needs}

@@ -6,7 +6,7 @@ use native.Mathlib.Numerals.{add-one}
 use Rattle.profile.specs.Counting.{largest}
 use Rattle.profile.specs.Relations.{size, member, members}
 use Rattle.sheet.specs.Words.{sheetOf}
-use Rattle.relations.specs.Sizes.{largestMember}
+use Rattle.relations.specs.steps.Sizes.{largestMember}
 use Rattle.relations.proofs.sizes.largest_member.Statement.{statement}
 use Rattle.relations.proofs.sizes.largest_member.Tie as tie
 use borrow.Author.Needs.{needs}

@@ -1,7 +1,7 @@
 -- The children's tracks, or the object's own. Assumes nothing.
 use mathlib.Core.Path.{sym, _∙_}
 use Rattle.profile.specs.Relations.{size}
-use Rattle.relations.specs.Sizes.{childrenTracks}
+use Rattle.relations.specs.steps.Sizes.{childrenTracks}
 use borrow.Author.Needs.{needs}
 use Rattle.relations.proofs.sizes.size.Statement.{statement}
 use Rattle.relations.proofs.sizes.size.Tie as tie

@@ -1,6 +1,6 @@
 -- A complement that passes the test. Assumes nothing.
 use Rattle.profile.specs.Rules.{rule20}
-use Rattle.rules.specs.Loops.{anyListed}
+use Rattle.rules.specs.steps.Loops.{anyListed}
 use borrow.Author.Needs.{needs}
 use Rattle.rules.proofs.groups.rule20.Statement.{statement}
 use Rattle.rules.proofs.groups.rule20.Tie as tie

@@ -1,6 +1,6 @@
 -- A group that is split. Assumes nothing.
 use Rattle.profile.specs.Rules.{rule21}
-use Rattle.rules.specs.Loops.{anyGroup}
+use Rattle.rules.specs.steps.Loops.{anyGroup}
 use borrow.Author.Needs.{needs}
 use Rattle.rules.proofs.groups.rule21.Statement.{statement}
 use Rattle.rules.proofs.groups.rule21.Tie as tie

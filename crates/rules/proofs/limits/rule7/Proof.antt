@@ -1,6 +1,6 @@
 -- Each section by its limit. Assumes nothing.
 use Rattle.profile.specs.Rules.{rule7}
-use Rattle.relations.specs.Tests.{howManyRecords}
+use Rattle.relations.specs.steps.Tests.{howManyRecords}
 use Rattle.profile.proofs.BoolLaws.{or-false}
 use borrow.Author.Tests.{ne-eqb}
 use borrow.Author.Needs.{needs}

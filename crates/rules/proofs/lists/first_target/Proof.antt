@@ -1,6 +1,6 @@
 -- By the section. Assumes nothing.
 use borrow.Author.Tests.{eq-eqb, ne-eqb}
-use Rattle.rules.specs.Loops.{firstTarget}
+use Rattle.rules.specs.steps.Loops.{firstTarget}
 use Rattle.rules.proofs.lists.first_target.Statement.{statement}
 use Rattle.rules.proofs.lists.first_target.Tie as tie
 

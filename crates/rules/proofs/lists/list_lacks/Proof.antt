@@ -1,6 +1,6 @@
 -- An entry that the section lacks. Assumes nothing.
 use Rattle.profile.specs.Rules.{listLacks}
-use Rattle.relations.specs.Tests.{anyEntry}
+use Rattle.relations.specs.steps.Tests.{anyEntry}
 use borrow.Author.Needs.{needs}
 use Rattle.rules.proofs.lists.list_lacks.Statement.{statement}
 use Rattle.rules.proofs.lists.list_lacks.Tie as tie

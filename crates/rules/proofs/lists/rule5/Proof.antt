@@ -2,8 +2,8 @@
 use Rattle.profile.specs.Rules.{rule5}
 use Rattle.sheet.specs.Fields.{contents, objects, tracks, valueSets}
 use Rattle.relations.specs.declared.EntryTest.the-variants.{Lacks}
-use Rattle.runs.specs.Runs.{NextRight}
-use Rattle.rules.specs.Loops.{firstTarget, secondTarget}
+use Rattle.runs.specs.steps.Runs.{NextRight}
+use Rattle.rules.specs.steps.Loops.{firstTarget, secondTarget}
 use Rattle.sheet.specs.Words.{sheetOf}
 use Rattle.profile.proofs.BoolLaws.{or-false}
 use borrow.Author.Tests.{ne-eqb}

@@ -1,6 +1,6 @@
 -- By the section. Assumes nothing.
 use borrow.Author.Tests.{eq-eqb, ne-eqb}
-use Rattle.rules.specs.Loops.{secondTarget}
+use Rattle.rules.specs.steps.Loops.{secondTarget}
 use Rattle.rules.proofs.lists.second_target.Statement.{statement}
 use Rattle.rules.proofs.lists.second_target.Tie as tie
 

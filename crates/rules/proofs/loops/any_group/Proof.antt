@@ -5,8 +5,8 @@ use native.Mathlib.Omega.{arith}
 use native.Mathlib.Numerals.{add-one}
 use Rattle.profile.specs.Counting.{any}
 use Rattle.sheet.specs.Words.{sheetOf}
-use Rattle.tables.specs.Right.{Included}
-use Rattle.rules.specs.Loops.{groupTest, groupRight, anyGroup}
+use Rattle.tables.specs.steps.Right.{Included}
+use Rattle.rules.specs.steps.Loops.{groupTest, groupRight, anyGroup}
 use Rattle.rules.proofs.loops.any_group.Statement.{statement}
 use Rattle.rules.proofs.loops.any_group.Tie as tie
 use borrow.Author.Needs.{needs}

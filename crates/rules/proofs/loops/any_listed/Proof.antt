@@ -6,7 +6,7 @@ use native.Mathlib.Numerals.{add-one}
 use Rattle.profile.specs.Counting.{any}
 use Rattle.sheet.specs.Layout.{number, entry}
 use Rattle.sheet.specs.Words.{sheetOf}
-use Rattle.rules.specs.Loops.{listedTest, listedRight, anyListed}
+use Rattle.rules.specs.steps.Loops.{listedTest, listedRight, anyListed}
 use Rattle.rules.proofs.loops.any_listed.Statement.{statement}
 use Rattle.rules.proofs.loops.any_listed.Tie as tie
 use borrow.Author.Needs.{needs}

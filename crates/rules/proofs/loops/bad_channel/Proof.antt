@@ -9,8 +9,8 @@ use Rattle.profile.specs.Counting.{any, howMany}
 use Rattle.sheet.specs.Layout.{field, number}
 use Rattle.sheet.specs.Fields.{objects, tracks, trackList, trackOrdinal}
 use Rattle.sheet.specs.Words.{sheetOf}
-use Rattle.relations.specs.Tests.{howManyEntries}
-use Rattle.rules.specs.Loops.{badChannel}
+use Rattle.relations.specs.steps.Tests.{howManyEntries}
+use Rattle.rules.specs.steps.Loops.{badChannel}
 use Rattle.rules.proofs.loops.bad_channel.Statement.{statement}
 use Rattle.rules.proofs.loops.bad_channel.Tie as tie
 use borrow.Author.Needs.{needs}

@@ -1,6 +1,6 @@
 -- Top, complements and namings. Assumes nothing.
 use Rattle.profile.specs.Rules.{badComplement}
-use Rattle.rules.specs.Loops.{totalTimes}
+use Rattle.rules.specs.steps.Loops.{totalTimes}
 use borrow.Author.Needs.{needs}
 use Rattle.rules.proofs.loops.bad_complement.Statement.{statement}
 use Rattle.rules.proofs.loops.bad_complement.Tie as tie

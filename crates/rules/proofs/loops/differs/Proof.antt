@@ -1,6 +1,6 @@
 -- The seven words and the kind. Assumes nothing.
 use Rattle.profile.specs.Rules.{differs}
-use Rattle.rules.specs.Loops.{fieldsDiffer}
+use Rattle.rules.specs.steps.Loops.{fieldsDiffer}
 use borrow.Author.Needs.{needs}
 use Rattle.rules.proofs.loops.differs.Statement.{statement}
 use Rattle.rules.proofs.loops.differs.Tie as tie

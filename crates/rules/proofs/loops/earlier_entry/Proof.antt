@@ -6,7 +6,7 @@ use native.Mathlib.Numerals.{add-one}
 use Rattle.profile.specs.Counting.{any}
 use Rattle.sheet.specs.Layout.{entry}
 use Rattle.sheet.specs.Words.{sheetOf}
-use Rattle.rules.specs.Loops.{pairTest, pairRight, earlierEntry}
+use Rattle.rules.specs.steps.Loops.{pairTest, pairRight, earlierEntry}
 use Rattle.rules.proofs.loops.earlier_entry.Statement.{statement}
 use Rattle.rules.proofs.loops.earlier_entry.Tie as tie
 use borrow.Author.Needs.{needs}

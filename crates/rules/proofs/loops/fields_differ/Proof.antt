@@ -9,7 +9,7 @@ use lib.Dec.{eqb}
 use Rattle.profile.specs.Counting.{any}
 use Rattle.sheet.specs.Layout.{field}
 use Rattle.sheet.specs.Words.{sheetOf}
-use Rattle.rules.specs.Loops.{fieldsDiffer}
+use Rattle.rules.specs.steps.Loops.{fieldsDiffer}
 use Rattle.rules.proofs.loops.fields_differ.Statement.{statement}
 use Rattle.rules.proofs.loops.fields_differ.Tie as tie
 use borrow.Author.Needs.{needs}

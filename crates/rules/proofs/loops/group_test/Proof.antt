@@ -3,9 +3,9 @@ use mathlib.Core.Path.{_≡_, sym, _∙_}
 use borrow.Author.Tests.{eq-eqb, ne-eqb, not-true, not-false}
 use Rattle.profile.specs.Relations.{included, whollyIncluded}
 use Rattle.profile.specs.Rules.{setsNamed}
-use Rattle.relations.specs.Tests.{howManyMembers}
+use Rattle.relations.specs.steps.Tests.{howManyMembers}
 use Rattle.sheet.specs.Words.{sheetOf}
-use Rattle.tables.specs.Right.{NamedSets}
+use Rattle.tables.specs.steps.Right.{NamedSets}
 use Rattle.rules.proofs.GroupTestLaws.{no-leader}
 use borrow.Author.Needs.{needs}
 use Rattle.rules.proofs.loops.group_test.Statement.{statement}

@@ -1,6 +1,6 @@
 -- Each test by its definition. Assumes nothing.
 use Rattle.sheet.specs.Words.{sheetOf}
-use Rattle.tables.specs.Right.{Tops, Complemented, Owners, Included}
+use Rattle.tables.specs.steps.Right.{Tops, Complemented, Owners, Included}
 use borrow.Author.Needs.{needs}
 use Rattle.rules.proofs.loops.listed_test.Statement.{statement}
 use Rattle.rules.proofs.loops.listed_test.Tie as tie

@@ -1,6 +1,6 @@
 -- Each test by its definition. Assumes nothing.
 use Rattle.sheet.specs.Words.{sheetOf}
-use Rattle.tables.specs.Right.{Included, NamedSets}
+use Rattle.tables.specs.steps.Right.{Included, NamedSets}
 use borrow.Author.Needs.{needs}
 use Rattle.rules.proofs.loops.member_passes.Statement.{statement}
 use Rattle.rules.proofs.loops.member_passes.Tie as tie

@@ -5,9 +5,9 @@ use native.Mathlib.Omega.{arith}
 use native.Mathlib.Numerals.{add-one}
 use Rattle.profile.specs.Counting.{howMany}
 use Rattle.profile.specs.Relations.{member}
-use Rattle.relations.specs.Tests.{memberTest, howManyMembers}
+use Rattle.relations.specs.steps.Tests.{memberTest, howManyMembers}
 use Rattle.sheet.specs.Words.{sheetOf}
-use Rattle.rules.specs.Loops.{memberRight}
+use Rattle.rules.specs.steps.Loops.{memberRight}
 use Rattle.rules.proofs.loops.members_passing.Statement.{statement}
 use Rattle.rules.proofs.loops.members_passing.Tie as tie
 use borrow.Author.Needs.{needs}

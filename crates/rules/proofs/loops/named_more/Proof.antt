@@ -3,7 +3,7 @@ use Prim.Native.Nat.{ℕ}
 use mathlib.Core.Path.{_≡_, sym, ap, _∙_}
 use lib.Dec.{ltb}
 use Rattle.tables.proofs.TableLaws.{counted-more, complement-times}
-use Rattle.rules.specs.Loops.{totalTimes}
+use Rattle.rules.specs.steps.Loops.{totalTimes}
 use borrow.Author.Needs.{needs}
 use Rattle.rules.proofs.loops.named_more.Statement.{statement}
 use Rattle.rules.proofs.loops.named_more.Tie as tie

@@ -9,7 +9,7 @@ use Rattle.profile.specs.Counting.{any}
 use Rattle.sheet.specs.Layout.{field, first, number}
 use Rattle.sheet.specs.Fields.{objects, valueSets, setSpan, setOwn}
 use Rattle.sheet.specs.Words.{sheetOf}
-use Rattle.rules.specs.Loops.{ownSet}
+use Rattle.rules.specs.steps.Loops.{ownSet}
 use Rattle.rules.proofs.loops.own_set.Statement.{statement}
 use Rattle.rules.proofs.loops.own_set.Tie as tie
 use borrow.Author.Needs.{needs}

@@ -3,7 +3,7 @@ use mathlib.Core.Path.{_≡_, sym, ap, _∙_}
 use borrow.Author.Tests.{eq-eqb, ne-eqb}
 use Rattle.profile.specs.Relations.{leaderOf, owner}
 use Rattle.sheet.specs.Words.{sheetOf}
-use Rattle.tables.specs.Right.{Owners, Leaders}
+use Rattle.tables.specs.steps.Right.{Owners, Leaders}
 use borrow.Author.Needs.{needs}
 use Rattle.rules.proofs.loops.pair_test.Statement.{statement}
 use Rattle.rules.proofs.loops.pair_test.Tie as tie

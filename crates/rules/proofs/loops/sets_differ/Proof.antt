@@ -1,6 +1,6 @@
 -- The seven words. Assumes nothing.
 use Rattle.profile.specs.Rules.{setsDiffer}
-use Rattle.rules.specs.Loops.{fieldsDiffer}
+use Rattle.rules.specs.steps.Loops.{fieldsDiffer}
 use borrow.Author.Needs.{needs}
 use Rattle.rules.proofs.loops.sets_differ.Statement.{statement}
 use Rattle.rules.proofs.loops.sets_differ.Tie as tie

@@ -8,7 +8,7 @@ use Rattle.sheet.specs.Layout.{count}
 use Rattle.sheet.specs.Fields.{objects}
 use Rattle.profile.specs.Relations.{times}
 use Rattle.sheet.specs.Words.{sheetOf}
-use Rattle.rules.specs.Loops.{totalTimes}
+use Rattle.rules.specs.steps.Loops.{totalTimes}
 use Rattle.rules.proofs.loops.total_times.Statement.{statement}
 use Rattle.rules.proofs.loops.total_times.Tie as tie
 use borrow.Author.Needs.{needs}

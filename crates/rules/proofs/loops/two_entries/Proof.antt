@@ -5,7 +5,7 @@ use native.Mathlib.Omega.{arith}
 use native.Mathlib.Numerals.{add-one}
 use Rattle.profile.specs.Counting.{any, twoOf}
 use Rattle.sheet.specs.Words.{sheetOf}
-use Rattle.rules.specs.Loops.{pairRight, earlierEntry, twoEntries}
+use Rattle.rules.specs.steps.Loops.{pairRight, earlierEntry, twoEntries}
 use Rattle.rules.proofs.loops.two_entries.Statement.{statement}
 use Rattle.rules.proofs.loops.two_entries.Tie as tie
 use borrow.Author.Needs.{needs}

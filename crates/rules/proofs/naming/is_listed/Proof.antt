@@ -4,7 +4,7 @@ use mathlib.Core.Path.{_≡_, sym, ap, _∙_}
 use mathlib.Core.Bool.{not}
 use lib.Dec.{eqb}
 use Rattle.tables.proofs.TableLaws.{listed-counted}
-use Rattle.relations.specs.Tests.{anyRecord}
+use Rattle.relations.specs.steps.Tests.{anyRecord}
 use borrow.Author.Needs.{needs}
 use Rattle.rules.proofs.naming.is_listed.Statement.{statement}
 use Rattle.rules.proofs.naming.is_listed.Tie as tie

@@ -1,6 +1,6 @@
 -- Contents and child lists. Assumes nothing.
-use Rattle.relations.specs.Tests.{howManyRecords}
-use Rattle.rules.specs.Loops.{totalTimes}
+use Rattle.relations.specs.steps.Tests.{howManyRecords}
+use Rattle.rules.specs.steps.Loops.{totalTimes}
 use borrow.Author.Needs.{needs}
 use Rattle.rules.proofs.naming.namings.Statement.{statement}
 use Rattle.rules.proofs.naming.namings.Tie as tie

@@ -3,7 +3,7 @@ use Prim.Native.Nat.{ℕ}
 use mathlib.Core.Path.{_≡_, sym, ap, _∙_}
 use lib.Dec.{eqb}
 use Rattle.tables.proofs.TableLaws.{counted-one}
-use Rattle.relations.specs.Tests.{howManyRecords}
+use Rattle.relations.specs.steps.Tests.{howManyRecords}
 use borrow.Author.Needs.{needs}
 use Rattle.rules.proofs.naming.spanned_once.Statement.{statement}
 use Rattle.rules.proofs.naming.spanned_once.Tie as tie

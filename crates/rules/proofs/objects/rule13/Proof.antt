@@ -1,6 +1,6 @@
 -- Pack, children, and the packs of children. Assumes nothing.
 use Rattle.profile.specs.Rules.{rule13}
-use Rattle.relations.specs.Tests.{anyEntry}
+use Rattle.relations.specs.steps.Tests.{anyEntry}
 use borrow.Author.Needs.{needs}
 use Rattle.rules.proofs.objects.rule13.Statement.{statement}
 use Rattle.rules.proofs.objects.rule13.Tie as tie

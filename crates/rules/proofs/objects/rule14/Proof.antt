@@ -11,10 +11,10 @@ use Rattle.sheet.specs.Fields.{objects, packs, trackList, packChannels}
 use Rattle.profile.specs.Counting.{any, howMany}
 use Rattle.profile.specs.Rules.{rule14}
 use Rattle.profile.specs.Relations.{hasChildren, packOf, channels, trackAt}
-use Rattle.relations.specs.Tests.{anyEntry}
-use Rattle.runs.specs.Runs.{packAt, ordinalAt, oddTracks}
+use Rattle.relations.specs.steps.Tests.{anyEntry}
+use Rattle.runs.specs.steps.Runs.{packAt, ordinalAt, oddTracks}
 use Rattle.runs.proofs.RunLaws.{all-three}
-use Rattle.rules.specs.Loops.{badChannel}
+use Rattle.rules.specs.steps.Loops.{badChannel}
 use borrow.Author.Needs.{needs}
 use Rattle.rules.proofs.objects.rule14.Statement.{statement}
 use Rattle.rules.proofs.objects.rule14.Tie as tie

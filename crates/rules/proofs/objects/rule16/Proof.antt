@@ -1,6 +1,6 @@
 -- Ranges and sets of an object. Assumes nothing.
 use Rattle.profile.specs.Rules.{rule16}
-use Rattle.rules.specs.Loops.{ownSet}
+use Rattle.rules.specs.steps.Loops.{ownSet}
 use borrow.Author.Needs.{needs}
 use Rattle.rules.proofs.objects.rule16.Statement.{statement}
 use Rattle.rules.proofs.objects.rule16.Tie as tie

@@ -5,11 +5,11 @@ use mathlib.Core.Bool.{Bool, not, _||_}
 use lib.Dec.{eqb, leb}
 use Rattle.profile.specs.Counting.{any, howMany, twoOf}
 use Rattle.profile.specs.Relations.{trackAt}
-use Rattle.relations.specs.Tests.{anyEntry}
+use Rattle.relations.specs.steps.Tests.{anyEntry}
 use Rattle.sheet.specs.Fields.{objects, tracks, trackList, trackOrdinal}
 use Rattle.sheet.specs.Layout.{field, number}
 use Rattle.sheet.specs.Words.{sheetOf}
-use Rattle.rules.specs.Loops.{badChannel, keysAlike}
+use Rattle.rules.specs.steps.Loops.{badChannel, keysAlike}
 use Rattle.runs.proofs.OrdinalLaws.{once-each}
 use borrow.Author.Needs.{needs}
 use Rattle.rules.proofs.repeats.bad_ordinals.Statement.{statement}

@@ -12,8 +12,8 @@ use Rattle.profile.proofs.SumLaws.{any-one, any-nowhere}
 use Rattle.sheet.specs.Layout.{number}
 use Rattle.sheet.specs.Fields.{programmes, setList}
 use Rattle.sheet.specs.Words.{sheetOf}
-use Rattle.tables.specs.Right.{Owners, Leaders}
-use Rattle.rules.specs.Loops.{twoEntries}
+use Rattle.tables.specs.steps.Right.{Owners, Leaders}
+use Rattle.rules.specs.steps.Loops.{twoEntries}
 use Rattle.rules.proofs.DifferLaws.{differ, Firsts, Agree, firsts-none, firsts-more, agree-next, found-next}
 use Rattle.rules.proofs.repeats.differ_from_first.Statement.{statement}
 use Rattle.rules.proofs.repeats.differ_from_first.Tie as tie

@@ -3,7 +3,7 @@ use mathlib.Core.Path.{_≡_, refl, _∙_}
 use native.Mathlib.Omega.{arith}
 use borrow.Author.Tests.{eq-eqb, ne-eqb}
 use lib.ListN.{length, length-set}
-use Rattle.tables.specs.Right.{told}
+use Rattle.tables.specs.steps.Right.{told}
 use Rattle.rules.proofs.DifferLaws.{first-written, first-kept}
 use borrow.Author.Needs.{needs}
 use Rattle.rules.proofs.repeats.first_of.Statement.{statement}

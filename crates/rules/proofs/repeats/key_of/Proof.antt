@@ -1,6 +1,6 @@
 -- By the key. Assumes nothing.
 use Rattle.sheet.specs.Words.{sheetOf}
-use Rattle.tables.specs.Right.{Owners}
+use Rattle.tables.specs.steps.Right.{Owners}
 use borrow.Author.Needs.{needs}
 use Rattle.rules.proofs.repeats.key_of.Statement.{statement}
 use Rattle.rules.proofs.repeats.key_of.Tie as tie

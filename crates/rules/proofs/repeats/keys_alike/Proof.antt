@@ -10,7 +10,7 @@ use Rattle.profile.specs.Counting.{any, twoOf}
 use Rattle.profile.proofs.SumLaws.{any-one, any-nowhere}
 use Rattle.sheet.specs.Layout.{number, entry}
 use Rattle.sheet.specs.Words.{sheetOf}
-use Rattle.rules.specs.Loops.{keyOf, keyRight, keysAlike}
+use Rattle.rules.specs.steps.Loops.{keyOf, keyRight, keysAlike}
 use Rattle.rules.proofs.SeenLaws.{Seen, seen-none, seen-more, seen-next}
 use Rattle.rules.proofs.repeats.keys_alike.Statement.{statement}
 use Rattle.rules.proofs.repeats.keys_alike.Tie as tie

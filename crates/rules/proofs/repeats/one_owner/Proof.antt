@@ -1,5 +1,5 @@
 -- By pairs or by a table. Assumes nothing.
-use Rattle.rules.specs.Loops.{twoEntries, keysAlike}
+use Rattle.rules.specs.steps.Loops.{twoEntries, keysAlike}
 use borrow.Author.Needs.{needs}
 use Rattle.rules.proofs.repeats.one_owner.Statement.{statement}
 use Rattle.rules.proofs.repeats.one_owner.Tie as tie

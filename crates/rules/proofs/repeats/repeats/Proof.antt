@@ -1,6 +1,6 @@
 -- By pairs or by a table. Assumes nothing.
 use Rattle.profile.specs.Rules.{repeats}
-use Rattle.rules.specs.Loops.{twoEntries, keysAlike}
+use Rattle.rules.specs.steps.Loops.{twoEntries, keysAlike}
 use borrow.Author.Needs.{needs}
 use Rattle.rules.proofs.repeats.repeats.Statement.{statement}
 use Rattle.rules.proofs.repeats.repeats.Tie as tie

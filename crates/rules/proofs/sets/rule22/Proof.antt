@@ -3,7 +3,7 @@ use mathlib.Core.Path.{sym, _∙_}
 use Rattle.profile.specs.Rules.{rule22, ownerAt}
 use Rattle.profile.specs.Relations.{namedSet}
 use Rattle.tables.proofs.MarkLaws.{nought}
-use Rattle.rules.specs.Loops.{anyListed, twoEntries, anyGroup, keysAlike}
+use Rattle.rules.specs.steps.Loops.{anyListed, twoEntries, anyGroup, keysAlike}
 use borrow.Author.Needs.{needs}
 use Rattle.rules.proofs.sets.rule22.Statement.{statement}
 use Rattle.rules.proofs.sets.rule22.Tie as tie

@@ -1,6 +1,6 @@
 -- An entry that is no language. Assumes nothing.
 use Rattle.profile.specs.Rules.{badLabel}
-use Rattle.relations.specs.Tests.{anyEntry}
+use Rattle.relations.specs.steps.Tests.{anyEntry}
 use borrow.Author.Needs.{needs}
 use Rattle.rules.proofs.words.bad_label.Statement.{statement}
 use Rattle.rules.proofs.words.bad_label.Tie as tie

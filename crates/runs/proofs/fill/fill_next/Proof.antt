@@ -7,7 +7,7 @@ use lib.ListN.{length}
 use Rattle.sheet.specs.Words.{sheetOf}
 use Rattle.sheet.specs.Layout.{count}
 use Rattle.sheet.specs.Fields.{references}
-use Rattle.runs.specs.Runs.{Next, referenceTest}
+use Rattle.runs.specs.steps.Runs.{Next, referenceTest}
 use Rattle.runs.proofs.RunLaws.{next-start, next-more, Filled, filled-start, filled-more}
 use borrow.Author.Needs.{needs}
 use Rattle.runs.proofs.fill.fill_next.Statement.{statement}

@@ -8,7 +8,7 @@ use lib.ListN.{length, getD, length-replicate, getD-replicate}
 use Rattle.sheet.specs.Words.{sheetOf}
 use Rattle.sheet.specs.Layout.{count}
 use Rattle.sheet.specs.Fields.{references}
-use Rattle.runs.specs.Runs.{Next, Repeat, referenceKey}
+use Rattle.runs.specs.steps.Runs.{Next, Repeat, referenceKey}
 use Rattle.runs.proofs.RunLaws.{next-start, next-more, repeat-start, repeat-more, Filled, filled-start, filled-more}
 use borrow.Author.Needs.{needs}
 use Rattle.runs.proofs.fill.fill_repeats.Statement.{statement}

@@ -5,7 +5,7 @@ use borrow.Author.Tests.{ltb-true, leb-true}
 use Rattle.sheet.specs.Words.{sheetOf}
 use Rattle.sheet.specs.Layout.{reference, entry}
 use Rattle.profile.specs.Counting.{any}
-use Rattle.relations.specs.Tests.{entryTest, anyEntry}
+use Rattle.relations.specs.steps.Tests.{entryTest, anyEntry}
 use Rattle.runs.proofs.RunLaws.{all-three}
 use borrow.Author.Needs.{needs}
 use Rattle.runs.proofs.reads.any_entry_by.Statement.{statement}

@@ -5,7 +5,7 @@ use native.Mathlib.Omega.{arith}
 use Rattle.sheet.specs.Words.{sheetOf}
 use Rattle.sheet.specs.Layout.{field}
 use Rattle.sheet.specs.Fields.{packs, packChannels}
-use Rattle.runs.specs.Runs.{packAt, ordinalAt, oddTracks}
+use Rattle.runs.specs.steps.Runs.{packAt, ordinalAt, oddTracks}
 use Rattle.runs.proofs.TrackLaws.{tracks-run}
 use Rattle.profile.specs.Counting.{any}
 use borrow.Author.Needs.{needs}

@@ -10,9 +10,9 @@ use Rattle.profile.specs.Counting.{any}
 use lib.Dec.{eqb, leb, ltb}
 use Rattle.sheet.specs.Layout.{offset}
 use Rattle.sheet.specs.Fields.{references}
-use Rattle.tables.specs.Right.{Complemented, Tops}
-use Rattle.screen.specs.Entries.{listed}
-use Rattle.screen.specs.Objects.{complementBroken}
+use Rattle.tables.specs.steps.Right.{Complemented, Tops}
+use Rattle.screen.specs.steps.Entries.{listed}
+use Rattle.screen.specs.steps.Objects.{complementBroken}
 use Rattle.screen.proofs.complements.any_complement_breaks.Statement.{statement}
 use Rattle.screen.proofs.complements.any_complement_breaks.Tie as tie
 

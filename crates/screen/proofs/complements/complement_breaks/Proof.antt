@@ -1,6 +1,6 @@
 -- Each part is its callee's. Assumes nothing.
 use Rattle.sheet.specs.Words.{sheetOf}
-use Rattle.screen.specs.Objects.{complementBroken}
+use Rattle.screen.specs.steps.Objects.{complementBroken}
 use Rattle.profile.specs.Rules.{differs}
 use borrow.Author.Needs.{needs}
 use Rattle.screen.proofs.complements.complement_breaks.Statement.{statement}

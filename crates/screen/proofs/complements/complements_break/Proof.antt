@@ -4,7 +4,7 @@ use mathlib.Core.Path.{_≡_, refl, sym, ap, _∙_}
 use mathlib.Core.Bool.{false}
 use Rattle.sheet.specs.Words.{sheetOf}
 use Rattle.sheet.specs.Layout.{entry, reference, number, field}
-use Rattle.screen.specs.Entries.{listed}
+use Rattle.screen.specs.steps.Entries.{listed}
 use Rattle.screen.proofs.ObjectLaws.{no-complements, complements-kept}
 use borrow.Author.Needs.{needs}
 use Rattle.screen.proofs.complements.complements_break.Statement.{statement}

@@ -6,7 +6,7 @@ use native.Mathlib.Numerals.{add-one}
 use Rattle.profile.specs.Counting.{any, twoOf}
 use Rattle.sheet.specs.Words.{sheetOf}
 use borrow.Author.Needs.{needs}
-use Rattle.screen.specs.Entries.{noLanguageAt, listed}
+use Rattle.screen.specs.steps.Entries.{noLanguageAt, listed}
 use Rattle.screen.proofs.lists.any_no_language.Statement.{statement}
 use Rattle.screen.proofs.lists.any_no_language.Tie as tie
 

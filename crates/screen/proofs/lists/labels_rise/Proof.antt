@@ -11,7 +11,7 @@ use borrow.Author.Tests.{leb-false}
 use Rattle.values.specs.Language.{language}
 use Rattle.profile.specs.Counting.{any, twoOf}
 use Rattle.profile.proofs.BoolLaws.{or-none}
-use Rattle.screen.specs.Entries.{listed, noLanguageAt, sameAt}
+use Rattle.screen.specs.steps.Entries.{listed, noLanguageAt, sameAt}
 use Rattle.screen.proofs.RisingLaws.{Below, below-none, below-more, not-earlier}
 use Rattle.screen.proofs.lists.labels_rise.Statement.{statement}
 use Rattle.screen.proofs.lists.labels_rise.Tie as tie

@@ -1,5 +1,5 @@
 -- The word there. Assumes nothing.
-use Rattle.screen.specs.Entries.{listed}
+use Rattle.screen.specs.steps.Entries.{listed}
 use borrow.Author.Needs.{needs}
 use Rattle.screen.proofs.lists.listed.Statement.{statement}
 use Rattle.screen.proofs.lists.listed.Tie as tie

@@ -1,6 +1,6 @@
 -- Each test is its callee's. Assumes nothing.
 use Rattle.sheet.specs.Layout.{field, number, start}
-use Rattle.screen.specs.Objects.{childrenBroken}
+use Rattle.screen.specs.steps.Objects.{childrenBroken}
 use borrow.Author.Needs.{needs}
 use Rattle.screen.proofs.objects.children_break.Statement.{statement}
 use Rattle.screen.proofs.objects.children_break.Tie as tie

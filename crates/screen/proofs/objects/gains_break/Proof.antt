@@ -1,5 +1,5 @@
 -- Each test is its callee's. Assumes nothing.
-use Rattle.screen.specs.Objects.{gainsBroken}
+use Rattle.screen.specs.steps.Objects.{gainsBroken}
 use borrow.Author.Needs.{needs}
 use Rattle.screen.proofs.objects.gains_break.Statement.{statement}
 use Rattle.screen.proofs.objects.gains_break.Tie as tie

@@ -1,5 +1,5 @@
 -- Each test is its callee's. Assumes nothing.
-use Rattle.screen.specs.Objects.{isFront}
+use Rattle.screen.specs.steps.Objects.{isFront}
 use borrow.Author.Needs.{needs}
 use Rattle.screen.proofs.objects.is_front.Statement.{statement}
 use Rattle.screen.proofs.objects.is_front.Tie as tie

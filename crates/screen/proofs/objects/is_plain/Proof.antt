@@ -1,7 +1,7 @@
 -- Each word is read once. Assumes nothing.
 use Rattle.sheet.specs.Words.{sheetOf}
 use Rattle.sheet.specs.Layout.{field, number}
-use Rattle.screen.specs.Objects.{isPlain}
+use Rattle.screen.specs.steps.Objects.{isPlain}
 use borrow.Author.Needs.{needs}
 use Rattle.screen.proofs.objects.is_plain.Statement.{statement}
 use Rattle.screen.proofs.objects.is_plain.Tie as tie

@@ -1,6 +1,6 @@
 -- Each word is there. Assumes nothing.
 use Rattle.profile.specs.Relations.{hasFrontPack, hasObjectsPack, hasPack}
-use Rattle.screen.specs.Objects.{objectValues, isFront}
+use Rattle.screen.specs.steps.Objects.{objectValues, isFront}
 use borrow.Author.Needs.{needs}
 use Rattle.screen.proofs.objects.object_values.Statement.{statement}
 use Rattle.screen.proofs.objects.object_values.Tie as tie

@@ -2,8 +2,8 @@
 use mathlib.Core.Path.{_≡_, refl, sym, ap, _∙_}
 use mathlib.Core.Bool.{true, not, _&&_}
 use Rattle.values.specs.Values.{isAbsent}
-use Rattle.screen.specs.Values.{hasRange}
-use Rattle.screen.specs.Objects.{offsetsBroken}
+use Rattle.screen.specs.steps.Values.{hasRange}
+use Rattle.screen.specs.steps.Objects.{offsetsBroken}
 use Rattle.screen.proofs.ObjectLaws.{no-offset}
 use borrow.Author.Needs.{needs}
 use Rattle.screen.proofs.objects.offsets_break.Statement.{statement}

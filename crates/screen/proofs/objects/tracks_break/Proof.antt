@@ -1,6 +1,6 @@
 -- Each test is its callee's. Assumes nothing.
 use Rattle.sheet.specs.Layout.{field, number, start}
-use Rattle.screen.specs.Objects.{tracksBroken}
+use Rattle.screen.specs.steps.Objects.{tracksBroken}
 use borrow.Author.Needs.{needs}
 use Rattle.screen.proofs.objects.tracks_break.Statement.{statement}
 use Rattle.screen.proofs.objects.tracks_break.Tie as tie

@@ -1,5 +1,5 @@
 -- Each test is its callee's. Assumes nothing.
-use Rattle.screen.specs.Objects.{valuesBroken}
+use Rattle.screen.specs.steps.Objects.{valuesBroken}
 use borrow.Author.Needs.{needs}
 use Rattle.screen.proofs.objects.values_break.Statement.{statement}
 use Rattle.screen.proofs.objects.values_break.Tie as tie

@@ -5,7 +5,7 @@ use mathlib.Core.Bool.{true, false, not, true≢false, _||_}
 use Rattle.sheet.specs.Words.{sheetOf}
 use Rattle.profile.proofs.BoolLaws.{or-none-4}
 use Rattle.sheet.specs.Layout.{field, number}
-use Rattle.screen.specs.Objects.{setsBroken}
+use Rattle.screen.specs.steps.Objects.{setsBroken}
 use borrow.Author.Needs.{needs}
 use Rattle.screen.proofs.objects.values_or_complements_break.Statement.{statement}
 use Rattle.screen.proofs.objects.values_or_complements_break.Tie as tie

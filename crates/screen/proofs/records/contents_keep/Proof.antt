@@ -11,8 +11,8 @@ use lib.Dec.{eqb, leb, ltb}
 use Rattle.profile.specs.Rules.{rule5, rule6, rule10, rule12}
 use Rattle.sheet.specs.Fields.{contents, objects, packs, programmes, tracks}
 use Rattle.profile.proofs.BoolLaws.{or-none, or-false}
-use Rattle.screen.specs.Screened.{contentBroken, programmeBroken}
-use Rattle.tables.specs.Right.{Listed}
+use Rattle.screen.specs.steps.Screened.{contentBroken, programmeBroken}
+use Rattle.tables.specs.steps.Right.{Listed}
 use Rattle.screen.proofs.NoughtLaws.{listed-some}
 use Rattle.screen.proofs.records.contents_keep.Statement.{statement}
 use Rattle.screen.proofs.records.contents_keep.Tie as tie

@@ -1,5 +1,5 @@
 -- Each test is its callee's. Assumes nothing.
-use Rattle.screen.specs.Screened.{headerBroken}
+use Rattle.screen.specs.steps.Screened.{headerBroken}
 use borrow.Author.Needs.{needs}
 use Rattle.screen.proofs.records.header_breaks.Statement.{statement}
 use Rattle.screen.proofs.records.header_breaks.Tie as tie

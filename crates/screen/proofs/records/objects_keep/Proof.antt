@@ -7,8 +7,8 @@ use borrow.Author.Needs.{needs}
 use native.Mathlib.Omega.{arith}
 use native.Mathlib.Numerals.{add-one}
 use Rattle.profile.specs.Counting.{any}
-use Rattle.tables.specs.Right.{Complemented, Named, Tops}
-use Rattle.screen.specs.Objects.{objectBroken}
+use Rattle.tables.specs.steps.Right.{Complemented, Named, Tops}
+use Rattle.screen.specs.steps.Objects.{objectBroken}
 use Rattle.screen.proofs.records.objects_keep.Statement.{statement}
 use Rattle.screen.proofs.records.objects_keep.Tie as tie
 

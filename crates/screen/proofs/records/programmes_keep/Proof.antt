@@ -8,7 +8,7 @@ use Rattle.sheet.specs.Words.{sheetOf}
 use borrow.Author.Needs.{needs}
 use Rattle.profile.specs.Counting.{any}
 use lib.Dec.{eqb, leb, ltb}
-use Rattle.screen.specs.Screened.{contentBroken, programmeBroken}
+use Rattle.screen.specs.steps.Screened.{contentBroken, programmeBroken}
 use Rattle.screen.proofs.records.programmes_keep.Statement.{statement}
 use Rattle.screen.proofs.records.programmes_keep.Tie as tie
 

@@ -3,7 +3,7 @@ use mathlib.Core.Path.{_≡_, refl, sym, ap, _∙_}
 use mathlib.Core.Bool.{true, false, not, true≢false, _||_}
 use Rattle.sheet.specs.Words.{sheetOf}
 use borrow.Author.Tests.{not-false}
-use Rattle.screen.specs.Screened.{RecordsKept}
+use Rattle.screen.specs.steps.Screened.{RecordsKept}
 use borrow.Author.Needs.{needs}
 use Rattle.screen.proofs.records.records_pass.Statement.{statement}
 use Rattle.screen.proofs.records.records_pass.Tie as tie

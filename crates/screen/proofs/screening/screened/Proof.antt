@@ -4,10 +4,10 @@ use mathlib.Core.Bool.{true, false, not, true≢false, _||_}
 use Rattle.sheet.specs.Words.{sheetOf}
 use borrow.Author.Tests.{not-false}
 use Rattle.tables.specs.declared.Naming.the-variants.{ContentObjects, Complements, ContentLists, SetSpans}
-use Rattle.tables.specs.Right.{Tops, Complemented, Listed, Named, Spanned}
+use Rattle.tables.specs.steps.Right.{Tops, Complemented, Listed, Named, Spanned}
 use Rattle.screen.proofs.NoughtLaws.{counts-made, named-made, spans-made, spanned-once}
 use Rattle.screen.proofs.ScreenedLaws.{passed}
-use Rattle.screen.specs.Screened.{RecordsTabled}
+use Rattle.screen.specs.steps.Screened.{RecordsTabled}
 use borrow.Author.Needs.{needs}
 use Rattle.screen.proofs.screening.screened.Statement.{statement}
 use Rattle.screen.proofs.screening.screened.Tie as tie

@@ -9,7 +9,7 @@ use borrow.Author.Needs.{needs}
 use Rattle.profile.specs.Counting.{any}
 use lib.Dec.{eqb, leb, ltb}
 use Rattle.profile.proofs.BoolLaws.{or-none}
-use Rattle.screen.specs.Values.{setBroken}
+use Rattle.screen.specs.steps.Values.{setBroken}
 use Rattle.sheet.specs.Layout.{start}
 use Rattle.sheet.specs.Fields.{valueSets}
 use Rattle.screen.proofs.sets.any_set_breaks.Statement.{statement}

@@ -1,5 +1,5 @@
 -- Each test is its callee's. Assumes nothing.
-use Rattle.screen.specs.Values.{gainBroken}
+use Rattle.screen.specs.steps.Values.{gainBroken}
 use borrow.Author.Needs.{needs}
 use Rattle.screen.proofs.sets.gain_breaks.Statement.{statement}
 use Rattle.screen.proofs.sets.gain_breaks.Tie as tie

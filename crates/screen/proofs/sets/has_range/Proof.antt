@@ -1,5 +1,5 @@
 -- A word that is not absent. Assumes nothing.
-use Rattle.screen.specs.Values.{hasRange}
+use Rattle.screen.specs.steps.Values.{hasRange}
 use borrow.Author.Needs.{needs}
 use Rattle.screen.proofs.sets.has_range.Statement.{statement}
 use Rattle.screen.proofs.sets.has_range.Tie as tie

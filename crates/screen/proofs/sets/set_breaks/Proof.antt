@@ -5,7 +5,7 @@ use mathlib.Core.Bool.{true, not, true≢false, _&&_}
 use lib.Dec.{eqb}
 use Rattle.sheet.specs.Words.{sheetOf}
 use Rattle.values.specs.Values.{isAbsent}
-use Rattle.screen.specs.Values.{setBroken, setGains, setOffsets, hasRange}
+use Rattle.screen.specs.steps.Values.{setBroken, setGains, setOffsets, hasRange}
 use Rattle.screen.proofs.SetLaws.{only-gain}
 use borrow.Author.Needs.{needs}
 use Rattle.screen.proofs.sets.set_breaks.Statement.{statement}

@@ -1,5 +1,5 @@
 -- The effective range, and the object's. Assumes nothing.
-use Rattle.screen.specs.Values.{valueLeaves}
+use Rattle.screen.specs.steps.Values.{valueLeaves}
 use borrow.Author.Needs.{needs}
 use Rattle.screen.proofs.sets.value_leaves.Statement.{statement}
 use Rattle.screen.proofs.sets.value_leaves.Tie as tie

@@ -1,5 +1,5 @@
 -- Each word is there. Assumes nothing.
-use Rattle.screen.specs.Values.{valuesAt}
+use Rattle.screen.specs.steps.Values.{valuesAt}
 use borrow.Author.Needs.{needs}
 use Rattle.screen.proofs.sets.values_at.Statement.{statement}
 use Rattle.screen.proofs.sets.values_at.Tie as tie

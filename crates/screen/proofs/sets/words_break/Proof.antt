@@ -1,5 +1,5 @@
 -- The words of a value and its range. Assumes nothing.
-use Rattle.screen.specs.Values.{wordsBroken}
+use Rattle.screen.specs.steps.Values.{wordsBroken}
 use borrow.Author.Needs.{needs}
 use Rattle.screen.proofs.sets.words_break.Statement.{statement}
 use Rattle.screen.proofs.sets.words_break.Tie as tie

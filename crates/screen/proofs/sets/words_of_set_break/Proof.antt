@@ -1,5 +1,5 @@
 -- Each test is its callee's. Assumes nothing.
-use Rattle.screen.specs.Values.{setWordsBroken}
+use Rattle.screen.specs.steps.Values.{setWordsBroken}
 use borrow.Author.Needs.{needs}
 use Rattle.screen.proofs.sets.words_of_set_break.Statement.{statement}
 use Rattle.screen.proofs.sets.words_of_set_break.Tie as tie

@@ -5,7 +5,7 @@ use mathlib.Core.Bool.{true, false, not, true≢false, _||_}
 use Rattle.sheet.specs.Words.{sheetOf}
 use lib.Dec.{eqb, leb, ltb}
 use borrow.Author.Tests.{lt-leb}
-use Rattle.screen.specs.Screened.{speechBroken}
+use Rattle.screen.specs.steps.Screened.{speechBroken}
 use Rattle.screen.proofs.SpeechLaws.{content-kept}
 use borrow.Author.Needs.{needs}
 use Rattle.screen.proofs.speech.content_breaks.Statement.{statement}

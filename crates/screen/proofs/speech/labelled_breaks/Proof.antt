@@ -3,7 +3,7 @@ use mathlib.Core.Path.{_≡_, refl, sym, ap, _∙_}
 use mathlib.Core.Bool.{true, false, not, _||_}
 use Rattle.sheet.specs.Words.{sheetOf}
 use Rattle.profile.proofs.BoolLaws.{or-false}
-use Rattle.screen.specs.Screened.{speechBroken}
+use Rattle.screen.specs.steps.Screened.{speechBroken}
 use borrow.Author.Needs.{needs}
 use Rattle.screen.proofs.speech.labelled_breaks.Statement.{statement}
 use Rattle.screen.proofs.speech.labelled_breaks.Tie as tie

@@ -1,6 +1,6 @@
 -- Each test is its callee's. Assumes nothing.
 use Rattle.profile.specs.Rules.{outside}
-use Rattle.screen.specs.Screened.{programmeListsBroken}
+use Rattle.screen.specs.steps.Screened.{programmeListsBroken}
 use borrow.Author.Needs.{needs}
 use Rattle.screen.proofs.speech.programme_lists_break.Statement.{statement}
 use Rattle.screen.proofs.speech.programme_lists_break.Tie as tie

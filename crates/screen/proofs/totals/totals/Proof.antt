@@ -10,8 +10,8 @@ use Rattle.profile.specs.Counting.{any}
 use lib.Dec.{eqb, leb, ltb}
 use Rattle.profile.specs.Counting.{howMany, sum}
 use Rattle.profile.specs.Relations.{leader, lone, share, groups, countedTracks}
-use Rattle.relations.specs.Sizes.{loneObjects}
-use Rattle.tables.specs.Right.{Complemented, Tops}
+use Rattle.relations.specs.steps.Sizes.{loneObjects}
+use Rattle.tables.specs.steps.Right.{Complemented, Tops}
 use Rattle.screen.proofs.totals.totals.Statement.{statement}
 use Rattle.screen.proofs.totals.totals.Tie as tie
 

@@ -6,7 +6,7 @@ use Rattle.profile.proofs.BoolLaws.{or-none-3}
 use Rattle.profile.specs.Rules.{rule23, rule24}
 use Rattle.profile.specs.Relations.{units}
 use Rattle.profile.specs.Limits.{exceeds}
-use Rattle.relations.specs.Sizes.{loneObjects}
+use Rattle.relations.specs.steps.Sizes.{loneObjects}
 use Rattle.sheet.specs.Layout.{level}
 use borrow.Author.Needs.{needs}
 use Rattle.screen.proofs.totals.totals_break.Statement.{statement}

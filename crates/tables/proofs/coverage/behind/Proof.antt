@@ -1,5 +1,5 @@
 -- The first index and the number added up. Assumes nothing.
-use Rattle.tables.specs.Coverage.{begin, behind}
+use Rattle.tables.specs.steps.Coverage.{begin, behind}
 use borrow.Author.Needs.{needs}
 use Rattle.tables.proofs.coverage.behind.Statement.{statement}
 use Rattle.tables.proofs.coverage.behind.Tie as tie

@@ -5,7 +5,7 @@ use native.Mathlib.Omega.{arith}
 use lib.ListN.{getD, length-replicate}
 use Rattle.sheet.specs.Words.{sheetOf}
 use Rattle.tables.specs.declared.Mark.the-variants.{Count}
-use Rattle.tables.specs.Marks.{marked, repeat}
+use Rattle.tables.specs.steps.Marks.{marked, repeat}
 use Rattle.tables.proofs.MarkLaws.{nought}
 use Rattle.tables.proofs.CoverLaws.{named-cover}
 use borrow.Author.Needs.{needs}

@@ -8,9 +8,9 @@ use lib.ListN.{length, getD}
 use Rattle.sheet.specs.Words.{sheetOf}
 use Rattle.profile.specs.Counting.{howMany, sum}
 use Rattle.tables.specs.declared.Mark.the-variants.{Count}
-use Rattle.tables.specs.Namings.{namers}
-use Rattle.tables.specs.Marks.{Standing, marked, repeat}
-use Rattle.tables.specs.Coverage.{begin, behind, namedAt, cover}
+use Rattle.tables.specs.steps.Namings.{namers}
+use Rattle.tables.specs.steps.Marks.{Standing, marked, repeat}
+use Rattle.tables.specs.steps.Coverage.{begin, behind, namedAt, cover}
 use Rattle.tables.proofs.CoverLaws.{below-first, begun-more, ended-more, covered, indices-more}
 use borrow.Author.Needs.{needs}
 use Rattle.tables.proofs.coverage.count_indices.Statement.{statement}

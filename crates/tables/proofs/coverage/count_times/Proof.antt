@@ -3,7 +3,7 @@ use Prim.Native.Nat.{_-_}
 use mathlib.Core.Path.{refl}
 use lib.ListN.{length-set}
 use Rattle.tables.specs.declared.Mark.the-variants.{Count}
-use Rattle.tables.specs.Marks.{marked, repeat}
+use Rattle.tables.specs.steps.Marks.{marked, repeat}
 use Rattle.tables.proofs.MarkLaws.{mark-standing, past-standing}
 use borrow.Author.Needs.{needs}
 use Rattle.tables.proofs.coverage.count_times.Statement.{statement}

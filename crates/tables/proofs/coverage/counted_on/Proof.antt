@@ -3,7 +3,7 @@ use Prim.Native.Nat.{ℕ, suc, _-_}
 use mathlib.Core.Path.{_≡_, refl, sym, ap, _∙_}
 use native.Mathlib.Omega.{arith}
 use Rattle.tables.specs.declared.Mark.the-variants.{Count}
-use Rattle.tables.specs.Marks.{marked, repeat}
+use Rattle.tables.specs.steps.Marks.{marked, repeat}
 use Rattle.tables.proofs.CoverLaws.{count-twice}
 use borrow.Author.Needs.{needs}
 use Rattle.tables.proofs.coverage.counted_on.Statement.{statement}

@@ -2,8 +2,8 @@
 use Prim.Native.Nat.{ℕ, _-_, _<_, _≤_}
 use native.Mathlib.Omega.{arith}
 use Rattle.sheet.specs.Words.{sheetOf}
-use Rattle.tables.specs.Namings.{namers}
-use Rattle.tables.specs.Coverage.{behind}
+use Rattle.tables.specs.steps.Namings.{namers}
+use Rattle.tables.specs.steps.Coverage.{behind}
 use borrow.Author.Count.{below-none, below-more}
 use borrow.Author.Needs.{needs}
 use Rattle.tables.proofs.coverage.reach.Statement.{statement}

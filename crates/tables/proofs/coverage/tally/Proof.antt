@@ -6,9 +6,9 @@ use lib.Dec.{eqb}
 use lib.ListN.{length}
 use Rattle.sheet.specs.Words.{sheetOf}
 use Rattle.profile.specs.Counting.{howMany}
-use Rattle.tables.specs.Namings.{namers}
-use Rattle.tables.specs.Marks.{Standing}
-use Rattle.tables.specs.Coverage.{edge}
+use Rattle.tables.specs.steps.Namings.{namers}
+use Rattle.tables.specs.steps.Marks.{Standing}
+use Rattle.tables.specs.steps.Coverage.{edge}
 use Rattle.profile.proofs.CountingLaws.{howMany-le}
 use Rattle.tables.proofs.CoverLaws.{edges-more}
 use borrow.Author.Needs.{needs}

@@ -6,8 +6,8 @@ use lib.ListN.{length, getD}
 use Rattle.sheet.specs.Words.{sheetOf}
 use Rattle.profile.specs.Counting.{sum}
 use Rattle.tables.specs.declared.Mark.the-variants.{Count}
-use Rattle.tables.specs.Namings.{namers}
-use Rattle.tables.specs.Marks.{Standing, marked, repeat, timesBy, namedBy}
+use Rattle.tables.specs.steps.Namings.{namers}
+use Rattle.tables.specs.steps.Marks.{Standing, marked, repeat, timesBy, namedBy}
 use Rattle.tables.proofs.MarkLaws.{namers-more}
 use Rattle.tables.proofs.marks.count_namings.Statement.{statement}
 use Rattle.tables.proofs.marks.count_namings.Tie as tie

@@ -5,8 +5,8 @@ use native.Mathlib.Omega.{arith}
 use lib.ListN.{length, getD}
 use Rattle.sheet.specs.Words.{sheetOf}
 use Rattle.tables.specs.declared.Mark.the-variants.{Store}
-use Rattle.tables.specs.Namings.{namers}
-use Rattle.tables.specs.Marks.{Standing, marked, repeat, timesBy, namesBy, firstFrom, firstBy}
+use Rattle.tables.specs.steps.Namings.{namers}
+use Rattle.tables.specs.steps.Marks.{Standing, marked, repeat, timesBy, namesBy, firstFrom, firstBy}
 use Rattle.tables.proofs.MarkLaws.{first-more}
 use Rattle.tables.proofs.marks.first_namers.Statement.{statement}
 use Rattle.tables.proofs.marks.first_namers.Tie as tie

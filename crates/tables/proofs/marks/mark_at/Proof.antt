@@ -1,7 +1,7 @@
 -- The place is marked, or past the end. Assumes nothing.
 use mathlib.Core.Path.{refl}
 use lib.ListN.{length, length-set}
-use Rattle.tables.specs.Marks.{marked}
+use Rattle.tables.specs.steps.Marks.{marked}
 use Rattle.tables.proofs.MarkLaws.{mark-standing, past-standing}
 use borrow.Author.Needs.{needs}
 use Rattle.tables.proofs.marks.mark_at.Statement.{statement}

@@ -5,7 +5,7 @@ use lib.ListN.{length}
 use Rattle.sheet.specs.Words.{sheetOf}
 use Rattle.tables.specs.declared.Naming.the-variants.{Included}
 use Rattle.tables.specs.declared.Mark.the-variants.{Store}
-use Rattle.tables.specs.Marks.{marked, repeat, timesBy}
+use Rattle.tables.specs.steps.Marks.{marked, repeat, timesBy}
 use Rattle.tables.proofs.TableLaws.{included-marked}
 use borrow.Author.Needs.{needs}
 use Rattle.tables.proofs.marks.mark_included.Statement.{statement}

@@ -12,7 +12,7 @@ use Rattle.profile.specs.Counting.{sum, howMany}
 use borrow.Author.Needs.{needs}
 use Rattle.tables.specs.declared.Mark.the-variants.{Count}
 use Rattle.tables.specs.declared.Naming.the-variants.{Children, Complements, SetSpans}
-use Rattle.tables.specs.Marks.{Standing, marked, repeat, timesBy, namedBy, namesBy, firstFrom, firstBy}
+use Rattle.tables.specs.steps.Marks.{Standing, marked, repeat, timesBy, namedBy, namesBy, firstFrom, firstBy}
 use Rattle.tables.proofs.MarkLaws.{namers-more, first-next}
 use Rattle.tables.proofs.passes.count_lists.Statement.{statement}
 use Rattle.tables.proofs.passes.count_lists.Tie as tie

@@ -10,7 +10,7 @@ use Rattle.sheet.specs.Layout.{count, field}
 use Rattle.sheet.specs.Fields.{contents, objects, contentObject}
 use Rattle.profile.specs.Counting.{sum, howMany}
 use Rattle.tables.specs.declared.Mark.the-variants.{Count}
-use Rattle.tables.specs.Marks.{marked, repeat, timesBy}
+use Rattle.tables.specs.steps.Marks.{marked, repeat, timesBy}
 use Rattle.tables.proofs.MarkLaws.{repeat-more}
 use borrow.Author.Needs.{needs}
 use Rattle.tables.proofs.passes.count_object.Statement.{statement}

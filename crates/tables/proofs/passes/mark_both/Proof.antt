@@ -10,8 +10,8 @@ use Rattle.sheet.specs.Layout.{count}
 use Rattle.sheet.specs.Fields.{objects}
 use Rattle.profile.specs.Counting.{sum, howMany}
 use Rattle.tables.specs.declared.Mark.the-variants.{Count, First}
-use Rattle.tables.specs.Marks.{marked, repeat, timesBy}
-use Rattle.tables.specs.Namings.{items, item}
+use Rattle.tables.specs.steps.Marks.{marked, repeat, timesBy}
+use Rattle.tables.specs.steps.Namings.{items, item}
 use borrow.Author.Needs.{needs}
 use Rattle.tables.proofs.passes.mark_both.Statement.{statement}
 use Rattle.tables.proofs.passes.mark_both.Tie as tie

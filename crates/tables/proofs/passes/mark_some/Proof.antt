@@ -9,8 +9,8 @@ use Rattle.sheet.specs.Words.{sheetOf}
 use Rattle.sheet.specs.Layout.{count, field}
 use Rattle.sheet.specs.Fields.{contents, objects, contentObject}
 use Rattle.profile.specs.Counting.{sum, howMany}
-use Rattle.tables.specs.Marks.{marked, repeat, timesBy}
-use Rattle.tables.specs.Namings.{items, item}
+use Rattle.tables.specs.steps.Marks.{marked, repeat, timesBy}
+use Rattle.tables.specs.steps.Namings.{items, item}
 use borrow.Author.Needs.{needs}
 use Rattle.tables.proofs.passes.mark_some.Statement.{statement}
 use Rattle.tables.proofs.passes.mark_some.Tie as tie

@@ -1,6 +1,6 @@
 -- By the table's entry, or by search. Assumes nothing.
 use mathlib.Core.Path.{_≡_, ap, _∙_}
-use Rattle.tables.specs.Right.{told}
+use Rattle.tables.specs.steps.Right.{told}
 use Rattle.tables.proofs.TableLaws.{leader-told}
 use borrow.Author.Needs.{needs}
 use Rattle.tables.proofs.reads.leader_by.Statement.{statement}

@@ -2,7 +2,7 @@
 use Prim.Native.Nat.{ℕ}
 use mathlib.Core.Path.{_≡_, ap, _∙_}
 use lib.ListN.{getD}
-use Rattle.tables.specs.Right.{told}
+use Rattle.tables.specs.steps.Right.{told}
 use Rattle.tables.proofs.TableLaws.{owner-told}
 use borrow.Author.Needs.{needs}
 use Rattle.tables.proofs.reads.owner_by.Statement.{statement}

@@ -1,6 +1,6 @@
 -- By what stands there. Assumes nothing.
 use borrow.Author.Tests.{eq-eqb, ne-eqb}
-use Rattle.tables.specs.Right.{told}
+use Rattle.tables.specs.steps.Right.{told}
 use borrow.Author.Needs.{needs}
 use Rattle.tables.proofs.reads.told.Statement.{statement}
 use Rattle.tables.proofs.reads.told.Tie as tie

@@ -9,7 +9,7 @@ use Rattle.profile.specs.Relations.{share, countedTracks}
 use Rattle.sheet.specs.Words.{sheetOf}
 use Rattle.tables.proofs.totals.counted_tracks.Statement.{statement}
 use Rattle.tables.proofs.totals.counted_tracks.Tie as tie
-use Rattle.tables.specs.Right.{Tops, Complemented}
+use Rattle.tables.specs.steps.Right.{Tops, Complemented}
 use borrow.Author.Needs.{needs}
 
 abbrev Inv-loop : tie.InvT-loop

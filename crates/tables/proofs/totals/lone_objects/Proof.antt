@@ -7,10 +7,10 @@ use Rattle.profile.specs.Counting.{howMany}
 use Rattle.sheet.specs.Layout.{count}
 use Rattle.profile.specs.Relations.{lone}
 use Rattle.sheet.specs.Words.{sheetOf}
-use Rattle.relations.specs.Sizes.{loneObjects}
+use Rattle.relations.specs.steps.Sizes.{loneObjects}
 use Rattle.tables.proofs.totals.lone_objects.Statement.{statement}
 use Rattle.tables.proofs.totals.lone_objects.Tie as tie
-use Rattle.tables.specs.Right.{Tops, Complemented}
+use Rattle.tables.specs.steps.Right.{Tops, Complemented}
 use borrow.Author.Needs.{needs}
 
 abbrev Inv-loop : tie.InvT-loop

@@ -1,7 +1,7 @@
 -- The largest member of a leader's group, or a lone object's size. Assumes nothing.
 use mathlib.Core.Path.{sym, _∙_}
 use Rattle.profile.specs.Relations.{share}
-use Rattle.relations.specs.Sizes.{largestMember}
+use Rattle.relations.specs.steps.Sizes.{largestMember}
 use borrow.Author.Needs.{needs}
 use Rattle.tables.proofs.totals.share.Statement.{statement}
 use Rattle.tables.proofs.totals.share.Tie as tie

@@ -1,6 +1,6 @@
 -- Groups and lone objects. Assumes nothing.
 use Rattle.profile.specs.Relations.{units}
-use Rattle.relations.specs.Sizes.{loneObjects}
+use Rattle.relations.specs.steps.Sizes.{loneObjects}
 use borrow.Author.Needs.{needs}
 use Rattle.tables.proofs.totals.units.Statement.{statement}
 use Rattle.tables.proofs.totals.units.Tie as tie

@@ -6,7 +6,7 @@ use Rattle.sheet.specs.Words.{Sheet}
 use Rattle.sheet.specs.Layout.{number, entry}
 use Rattle.sheet.specs.Fields.{objects, trackList, childList}
 use Rattle.profile.specs.Counting.{sum, concatBelow, tabulate}
-use Rattle.relations.specs.Sizes.{childrenTracks}
+use Rattle.relations.specs.steps.Sizes.{childrenTracks}
 use Rattle.profile.specs.Relations.{trackAt}
 use Rattle.listener.specs.declared.State.{State}
 use Rattle.listener.specs.State.{stateObjects, active}

@@ -11,10 +11,10 @@ use Rattle.values.specs.Language.{language, loudness}
 use Rattle.profile.specs.Counting.{any, twoOf}
 use Rattle.profile.specs.Limits.{exceeds, labelsLimit, programmeContentsLimit, programmeSetsLimit}
 use Rattle.profile.specs.Rules.{outside, rule1, rule2, rule3, rule4, rule5, rule6, rule7, rule8, rule9, rule10, rule12}
-use Rattle.tables.specs.Marks.{Standing}
-use Rattle.tables.specs.Right.{Named, Listed, Tops, Complemented}
-use Rattle.screen.specs.Entries.{lackingAt, noLanguageAt, sameAt}
-use Rattle.screen.specs.Objects.{objectBroken}
+use Rattle.tables.specs.steps.Marks.{Standing}
+use Rattle.tables.specs.steps.Right.{Named, Listed, Tops, Complemented}
+use Rattle.screen.specs.steps.Entries.{lackingAt, noLanguageAt, sameAt}
+use Rattle.screen.specs.steps.Objects.{objectBroken}
 
 -- a language, a label list and a loudness that break rule 4, 6, 8 or 9
 unfoldable pub speechBroken : Sheet → ℕ → ℕ → ℕ → ℕ → Bool

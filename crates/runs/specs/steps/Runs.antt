@@ -10,7 +10,7 @@ use Rattle.sheet.specs.Layout.{count, field, reference}
 use Rattle.sheet.specs.Fields.{packs, tracks, references, packChannels, trackPack, trackOrdinal}
 use Rattle.profile.specs.Counting.{any, howMany, twoOf}
 use Rattle.relations.specs.declared.EntryTest.{EntryTest}
-use Rattle.relations.specs.Tests.{entryTest}
+use Rattle.relations.specs.steps.Tests.{entryTest}
 use Rattle.runs.specs.declared.ReferenceTest.{ReferenceTest}
 use Rattle.runs.specs.declared.ReferenceTest.the-variants.{Passes, Stray}
 use Rattle.runs.specs.declared.ReferenceKey.{ReferenceKey}

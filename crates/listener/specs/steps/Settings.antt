@@ -7,7 +7,7 @@ use Rattle.sheet.specs.Words.{Sheet}
 use Rattle.profile.specs.Counting.{every}
 use Rattle.profile.specs.Relations.{leaderOf, includes}
 use Rattle.granted.specs.Fitting.{soundGain, soundOffset}
-use Rattle.granted.specs.Steps.{flaggedActivity}
+use Rattle.granted.specs.steps.NamedSet.{flaggedActivity}
 use Rattle.listener.specs.declared.Setting.{Setting}
 use Rattle.listener.specs.declared.State.{State}
 use Rattle.listener.specs.declared.Refusal.the-variants.{NotIncluded, NoRange, Outside}

@@ -12,8 +12,8 @@ use Rattle.profile.specs.Counting.{any}
 use Rattle.profile.specs.Limits.{exceeds, childrenLimit, complementsLimit, spanLimit}
 use Rattle.profile.specs.Relations.{hasPack, packOf, hasFrontPack, objectValue, objectMinimum, objectMaximum}
 use Rattle.profile.specs.Rules.{lacks, listLacks, leaves, badComplement, differs, rule4, rule5, rule6, rule8, rule11, rule13, rule14, rule15, rule16, rule17, rule18, rule19, rule20}
-use Rattle.screen.specs.Entries.{badChildAt, outOfOrderAt}
-use Rattle.screen.specs.Values.{valuesAt, hasRange, wordsBroken, setBroken}
+use Rattle.screen.specs.steps.Entries.{badChildAt, outOfOrderAt}
+use Rattle.screen.specs.steps.Values.{valuesAt, hasRange, wordsBroken, setBroken}
 use Rattle.screen.specs.declared.ObjectValues.{ObjectValues}
 
 -- lists and a span that break rule 4 or 8

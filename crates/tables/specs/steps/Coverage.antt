@@ -9,7 +9,7 @@ use Rattle.sheet.specs.Fields.{programmes, contents, objects, contentList, setL
 use Rattle.profile.specs.Counting.{howMany}
 use Rattle.tables.specs.declared.Naming.{Naming}
 use Rattle.tables.specs.declared.Naming.the-variants.{ContentObjects, Children, Complements, ContentLists, Included, SetLists, SetSpans}
-use Rattle.tables.specs.Namings.{namers, items}
+use Rattle.tables.specs.steps.Namings.{namers, items}
 
 -- the index at which a record's run begins
 abbrev pub begin : Sheet → Naming → ℕ → ℕ

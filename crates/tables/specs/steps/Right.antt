@@ -10,7 +10,7 @@ use Rattle.profile.specs.Counting.{howMany}
 use Rattle.profile.specs.Relations.{lists, includes, hasSet, namings}
 use Rattle.tables.specs.declared.Naming.the-variants.{ContentObjects, Complements, ContentLists, SetSpans}
 use Rattle.tables.specs.declared.Mark.the-variants.{Count}
-use Rattle.tables.specs.Marks.{Standing, marked, repeat, namedBy, firstBy}
+use Rattle.tables.specs.steps.Marks.{Standing, marked, repeat, namedBy, firstBy}
 
 -- a number as a place has it: 0, 1, or 2 for two or more
 unfoldable pub counted : ℕ → ℕ

@@ -9,7 +9,7 @@ use Rattle.sheet.specs.Fields.{programmes, contents, objects, tracks, valueSets
 use Rattle.profile.specs.Counting.{any, howMany, sum, twoOf}
 use Rattle.profile.specs.Relations.{times, leader, leaderOf, members, includes, included, whollyIncluded, owner, channels, trackAt}
 use Rattle.profile.specs.Rules.{badComplement, differs, setsNamed, setsDiffer}
-use Rattle.tables.specs.Right.{Tops, Complemented, Leaders, Owners, Included, NamedSets}
+use Rattle.tables.specs.steps.Right.{Tops, Complemented, Leaders, Owners, Included, NamedSets}
 use Rattle.relations.specs.declared.MemberTest.{MemberTest}
 use Rattle.relations.specs.declared.MemberTest.the-variants.{IncludedIn, SetIn}
 use Rattle.rules.specs.declared.Key.{Key}

@@ -6,9 +6,9 @@ use lib.Dec.{eqb}
 use Rattle.sheet.specs.Words.{Sheet}
 use Rattle.sheet.specs.Fields.{programmes, objects}
 use Rattle.relations.specs.declared.EntryTest.the-variants.{Lacks, NoLanguage}
-use Rattle.tables.specs.Right as tables
-use Rattle.runs.specs.Runs.{NextRight, OrdinalRight, RepeatRight, StrayRight}
-use Rattle.rules.specs.Loops.{firstTarget, secondTarget}
+use Rattle.tables.specs.steps.Right as tables
+use Rattle.runs.specs.steps.Runs.{NextRight, OrdinalRight, RepeatRight, StrayRight}
+use Rattle.rules.specs.steps.Loops.{firstTarget, secondTarget}
 use Rattle.checker.specs.declared.Table.{Table}
 use Rattle.checker.specs.declared.Table.the-variants.{Nothing, Named, Spanned, Listed, Tops, Complements, Owners, Leaders, Lacking, Languages, Repeats, Strays, Ordinals}
 

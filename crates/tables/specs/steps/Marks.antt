@@ -10,7 +10,7 @@ use Rattle.profile.specs.Counting.{any, howMany, sum}
 use Rattle.tables.specs.declared.Naming.{Naming}
 use Rattle.tables.specs.declared.Mark.{Mark}
 use Rattle.tables.specs.declared.Mark.the-variants.{Count, Store, First}
-use Rattle.tables.specs.Namings.{namers, items, item}
+use Rattle.tables.specs.steps.Namings.{namers, items, item}
 
 -- the table has g at each index
 abbrev pub Standing : (ℕ → ℕ) → List ℕ → Type 0

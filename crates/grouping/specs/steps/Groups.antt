@@ -12,8 +12,8 @@ use Rattle.sheet.specs.Fields.{programmes, contents, objects, references, value
 use Rattle.profile.specs.Counting.{any, howMany}
 use Rattle.profile.specs.Relations.{leaderOf, member, members, namedSet}
 use Rattle.profile.specs.Rules.{repeats, rule11, rule19, rule21, rule22, ownerAt, setsDiffer}
-use Rattle.tables.specs.Marks.{Standing}
-use Rattle.tables.specs.Right.{Owners, told}
+use Rattle.tables.specs.steps.Marks.{Standing}
+use Rattle.tables.specs.steps.Right.{Owners, told}
 
 -- a programme names no content twice and keeps rule 21 and, with both, rule 22
 abbrev pub Kept : Sheet → Bool → ℕ → Type 0

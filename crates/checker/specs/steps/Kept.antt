@@ -4,7 +4,7 @@ use mathlib.Core.Path.{_≡_}
 use mathlib.Core.Bool.{false, true}
 use Rattle.sheet.specs.Words.{Sheet}
 use Rattle.profile.specs.Verdict.{breaks}
-use Rattle.grouping.specs.Groups.{KeptTo}
+use Rattle.grouping.specs.steps.Groups.{KeptTo}
 
 -- the programmes before k keep rules 21 and 22
 abbrev pub KeptBelow : Sheet → ℕ → Type 0
