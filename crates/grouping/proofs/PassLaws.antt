@@ -12,7 +12,7 @@ use borrow.Author.Tests.{eqb-true, eqb-false, eq-eqb, ne-eqb, ltb-true, ltb-fals
 use lib.Dec.{eqb, leb, ltb}
 use lib.ListN.{length, getD, set, length-set}
 use Rattle.sheet.specs.Words.{Sheet, sheetOf, word}
-use Rattle.sheet.specs.Layout.{count, offset, start, size, field, number, reference, entry}
+use Rattle.sheet.specs.Layout.{count, offset, start, recordWords, field, number, reference, entry}
 use Rattle.sheet.specs.Fields.{programmes, contents, objects, references, valueSets, contentList, setList, complementList, setGain}
 use Rattle.sheet.proofs.WordLaws.{at as words-at}
 use Rattle.profile.specs.Counting.{any, howMany}
@@ -150,7 +150,7 @@ module _ (s : Sheet) where
 
 -- an entry of the programme's content list, and of its set list
 pub object-entry : (s : Sheet) (base records from p i : ℕ) → base ≡ offset s references → records ≡ offset s contents → from ≡ field s programmes p contentList → objectFrom s base records from i ≡ objectAt s p i
-unfolding objectFrom objectAt entry reference field start size
+unfolding objectFrom objectAt entry reference field start recordWords
 object-entry s base records from p i a b c = rw (a, b, c) refl
 
 pub set-entry : (s : Sheet) (base from p j : ℕ) → base ≡ offset s references → from ≡ field s programmes p setList → word s (base + (from + j)) ≡ namedSet s p j
@@ -159,7 +159,7 @@ set-entry s base from p j a b = rw (a, b) refl
 
 -- a word of a value set
 set-word : (s : Sheet) (u f : ℕ) → field s valueSets u (setGain + f) ≡ word s (offset s valueSets + u * 7 + (setGain + f))
-unfolding field start size
+unfolding field start recordWords
 set-word s u f = refl
 
 -- bytes that are alike make words that are

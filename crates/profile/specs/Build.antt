@@ -2,7 +2,7 @@
 use Prim.Native.Nat.{ℕ, zero, suc, _+_, _*_, _/_, _%_}
 use mathlib.Core.List.{List, [], _∷_, _++_, map}
 use lib.ListN.{length, set, replicate}
-use Rattle.sheet.specs.Layout.{start, size}
+use Rattle.sheet.specs.Layout.{start, recordWords}
 
 -- a part of a record: a word, or a list, which is two words and entries in section 6
 pub data Part : Type 0 where
@@ -46,7 +46,7 @@ pub record Parts : Type 0 where
 -- count and offset of each section, from word 16 on without gaps
 unfoldable pub pairs : ℕ → ℕ → List ℕ → List ℕ
 pairs section at [] = []
-pairs section at (n ∷ ns) = n ∷ at ∷ pairs (section + 1) (at + n * size section) ns
+pairs section at (n ∷ ns) = n ∷ at ∷ pairs (section + 1) (at + n * recordWords section) ns
 
 unfoldable pub build : Parts → List ℕ
 build p =

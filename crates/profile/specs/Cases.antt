@@ -3,7 +3,7 @@ use Prim.Native.Nat.{ℕ}
 use mathlib.Core.Path.{_≡_, refl}
 use mathlib.Core.List.{List, [], _∷_, _++_, map}
 use lib.ListN.{take, drop, replicate}
-use Rattle.sheet.specs.Layout.{offset, size, start}
+use Rattle.sheet.specs.Layout.{offset, recordWords, start}
 use Rattle.sheet.specs.Words.{sheetOf, word}
 use Rattle.sheet.specs.Fields.{contents, objects, packs, tracks, contentLoudness, interact, objectGain, objectGainMinimum, objectGainMaximum, objectOffset, packKind, packFront, trackOrdinal}
 use Rattle.profile.specs.declared.Place.the-variants.{Header, Content, Object, ValueSet}
@@ -42,7 +42,7 @@ slider : ℕ → List ℕ
 slider w = put objects 0 interact 1 (put objects 0 objectGainMinimum 65476 (put objects 0 objectGainMaximum 60 (changed objects 0 objectGain w)))
 
 unfoldable pub cases : List Case
-unfolding changed front slider sheetA bytesOf put start offset size word
+unfolding changed front slider sheetA bytesOf put start offset recordWords word
 cases =
     record { bytes = bytesOf sheetA; answer = Accepted }  -- (a)
     ∷ record { bytes = bytesOf (changed tracks 0 trackOrdinal 1); answer = Broken 14 (Object 0) }  -- (b) "ordinal 1"

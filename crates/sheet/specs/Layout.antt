@@ -23,15 +23,15 @@ unfoldable pub offset : Sheet → ℕ → ℕ
 offset s section = word s (2 * section + 1)
 
 -- words of a record, by section ("Programme, 8 words", "Content, 5" and so on); section 0 is the header, of 16 words
-abbrev pub sizes : List ℕ
-sizes = 16 ∷ 8 ∷ 5 ∷ 16 ∷ 3 ∷ 2 ∷ 1 ∷ 7 ∷ []
+abbrev pub recordLengths : List ℕ
+recordLengths = 16 ∷ 8 ∷ 5 ∷ 16 ∷ 3 ∷ 2 ∷ 1 ∷ 7 ∷ []
 
-unfoldable pub size : ℕ → ℕ
-size section = getD sizes section 0
+unfoldable pub recordWords : ℕ → ℕ
+recordWords section = getD recordLengths section 0
 
 -- the index of a record's first word
 unfoldable pub start : Sheet → ℕ → ℕ → ℕ
-start s section k = offset s section + k * size section
+start s section k = offset s section + k * recordWords section
 
 -- the end of a section in words, exact; "section 0 is the header", which ends at 16
 unfoldable pub end : Sheet → ℕ → ℕ

@@ -3,11 +3,11 @@ use crate::fields::REFERENCES;
 use crate::words::word;
 ghost use Prim.Native.Nat.{_*_, _+_, _<_, _≤_};
 ghost use mathlib.Core.Path.{_≡_};
-ghost use Rattle.sheet.specs.Layout.{count, edition, end, entry, field, level, number, offset, reference, size, start};
+ghost use Rattle.sheet.specs.Layout.{count, edition, end, entry, field, level, number, offset, recordWords, reference, start};
 ghost use Rattle.sheet.specs.Words.{sheetOf};
 
 // Words of a record, by section.
-const SIZES: [u8; 8] = [16, 8, 5, 16, 3, 2, 1, 7];
+const RECORD_WORDS: [u8; 8] = [16, 8, 5, 16, 3, 2, 1, 7];
 
 pub fn edition(s: &[u8]) -> u16
     ensures { λ r. ⌜ r ≡ edition (sheetOf (now (s .entry))) ⌝ }
@@ -35,28 +35,28 @@ pub fn offset(s: &[u8], section: u8) -> u16
 }
 
 // Words of a record of a section, 0 for a number that is no section.
-pub fn size(section: u8) -> u8
-    ensures { λ r. ⌜ r ≡ size section ⌝ }
+pub fn record_words(section: u8) -> u8
+    ensures { λ r. ⌜ r ≡ recordWords section ⌝ }
 {
     if section < 8 {
-        SIZES[section as usize]
+        RECORD_WORDS[section as usize]
     } else {
         0
     }
 }
 
-// The index of record k, where records of `size` words begin at `from`.
-fn record_index(from: u16, k: u32, size: u8) -> usize
-    ensures { λ r. ⌜ (r ≡ from + k * size) × (r < 2199023255552) ⌝ }
+// The index of record k, where records of `words` words begin at `from`.
+fn record_index(from: u16, k: u32, words: u8) -> usize
+    ensures { λ r. ⌜ (r ≡ from + k * words) × (r < 2199023255552) ⌝ }
 {
-    from as usize + (k as usize) * (size as usize)
+    from as usize + (k as usize) * (words as usize)
 }
 
 // The index of a record's first word.
 pub fn start(s: &[u8], section: u8, k: u32) -> usize
     ensures { λ r. ⌜ (r ≡ start (sheetOf (now (s .entry))) section k) × (r < 2199023255552) ⌝ }
 {
-    record_index(offset(s, section), k, size(section))
+    record_index(offset(s, section), k, record_words(section))
 }
 
 // The end of a section in words, exact; the header ends at 16.

@@ -7,8 +7,8 @@ use Rattle.sheet.proofs.layout.start.Tie as tie
 offset-requires : tie.Need-offset-requires
 offset-requires c κs = search needs
 
-size-requires : tie.Need-size-requires
-size-requires c κs = search needs
+record-words-requires : tie.Need-record-words-requires
+record-words-requires c κs = search needs
 
 record-index-requires : tie.Need-record-index-requires
 record-index-requires c κs = search needs
@@ -16,9 +16,9 @@ record-index-requires c κs = search needs
 returns : tie.Need-returns
 unfolding start
 returns c = (
-  rw (c .record-index .ensures .0, c .before .size .ensures, c .before .before .offset .ensures),
+  rw (c .record-index .ensures .0, c .before .record-words .ensures, c .before .before .offset .ensures),
   c .record-index .ensures .1,
 )
 
 pub start-spec : {M : Type 1} → statement M
-start-spec = tie.close (tie.spec offset-requires size-requires record-index-requires returns)
+start-spec = tie.close (tie.spec offset-requires record-words-requires record-index-requires returns)
