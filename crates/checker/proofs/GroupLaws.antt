@@ -13,7 +13,7 @@ use Rattle.sheet.specs.Fields.{complementList, programmes, objects, valueSets}
 use Rattle.profile.specs.Counting.{any, howMany}
 use Rattle.profile.specs.Relations.{hasSet, included, includes, leader, member, members, whollyIncluded}
 use Rattle.profile.specs.Rules.{rule11, rule19, rule21, rule22}
-use Rattle.profile.specs.Verdict.{breaks, brokenRecord, brokenSection, ruleBroken, rules, sectionBroken, sectionCount, subjectKind, subjectTable, subjects}
+use Rattle.profile.specs.Verdict.{breaks, brokenRecord, brokenSection, ruleBroken, sectionBroken, sectionCount, subjectKind, subjects}
 use Rattle.profile.proofs.CountingLaws.{finds, howMany-le}
 use Rattle.profile.proofs.GroupLaws.{any-witness}
 use Rattle.profile.proofs.SumLaws.{any-nowhere}
@@ -31,16 +31,16 @@ sets-once s t right each =
 
 -- the rules by their numbers; they are about programmes only
 pub unbroken-21 : (s : Sheet) (section k : ℕ) → ((p : ℕ) → p < k → rule21 s programmes p ≡ false) → Unbroken s 21 section k
-unfolding breaks rules rule21
+unfolding breaks rule21
 unbroken-21 s section k kept = kept
 
 pub unbroken-22 : (s : Sheet) (section k : ℕ) → KeptBelow s k → Unbroken s 22 section k
-unfolding breaks rules rule22
+unfolding breaks rule22
 unbroken-22 s section k kept p l = kept p l .2 refl
 
 -- an object that breaks rule 19
 broken-19 : (s : Sheet) (k : ℕ) → k < count s objects → rule19 s objects k ≡ true → sectionBroken s 19 objects ≡ true
-unfolding sectionBroken brokenRecord subjects subjectKind subjectTable breaks rules
+unfolding sectionBroken brokenRecord subjects subjectKind breaks
 broken-19 s k l e = finds (rule19 s objects) (count s objects) k l e
 
 -- where there is none, no two groups have a member in common

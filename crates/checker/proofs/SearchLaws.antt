@@ -1,10 +1,9 @@
 -- What one rule finds, what the search over the rules finds, and the tables that are lent. Assumes nothing.
-use Prim.Native.Nat.{ℕ, suc, _+_, _<_, _≤_}
-use mathlib.Core.Path.{_≡_, refl, ap, _∙_}
+use Prim.Native.Nat.{ℕ, _<_, _≤_}
+use mathlib.Core.Path.{_≡_, refl, sym, ap, _∙_}
 use mathlib.Core.Bool.{true, false}
 use mathlib.Core.List.{List, []}
 use native.Mathlib.Omega.{arith}
-use native.Mathlib.Numerals.{add-one}
 use borrow.Author.Tests.{lt-ltb, le-ltb, ltb-true, ltb-false}
 use lib.Dec.{ltb}
 use lib.ListN.{length, getD}
@@ -12,9 +11,12 @@ use Rattle.sheet.specs.Words.{Sheet}
 use Rattle.profile.specs.declared.Place.{Place}
 use Rattle.profile.specs.declared.Verdict.{Verdict}
 use Rattle.profile.specs.declared.Verdict.the-variants.{Accepted, Broken}
-use Rattle.profile.specs.Counting.{lowest}
-use Rattle.profile.specs.Verdict.{breaks, subjects, placeAt, brokenRecord, sectionBroken, brokenSection, ruleBroken, brokenRule, brokenAt, verdict}
-use Rattle.profile.proofs.CountingLaws.{lowest-at, lowest-none}
+use Rattle.profile.specs.Counting.{lowest, lowestFrom}
+use Rattle.profile.specs.Verdict.{breaks, subjects, placeAt, brokenRecord, sectionBroken, brokenSection, ruleBroken, brokenPosition, brokenAt, verdict, sectionCount, rules, ruleCount, ruleAt, numberAt, position}
+use Rattle.profile.proofs.CountingLaws.{finds-none, lowest-at, lowest-none}
+use Rattle.profile.proofs.VerdictLaws.{position-number}
+use Rattle.grouping.specs.steps.Groups.{GroupsApart}
+use Rattle.checker.proofs.GroupLaws.{groups-apart}
 use Rattle.tables.specs.declared.Naming.the-variants.{ContentObjects, Children, SetSpans}
 use Rattle.tables.specs.declared.Mark.the-variants.{Count}
 use Rattle.tables.specs.declared.Naming.{Naming}
@@ -24,9 +26,9 @@ use Rattle.tables.specs.steps.Right.{counted}
 use Rattle.tables.proofs.TableLaws.{namings-added, span-namings}
 use Rattle.checker.specs.declared.Table.{Table}
 use Rattle.checker.specs.declared.Table.the-variants.{Nothing, Named, Spanned, Listed, Tops, Complements, Owners, Leaders, Lacking, Languages, Repeats, Strays, Ordinals}
-use Rattle.checker.specs.Checked.{ruleVerdict}
+use Rattle.checker.specs.steps.Rows.{KindsFrom, ruleVerdict}
 use Rattle.checker.specs.steps.Tables.{Right}
-use Rattle.checker.proofs.SubjectLaws.{Rest, rest-ended}
+use Rattle.checker.proofs.SubjectLaws.{rest-ended}
 
 module _ (s : Sheet) where
   module _ (rule section n k : ℕ) (all : n ≡ subjects s rule section) (low : k ≡ lowest (breaks s rule section) n) where
@@ -45,22 +47,22 @@ module _ (s : Sheet) where
     section-none l = section-by ∙ le-ltb k n l
 
     -- a record that breaks the rule, in the first section with one
-    pub rule-found : section < 8 → ((j : ℕ) → j < section → sectionBroken s rule j ≡ false) → k < n → Broken rule (placeAt section k) ≡ ruleVerdict s rule
+    pub rule-found : section < sectionCount → ((j : ℕ) → j < section → sectionBroken s rule j ≡ false) → k < n → Broken rule (placeAt section k) ≡ ruleVerdict s rule
     unfolding ruleVerdict ruleBroken brokenAt brokenSection
     rule-found inside before l =
-        let e : lowest (sectionBroken s rule) 8 ≡ section = lowest-at (sectionBroken s rule) 8 section inside before (section-found l) in
-        rw (e, lt-ltb section 8 inside, ← found-record) refl
+        let e : lowest (sectionBroken s rule) sectionCount ≡ section = lowest-at (sectionBroken s rule) sectionCount section inside before (section-found l) in
+        rw (e, lt-ltb section sectionCount inside, ← found-record) refl
 
-  pub rule-none : (rule : ℕ) → ((j : ℕ) → j < 8 → sectionBroken s rule j ≡ false) → Accepted ≡ ruleVerdict s rule
+  pub rule-none : (rule : ℕ) → ((j : ℕ) → j < sectionCount → sectionBroken s rule j ≡ false) → Accepted ≡ ruleVerdict s rule
   unfolding ruleVerdict ruleBroken brokenSection
   rule-none rule none =
-      let e : lowest (sectionBroken s rule) 8 ≡ 8 = lowest-none (sectionBroken s rule) 8 none in
+      let e : lowest (sectionBroken s rule) sectionCount ≡ sectionCount = lowest-none (sectionBroken s rule) sectionCount none in
       rw e refl
 
-  pub rule-ended : (rule section row : ℕ) → Rest rule section row → row ≡ 0 → ((j : ℕ) → j < section → sectionBroken s rule j ≡ false) → Accepted ≡ ruleVerdict s rule
+  pub rule-ended : (rule section row : ℕ) → KindsFrom rule section row → row ≡ 0 → ((j : ℕ) → j < section → sectionBroken s rule j ≡ false) → Accepted ≡ ruleVerdict s rule
   rule-ended rule section row rest z before = rule-none rule each
     where
-      each : (j : ℕ) → j < 8 → sectionBroken s rule j ≡ false
+      each : (j : ℕ) → j < sectionCount → sectionBroken s rule j ≡ false
       each j h =
           (elim (ltb j section) as (λ b. ltb j section ≡ b → sectionBroken s rule j ≡ false) [
             | true ↦ λ e. before j (ltb-true j section e)
@@ -84,19 +86,24 @@ module _ (s : Sheet) where
         | false ↦ λ f. refl
       ]) refl
 
-  pub verdict-broken : (i : ℕ) (r : ℕ) (p : Place) → i < 24 → ((j : ℕ) → j < i → ruleBroken s (suc j) ≡ false) → Broken r p ≡ ruleVerdict s (i + 1) → Broken r p ≡ verdict s
-  unfolding verdict brokenRule ruleVerdict
-  verdict-broken i r p inside before e =
-      let f : Broken r p ≡ ruleVerdict s (suc i) = e ∙ ap (ruleVerdict s) (add-one i) in
-      let b : ruleBroken s (suc i) ≡ true = broken-one (suc i) r p f in
-      let l : lowest (λ j. ruleBroken s (suc j)) 24 ≡ i = lowest-at (λ j. ruleBroken s (suc j)) 24 i inside before b in
-      f ∙ rw (l, lt-ltb i 24 inside, b) refl
+  module _ (i : ℕ) (inside : i < ruleCount) (before : (j : ℕ) → j < i → ruleBroken s (numberAt j) ≡ false) where
+    pub verdict-broken : (r : ℕ) (p : Place) → Broken r p ≡ ruleVerdict s (numberAt i) → Broken r p ≡ verdict s
+    unfolding verdict brokenPosition ruleVerdict
+    verdict-broken r p e =
+        let b : ruleBroken s (numberAt i) ≡ true = broken-one (numberAt i) r p e in
+        let l : lowest (λ j. ruleBroken s (numberAt j)) ruleCount ≡ i = lowest-at (λ j. ruleBroken s (numberAt j)) ruleCount i inside before b in
+        e ∙ rw (l, lt-ltb i ruleCount inside, b) refl
 
-  pub verdict-none : ((j : ℕ) → j < 24 → ruleBroken s (suc j) ≡ false) → Accepted ≡ verdict s
-  unfolding verdict brokenRule
-  verdict-none none =
-      let l : lowest (λ j. ruleBroken s (suc j)) 24 ≡ 24 = lowest-none (λ j. ruleBroken s (suc j)) 24 none in
-      rw l refl
+    -- when rule 21 comes, rule 19 is kept
+    pub apart-before : numberAt i ≡ 21 → GroupsApart s
+    unfolding position lowest lowestFrom numberAt ruleAt ruleCount rules
+    apart-before e =
+        let p : i ≡ position 21 = sym (position-number i inside) ∙ ap position e in
+        groups-apart s (before (position 19) (omega (arith, p)))
+
+  pub verdict-none : ((j : ℕ) → j < ruleCount → ruleBroken s (numberAt j) ≡ false) → Accepted ≡ verdict s
+  unfolding verdict brokenPosition
+  verdict-none none = rw (finds-none (λ j. ruleBroken s (numberAt j)) ruleCount none) refl
 
   -- an empty table is right
   pub empty-right : (which : Table) → Right s which []

@@ -1,98 +1,91 @@
--- The tables of rules and subjects past their ends. Assumes nothing.
+-- The rows of the code are the rules of the list, and the subjects by their digits. Assumes nothing.
 use Prim.Native.Nat.{zero-le, ℕ, zero, suc, _+_, _-_, _/_, _%_, _<_, _≤_}
 use mathlib.Core.Path.{_≡_, refl, sym, ap, _∙_}
-use mathlib.Core.Bool.{Bool, true, false}
-use mathlib.Core.List.{List, []}
+use mathlib.Core.Bool.{true, false, _&&_}
 use native.Mathlib.Omega.{arith}
 use mathlib.Core.Logic.{⊎-elim}
-use native.Mathlib.Nat.{eq-or-lt-of-le, eq-zero-or-pos}
+use native.Mathlib.Nat.{eq-or-lt-of-le, le-of-suc-le-suc}
 use lib.Dec.{eqb, ltb}
-use lib.ListN.{getD, List·getD-eq-default}
-use borrow.Author.Tests.{le-ltb, ltb-true, ltb-false, eqb-true}
+use borrow.Author.Tests.{eqb-true, le-ltb, ne-eqb}
 use Rattle.sheet.specs.Words.{Sheet}
 use Rattle.profile.specs.Counting.{every}
-use Rattle.profile.specs.Verdict.{breaks, rules, subjectTable, subjectKind, subjects, brokenRecord, sectionBroken}
+use Rattle.profile.specs.Verdict.{sectionCount, rules, ruleCount, ruleAt, numberAt, position, breaks, subjectKind, subjects, brokenRecord, sectionBroken}
+use Rattle.profile.proofs.BoolLaws.{and-both}
+use Rattle.profile.proofs.CountingLaws.{lowest-none}
 use Rattle.profile.proofs.ListLaws.{every-at}
-use Rattle.checker.specs.steps.Rows.{digit, subjectRows, subjectRow, subjectsOf}
+use Rattle.checker.specs.declared.RuleRow.{RuleRow}
+use Rattle.checker.specs.steps.Rows.{KindsFrom, packed, digit, rowOf, rowAt, subjectsOf}
 
--- no rule has a number past 24
-past-rows : (rule section : ℕ) → 25 ≤ rule → subjectKind rule section ≡ 0
-unfolding subjectKind
-past-rows rule section h = ap (λ (row : List ℕ). getD row section 0) (rows rule h)
-  where
-    rows : (rule : ℕ) → 25 ≤ rule → getD subjectTable rule [] ≡ []
-    rows rule h = List·getD-eq-default subjectTable [] {n = rule} (unfold subjectTable in h)
+-- the code's number of rules
+pub rule-count : ruleCount ≡ 24
+unfolding ruleCount rules
+rule-count = refl
 
--- a number that is no rule's is broken nowhere
-pub no-rule : (s : Sheet) (rule section k : ℕ) → (1 ≤ rule → 25 ≤ rule) → false ≡ breaks s rule section k
-unfolding breaks rules
-no-rule s rule section k h =
-    (elim (ltb rule 25) as (λ t. ltb rule 25 ≡ t → false ≡ breaks s rule section k) [
-      | true ↦ λ e.
-          ⊎-elim (λ z. rw z) (λ l. let m : 25 ≤ rule = h l in absurd (omega (arith, ltb-true rule 25 e))) (eq-zero-or-pos rule)
-      | false ↦ λ e. sym (ap (λ (f : ℕ → ℕ → Bool). f section k) (List·getD-eq-default (rules s) (λ (a b : ℕ). false) {n = rule} (ltb-false rule 25 e)))
-    ]) refl
-
--- n is none of 1 to k: what a `match` on these numbers leaves to its last arm
+-- n is the number of none of the first k rules: what a `match` on these numbers leaves to its last arm
 abbrev pub NoneOf : ℕ → ℕ → Type 0
 NoneOf n zero = Unit {0}
-NoneOf n (suc k) = NoneOf n k × (n ≡ suc k → ⊥)
+NoneOf n (suc k) = NoneOf n k × (n ≡ numberAt k → ⊥)
 
--- so it is 0 or above them
-pub above : (n k : ℕ) → 1 ≤ n → NoneOf n k → suc k ≤ n
-above n zero h none = h
-above n (suc k) h none = ⊎-elim (λ e. absurd (none .1 (sym e))) (λ l. l) (eq-or-lt-of-le (above n k h (none .0)))
+other-numbers : (n k : ℕ) → NoneOf n k → (i : ℕ) → i < k → eqb (numberAt i) n ≡ false
+other-numbers n zero none i l = absurd (omega (arith, l))
+other-numbers n (suc k) none i l =
+    ⊎-elim
+    (λ e. ne-eqb (numberAt i) n (λ h. none .1 (sym h ∙ ap numberAt e)))
+    (λ m. other-numbers n k (none .0) i m)
+    (eq-or-lt-of-le (le-of-suc-le-suc l))
+
+-- a number that is no rule's is broken nowhere
+pub no-rule : (s : Sheet) (n section k : ℕ) → NoneOf n ruleCount → false ≡ breaks s n section k
+unfolding breaks
+no-rule s n section k none =
+    let e : position n ≡ ruleCount = unfold position in lowest-none (λ i. eqb (numberAt i) n) ruleCount (other-numbers n ruleCount none) in
+    ap (λ (i : ℕ). ruleAt i .test s section k) (sym e)
 
 -- a digit that is neither 1 nor 2 stands for no subject
-pub other-kind : (s : Sheet) (section kind : ℕ) → NoneOf kind 2 → 0 ≡ subjectsOf s section kind
+pub other-kind : (s : Sheet) (section kind : ℕ) → (kind ≡ 1 → ⊥) → (kind ≡ 2 → ⊥) → 0 ≡ subjectsOf s section kind
 unfolding subjectsOf
-other-kind s section zero none = refl
-other-kind s section (suc zero) none = absurd (none .0 .1 refl)
-other-kind s section (suc (suc zero)) none = absurd (none .1 refl)
-other-kind s section (suc (suc (suc kind))) none = refl
+other-kind s section zero a b = refl
+other-kind s section (suc zero) a b = absurd (a refl)
+other-kind s section (suc (suc zero)) a b = absurd (b refl)
+other-kind s section (suc (suc (suc kind))) a b = refl
 
--- the rows are the table's: one test over the whole table
-rows-right : every (λ rule. every (λ i. eqb (digit (subjectRow rule) i) (subjectKind rule i)) 8) 25 ≡ true
-unfolding every digit subjectRow subjectRows subjectKind subjectTable
+-- the rows are those of the list of rules: one test over the whole list
+rows-right : every (λ i. eqb (rowAt i .0) (numberAt i) && every (λ j. eqb (digit (rowAt i .1) j) (subjectKind (numberAt i) j)) sectionCount) ruleCount ≡ true
+unfolding every rowAt rowOf packed digit subjectKind
 rows-right = refl
+
+module _ (i : ℕ) (l : i < ruleCount) where
+  row-right : (eqb (rowAt i .0) (numberAt i) ≡ true) × (every (λ j. eqb (digit (rowAt i .1) j) (subjectKind (numberAt i) j)) sectionCount ≡ true)
+  row-right =
+      and-both _ _ (every-at (λ k. eqb (rowAt k .0) (numberAt k) && every (λ j. eqb (digit (rowAt k .1) j) (subjectKind (numberAt k) j)) sectionCount) ruleCount i rows-right l)
+
+  row-number : rowAt i .0 ≡ numberAt i
+  row-number = eqb-true _ _ (row-right .0)
+
+  row-kinds : KindsFrom (rowAt i .0) 0 (rowAt i .1)
+  row-kinds j m =
+      let z : 0 + j ≡ j = omega arith in
+      rw (row-number, z) (eqb-true _ _ (every-at (λ k. eqb (digit (rowAt i .1) k) (subjectKind (numberAt i) k)) sectionCount j (row-right .1) (omega (arith, m))))
+
+  -- of a row that was read
+  module _ (row : RuleRow) (e : row ≡ rowAt i) where
+    pub row-is : row .0 ≡ numberAt i
+    row-is = ap (λ (r : RuleRow). r .0) e ∙ row-number
+
+    pub row-has : KindsFrom (row .0) 0 (row .1)
+    row-has = rw e row-kinds
 
 no-digit : (i : ℕ) → digit 0 i ≡ 0
 unfolding digit
 no-digit zero = refl
 no-digit (suc i) = no-digit i
 
-no-row : (rule : ℕ) → 25 ≤ rule → subjectRow rule ≡ 0
-unfolding subjectRow subjectRows
-no-row rule h = List·getD-eq-default subjectRows 0 {n = rule} h
-
--- a number that is no rule's has no subjects
-pub empty-row : (rule : ℕ) → (1 ≤ rule → 25 ≤ rule) → 0 ≡ subjectRow rule
-unfolding subjectRow subjectRows
-empty-row zero h = refl
-empty-row (suc rule) h = sym (no-row (suc rule) (h (omega arith)))
-
-pub row-digits : (rule i : ℕ) → i < 8 → digit (subjectRow rule) i ≡ subjectKind rule i
-row-digits rule i l =
-    (elim (ltb rule 25) as (λ t. ltb rule 25 ≡ t → digit (subjectRow rule) i ≡ subjectKind rule i) [
-      | true ↦ λ e. eqb-true _ _ (every-at (λ j. eqb (digit (subjectRow rule) j) (subjectKind rule j)) 8 i (every-at (λ r. every (λ j. eqb (digit (subjectRow r) j) (subjectKind r j)) 8) 25 rule rows-right (ltb-true rule 25 e)) l)
-      | false ↦ λ e. ap (λ (n : ℕ). digit n i) (no-row rule (ltb-false rule 25 e)) ∙ no-digit i ∙ sym (past-rows rule i (ltb-false rule 25 e))
-    ]) refl
-
--- what is left of a rule's row has the digits from a section on
-abbrev pub Rest : ℕ → ℕ → ℕ → Type 0
-Rest rule section row = (i : ℕ) → section + i < 8 → digit row i ≡ subjectKind rule (section + i)
-
-pub rest-start : (rule row : ℕ) → row ≡ subjectRow rule → Rest rule 0 row
-rest-start rule row e i l =
-    let z : i ≡ 0 + i = omega arith in
-    ap (λ (n : ℕ). digit n i) e ∙ row-digits rule i (omega arith) ∙ ap (λ (n : ℕ). subjectKind rule n) z
-
-module _ (rule section row : ℕ) (rest : Rest rule section row) where
-  pub rest-kind : section < 8 → row % 4 ≡ subjectKind rule section
+module _ (rule section row : ℕ) (rest : KindsFrom rule section row) where
+  pub rest-kind : section < sectionCount → row % 4 ≡ subjectKind rule section
   unfolding digit
   rest-kind l = let z : section + 0 ≡ section = omega arith in rest 0 (omega arith) ∙ ap (λ (n : ℕ). subjectKind rule n) z
 
-  pub rest-next : Rest rule (section + 1) (row / 4)
+  pub rest-next : KindsFrom rule (section + 1) (row / 4)
   unfolding digit
   rest-next i l = let z : section + suc i ≡ section + 1 + i = omega arith in rest (suc i) (omega arith) ∙ ap (λ (n : ℕ). subjectKind rule n) z
 
@@ -102,7 +95,7 @@ unfolding subjects subjectsOf
 all-subjects s rule section kind n e f = f ∙ ap (subjectsOf s section) e
 
 -- no section from one on has subjects where nothing is left of the row
-pub rest-ended : (s : Sheet) (rule section row : ℕ) → Rest rule section row → row ≡ 0 → (j : ℕ) → section ≤ j → j < 8 → sectionBroken s rule j ≡ false
+pub rest-ended : (s : Sheet) (rule section row : ℕ) → KindsFrom rule section row → row ≡ 0 → (j : ℕ) → section ≤ j → j < sectionCount → sectionBroken s rule j ≡ false
 unfolding sectionBroken subjects
 rest-ended s rule section row rest z j l h =
     let e : section + (j - section) ≡ j = omega arith in

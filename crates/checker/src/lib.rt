@@ -4,6 +4,10 @@ pub mod lent;
 pub mod search;
 pub mod subjects;
 
+// A rule: its number, and its subjects in one number, a digit to the base 4 for each section from 0 on: 0 no subject, 1 the header or
+// section itself, 2 each record.
+pub struct RuleRow(pub u8, pub u16);
+
 // A table that a rule is lent, to find by one look what it would search for.
 pub enum Table {
     // none

@@ -1,11 +1,13 @@
 // The search for the first broken rule, "within one rule the lowest section, then the lowest record".
+use crate::RuleRow;
 use crate::groups::grouped_programmes;
 use crate::groups::kept_programmes;
 use crate::lent::fill_table;
 use crate::lent::first_table;
 use crate::lent::second_table;
+use crate::subjects::RULE_COUNT;
 use crate::subjects::breaks;
-use crate::subjects::subject_row;
+use crate::subjects::rule_at;
 use crate::subjects::subjects;
 use profile::Verdict;
 use profile::places::place_at;
@@ -26,8 +28,9 @@ use sheet::layout::number;
 ghost use Prim.Native.Nat.{_≤_};
 ghost use lib.ListN.{length};
 ghost use mathlib.Core.Path.{_≡_};
-ghost use Rattle.checker.specs.Checked.{checked, ruleVerdict};
+ghost use Rattle.checker.specs.Checked.{checked};
 ghost use Rattle.checker.specs.steps.Kept.{KeptBelow, Unbroken};
+ghost use Rattle.checker.specs.steps.Rows.{KindsFrom, ruleVerdict};
 ghost use Rattle.checker.specs.steps.Tables.{Right, firstTable, secondTable};
 ghost use Rattle.grouping.specs.steps.Groups.{GroupsApart};
 ghost use Rattle.profile.specs.Counting.{lowest};
@@ -168,33 +171,34 @@ fn lowest_broken(s: &[u8], rule: u8, section: u8, n: u16, kept: u16) -> u16
 }
 
 // The verdict by one rule alone.
-fn rule_verdict(s: &[u8], rule: u8, kept: u16) -> Verdict
-    requires { ⌜ KeptBelow (sheetOf (now s)) kept × (rule ≡ 21 → GroupsApart (sheetOf (now s))) ⌝ }
-    ensures { λ r. ⌜ r ≡ ruleVerdict (sheetOf (now (s .entry))) rule ⌝ }
+fn rule_verdict(s: &[u8], row: RuleRow, kept: u16) -> Verdict
+    requires { ⌜ KeptBelow (sheetOf (now s)) kept × (row .0 ≡ 21 → GroupsApart (sheetOf (now s))) × KindsFrom (row .0) 0 (row .1) ⌝ }
+    ensures { λ r. ⌜ r ≡ ruleVerdict (sheetOf (now (s .entry))) (row .0) ⌝ }
 {
-    let mut row = subject_row(rule);
+    let rule = row.0;
+    let mut kinds = row.1;
     let mut section: u8 = 0;
     while section < 8 {
-        if row == 0 {
+        if kinds == 0 {
             return Verdict::Accepted;
         }
-        let n = subjects(s, section, row % 4);
+        let n = subjects(s, section, kinds % 4);
         let k = lowest_broken(s, rule, section, n, kept);
         if k < n {
             return Verdict::Broken(rule, place_at(section, k));
         }
-        row = row / 4;
+        kinds = kinds / 4;
         section += 1;
     }
     Verdict::Accepted
 }
 
-// How many programmes are known to keep rules 21 and 22, when rule i + 1 comes: before rule 21 one pass tells.
-fn kept_at(s: &[u8], i: u8, kept: u16) -> u16
-    requires { ⌜ KeptBelow (sheetOf (now s)) kept × (i ≡ 20 → GroupsApart (sheetOf (now s))) ⌝ }
+// How many programmes are known to keep rules 21 and 22, when a rule comes: before rule 21 one pass tells.
+fn kept_at(s: &[u8], rule: u8, kept: u16) -> u16
+    requires { ⌜ KeptBelow (sheetOf (now s)) kept × (rule ≡ 21 → GroupsApart (sheetOf (now s))) ⌝ }
     ensures { λ r. ⌜ KeptBelow (sheetOf (now (s .entry))) r ⌝ }
 {
-    if i == 20 {
+    if rule == 21 {
         return kept_programmes(s);
     }
     kept
@@ -205,10 +209,11 @@ fn first_broken(sheet: &[u8]) -> Verdict
     ensures { λ r. ⌜ r ≡ checked (now (sheet .entry)) ⌝ }
 {
     let mut kept: u16 = 0;
-    let mut i: u8 = 0;
-    while i < 24 {
-        kept = kept_at(sheet, i, kept);
-        let v = rule_verdict(sheet, i + 1, kept);
+    let mut i: usize = 0;
+    while i < RULE_COUNT {
+        let row = rule_at(i);
+        kept = kept_at(sheet, row.0, kept);
+        let v = rule_verdict(sheet, row, kept);
         match v {
             Verdict::Broken(rule, place) => return Verdict::Broken(rule, place),
             Verdict::Accepted => {}

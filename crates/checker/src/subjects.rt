@@ -1,4 +1,5 @@
-// Which records can be a rule's place, and whether one breaks it.
+// The rules in checking order, which records can be a rule's place, and whether one breaks it.
+use crate::RuleRow;
 use rules::groups::rule19;
 use rules::groups::rule20;
 use rules::groups::rule21;
@@ -28,41 +29,48 @@ use tables::marks::mark_included;
 ghost use lib.ListN.{length};
 ghost use mathlib.Core.Path.{_≡_};
 ghost use Rattle.checker.specs.steps.Tables.{Right, firstTable, secondTable};
-ghost use Rattle.checker.specs.steps.Rows.{subjectRow, subjectsOf};
+ghost use Rattle.checker.specs.steps.Rows.{rowAt, subjectsOf};
 ghost use Rattle.profile.specs.Verdict.{breaks};
 ghost use Rattle.sheet.specs.Words.{sheetOf};
 
-// Which sections have subjects of a rule, in one number: a digit to the base 4 for each section from 0 on, 0 no subject, 1 the header or
-// section itself, 2 each record. A number, since a table would be laid on the stack anew at each call.
-pub fn subject_row(rule: u8) -> u16
-    ensures { λ r. ⌜ r ≡ subjectRow rule ⌝ }
+// The rules in checking order.
+pub const RULE_COUNT: usize = 24;
+
+const RULES: [RuleRow; RULE_COUNT] = [
+    RuleRow(1, 1),
+    RuleRow(2, 1),
+    RuleRow(3, 21844),
+    RuleRow(4, 168),
+    RuleRow(5, 2216),
+    RuleRow(6, 33448),
+    RuleRow(7, 1364),
+    RuleRow(8, 168),
+    RuleRow(9, 40),
+    RuleRow(10, 512),
+    RuleRow(11, 32896),
+    RuleRow(12, 40),
+    RuleRow(13, 128),
+    RuleRow(14, 128),
+    RuleRow(15, 128),
+    RuleRow(16, 128),
+    RuleRow(17, 32896),
+    RuleRow(18, 32896),
+    RuleRow(19, 128),
+    RuleRow(20, 128),
+    RuleRow(21, 8),
+    RuleRow(22, 8),
+    RuleRow(23, 1),
+    RuleRow(24, 1),
+];
+
+// The rule at a position, 0 without subjects past the last.
+pub fn rule_at(i: usize) -> RuleRow
+    ensures { λ r. ⌜ r ≡ rowAt i ⌝ }
 {
-    match rule {
-        1 => 1,
-        2 => 1,
-        3 => 21844,
-        4 => 168,
-        5 => 2216,
-        6 => 33448,
-        7 => 1364,
-        8 => 168,
-        9 => 40,
-        10 => 512,
-        11 => 32896,
-        12 => 40,
-        13 => 128,
-        14 => 128,
-        15 => 128,
-        16 => 128,
-        17 => 32896,
-        18 => 32896,
-        19 => 128,
-        20 => 128,
-        21 => 8,
-        22 => 8,
-        23 => 1,
-        24 => 1,
-        _ => 0,
+    if i < RULE_COUNT {
+        RULES[i]
+    } else {
+        RuleRow(0, 0)
     }
 }
 

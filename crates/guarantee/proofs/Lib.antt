@@ -5,4 +5,5 @@ pub mod ValueLaws
 pub mod ListingLaws
 pub mod EntryLaws
 pub mod Guaranteed
+pub mod Theorems
 pub mod MostLaws

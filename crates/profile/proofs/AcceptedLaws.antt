@@ -17,7 +17,7 @@ use Rattle.profile.specs.Counting.{any, howMany, sum}
 use Rattle.profile.specs.Limits.{limit, exceeds, programmesLimit, objectsLimit, programmeContentsLimit, programmeSetsLimit, labelsLimit, channelsLimit, countedLimit}
 use Rattle.profile.specs.Relations.{times, packOf, hasPack, hasChildren, hasObjectsPack, top, leader, included, whollyIncluded, hasSet, owner, namedSet, objectValue, objectMinimum, objectMaximum, setValue, effectiveValue, effectiveMinimum, effectiveMaximum, countedTracks, namings, channels, trackAt}
 use Rattle.profile.specs.Rules.{rule2, rule5, rule6, rule7, rule8, rule10, rule11, rule13, rule14, rule15, rule18, rule19, rule21, rule24, lacks, listLacks, badWords, badObject, badObjectWords, badPack, badSet, badSetWords, objectRange, setRange, outside, badComplement, leaves, objectLeaves, setLeaves}
-use Rattle.profile.specs.Verdict.{ruleCount, sectionCount, breaks, rules, subjects, subjectKind, subjectTable, verdict}
+use Rattle.profile.specs.Verdict.{breaks, subjects, subjectKind, verdict}
 use Rattle.profile.specs.AcceptedSheet.{AcceptedSheet, Legal, LegalRange, Within}
 use Rattle.profile.proofs.BoolLaws.{or-false, or-none, or-none-3, or-none-4, first-of-7, and-both, and-second, opposites, together, one-of}
 use Rattle.profile.proofs.CountingLaws.{any-none}
@@ -42,10 +42,10 @@ unfolding leaves
 stays t w lo hi e present = not-false _ (and-second (not (isAbsent lo)) (not (inRange t lo w hi)) e (ap not present))
 
 module _ (s : Sheet) (accepted : verdict s ≡ Accepted) where
-  unbroken : (rule section k : ℕ) → 1 ≤ rule → rule ≤ ruleCount → section < sectionCount → k < subjects s rule section → breaks s rule section k ≡ false
-  unbroken rule section k a b c d =
+  unbroken : (rule section k : ℕ) → k < subjects s rule section → breaks s rule section k ≡ false
+  unbroken rule section k l =
       (elim (breaks s rule section k) as (λ t. breaks s rule section k ≡ t → breaks s rule section k ≡ false) [
-        | true ↦ λ e. absurd (accepted-none s accepted rule section k (record { from-1 = a; to-24 = b; to-7 = c; subject = d; broken = e }))
+        | true ↦ λ e. absurd (accepted-none s accepted rule section k (record { subject = l; broken = e }))
         | false ↦ λ e. e
       ]) refl
 
@@ -55,90 +55,90 @@ module _ (s : Sheet) (accepted : verdict s ≡ Accepted) where
   in-section target section k at i e l = leb-false _ _ (any-none (λ j. leb (count s target) (entry s section k at j)) (number s section k at) e i l)
 
   rule5-programme : (p : ℕ) → p < count s programmes → (listLacks s contents programmes p contentList || listLacks s valueSets programmes p setList) ≡ false
-  unfolding breaks rules subjects subjectKind subjectTable rule5
-  rule5-programme p l = simp or-false at (unbroken 5 programmes p (omega arith) (omega arith) (omega arith) l)
+  unfolding breaks subjects subjectKind rule5
+  rule5-programme p l = simp or-false at (unbroken 5 programmes p l)
 
   rule5-content : (c : ℕ) → c < count s contents → lacks s objects (field s contents c contentObject) ≡ false
-  unfolding breaks rules subjects subjectKind subjectTable rule5
-  rule5-content c l = simp or-false at (unbroken 5 contents c (omega arith) (omega arith) (omega arith) l)
+  unfolding breaks subjects subjectKind rule5
+  rule5-content c l = simp or-false at (unbroken 5 contents c l)
 
   rule5-object : (o : ℕ) → o < count s objects
       → (hasPack s o && lacks s packs (packOf s o) || listLacks s tracks objects o trackList || listLacks s objects objects o childList || listLacks s objects objects o complementList) ≡ false
-  unfolding breaks rules subjects subjectKind subjectTable rule5
-  rule5-object o l = simp or-false at (unbroken 5 objects o (omega arith) (omega arith) (omega arith) l)
+  unfolding breaks subjects subjectKind rule5
+  rule5-object o l = simp or-false at (unbroken 5 objects o l)
 
   rule6-object : (o : ℕ) → o < count s objects → badObject s o ≡ false
-  unfolding breaks rules subjects subjectKind subjectTable rule6
-  rule6-object o l = simp or-false at (unbroken 6 objects o (omega arith) (omega arith) (omega arith) l)
+  unfolding breaks subjects subjectKind rule6
+  rule6-object o l = simp or-false at (unbroken 6 objects o l)
 
   rule6-pack : (k : ℕ) → k < count s packs → badPack s k ≡ false
-  unfolding breaks rules subjects subjectKind subjectTable rule6
-  rule6-pack k l = simp or-false at (unbroken 6 packs k (omega arith) (omega arith) (omega arith) l)
+  unfolding breaks subjects subjectKind rule6
+  rule6-pack k l = simp or-false at (unbroken 6 packs k l)
 
   rule6-set : (v : ℕ) → v < count s valueSets → badSet s v ≡ false
-  unfolding breaks rules subjects subjectKind subjectTable rule6
-  rule6-set v l = unbroken 6 valueSets v (omega arith) (omega arith) (omega arith) l
+  unfolding breaks subjects subjectKind rule6
+  rule6-set v l = unbroken 6 valueSets v l
 
   rule7-objects : outside s objectsLimit (count s objects) ≡ false
-  unfolding breaks rules subjects subjectKind subjectTable rule7
-  rule7-objects = simp or-false at (unbroken 7 objects 0 (omega arith) (omega arith) (omega arith) (omega arith))
+  unfolding breaks subjects subjectKind rule7
+  rule7-objects = simp or-false at (unbroken 7 objects 0 (omega arith))
 
   rule7-programmes : outside s programmesLimit (count s programmes) ≡ false
-  unfolding breaks rules subjects subjectKind subjectTable rule7
-  rule7-programmes = simp or-false at (unbroken 7 programmes 0 (omega arith) (omega arith) (omega arith) (omega arith))
+  unfolding breaks subjects subjectKind rule7
+  rule7-programmes = simp or-false at (unbroken 7 programmes 0 (omega arith))
 
   rule8-programme : (p : ℕ) → p < count s programmes
       → (outside s programmeContentsLimit (number s programmes p contentList) || exceeds s programmeSetsLimit (number s programmes p setList) || exceeds s labelsLimit (number s programmes p programmeLabels)) ≡ false
-  unfolding breaks rules subjects subjectKind subjectTable rule8
-  rule8-programme p l = simp or-false at (unbroken 8 programmes p (omega arith) (omega arith) (omega arith) l)
+  unfolding breaks subjects subjectKind rule8
+  rule8-programme p l = simp or-false at (unbroken 8 programmes p l)
 
   rule10-pack : (k : ℕ) → k < count s packs → rule10 s packs k ≡ false
-  unfolding breaks rules subjects subjectKind subjectTable
-  rule10-pack k l = unbroken 10 packs k (omega arith) (omega arith) (omega arith) l
+  unfolding breaks subjects subjectKind
+  rule10-pack k l = unbroken 10 packs k l
 
   rule11-object : (o : ℕ) → o < count s objects → not (eqb (namings s o) 1) ≡ false
-  unfolding breaks rules subjects subjectKind subjectTable rule11
-  rule11-object o l = simp or-false at (unbroken 11 objects o (omega arith) (omega arith) (omega arith) l)
+  unfolding breaks subjects subjectKind rule11
+  rule11-object o l = simp or-false at (unbroken 11 objects o l)
 
   rule11-set : (v : ℕ) → v < count s valueSets → not (eqb (howMany (λ o. hasSet s o v) (count s objects)) 1) ≡ false
-  unfolding breaks rules subjects subjectKind subjectTable rule11
-  rule11-set v l = unbroken 11 valueSets v (omega arith) (omega arith) (omega arith) l
+  unfolding breaks subjects subjectKind rule11
+  rule11-set v l = unbroken 11 valueSets v l
 
   rule13-object : (o : ℕ) → o < count s objects → rule13 s objects o ≡ false
-  unfolding breaks rules subjects subjectKind subjectTable
-  rule13-object o l = unbroken 13 objects o (omega arith) (omega arith) (omega arith) l
+  unfolding breaks subjects subjectKind
+  rule13-object o l = unbroken 13 objects o l
 
   rule14-object : (o : ℕ) → o < count s objects → rule14 s objects o ≡ false
-  unfolding breaks rules subjects subjectKind subjectTable
-  rule14-object o l = unbroken 14 objects o (omega arith) (omega arith) (omega arith) l
+  unfolding breaks subjects subjectKind
+  rule14-object o l = unbroken 14 objects o l
 
   rule15-object : (o : ℕ) → o < count s objects → rule15 s objects o ≡ false
-  unfolding breaks rules subjects subjectKind subjectTable
-  rule15-object o l = unbroken 15 objects o (omega arith) (omega arith) (omega arith) l
+  unfolding breaks subjects subjectKind
+  rule15-object o l = unbroken 15 objects o l
 
   rule18-object : (o : ℕ) → o < count s objects → (objectLeaves s o Gains || objectLeaves s o Offsets) ≡ false
-  unfolding breaks rules subjects subjectKind subjectTable rule18
-  rule18-object o l = simp or-false at (unbroken 18 objects o (omega arith) (omega arith) (omega arith) l)
+  unfolding breaks subjects subjectKind rule18
+  rule18-object o l = simp or-false at (unbroken 18 objects o l)
 
   rule18-set : (v : ℕ) → v < count s valueSets → (setLeaves s (owner s v) v Gains || setLeaves s (owner s v) v Offsets) ≡ false
-  unfolding breaks rules subjects subjectKind subjectTable rule18
-  rule18-set v l = unbroken 18 valueSets v (omega arith) (omega arith) (omega arith) l
+  unfolding breaks subjects subjectKind rule18
+  rule18-set v l = unbroken 18 valueSets v l
 
   rule19-object : (o : ℕ) → o < count s objects → rule19 s objects o ≡ false
-  unfolding breaks rules subjects subjectKind subjectTable
-  rule19-object o l = unbroken 19 objects o (omega arith) (omega arith) (omega arith) l
+  unfolding breaks subjects subjectKind
+  rule19-object o l = unbroken 19 objects o l
 
   rule21-programme : (p : ℕ) → p < count s programmes → rule21 s programmes p ≡ false
-  unfolding breaks rules subjects subjectKind subjectTable
-  rule21-programme p l = unbroken 21 programmes p (omega arith) (omega arith) (omega arith) l
+  unfolding breaks subjects subjectKind
+  rule21-programme p l = unbroken 21 programmes p l
 
   rule2-header : rule2 s header 0 ≡ false
-  unfolding breaks rules subjects subjectKind subjectTable
-  rule2-header = unbroken 2 header 0 (omega arith) (omega arith) (omega arith) (omega arith)
+  unfolding breaks subjects subjectKind
+  rule2-header = unbroken 2 header 0 (omega arith)
 
   rule24-header : exceeds s countedLimit (countedTracks s) ≡ false
-  unfolding breaks rules subjects subjectKind subjectTable rule24
-  rule24-header = unbroken 24 header 0 (omega arith) (omega arith) (omega arith) (omega arith)
+  unfolding breaks subjects subjectKind rule24
+  rule24-header = unbroken 24 header 0 (omega arith)
 
   -- above level 0 a limit that is not exceeded holds
   not-exceeded : (column n : ℕ) → exceeds s column n ≡ false → (level s ≡ 0 → ⊥) → n ≤ limit (level s) column

@@ -6,7 +6,7 @@ use mathlib.Core.Logic.{⊎-elim}
 use native.Mathlib.Omega.{arith}
 use native.Mathlib.Nat.{eq-or-lt-of-le, le-of-suc-le-suc, add-zero}
 use lib.Dec.{ltb, eqb}
-use borrow.Author.Tests.{ltb-true, ltb-false, ne-eqb}
+use borrow.Author.Tests.{le-ltb, ltb-true, ltb-false, ne-eqb}
 use Rattle.profile.proofs.BoolLaws.{or-true, or-false}
 use Rattle.profile.specs.Counting.{any, howMany, lowest, lowestFrom}
 
@@ -109,6 +109,10 @@ module _ (p : ℕ → Bool) (n : ℕ) where
       ⊎-elim (λ q. let z : lowest p n ≡ n = q in z)
       (λ h. absurd (true≢false (sym (lowest-holds p n h) ∙ none (lowest p n) h)))
       (eq-or-lt-of-le (lowest-le p n))
+
+  -- the search finds nothing where there is nothing
+  pub finds-none : ((k : ℕ) → k < n → p k ≡ false) → ltb (lowest p n) n ≡ false
+  finds-none none = ap (λ (m : ℕ). ltb m n) (lowest-none none) ∙ le-ltb n n (omega arith)
 
 -- some number has the test where not none has
 pub any-howMany : (p : ℕ → Bool) (n : ℕ) → any p n ≡ not (eqb (howMany p n) 0)

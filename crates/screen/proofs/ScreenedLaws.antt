@@ -11,14 +11,13 @@ use Rattle.sheet.specs.Fields.{programmes, contents, objects, packs, tracks, re
 use Rattle.profile.specs.Counting.{any, howMany, lowest}
 use Rattle.profile.specs.Relations.{hasSet, owner}
 use Rattle.profile.specs.Rules.{rule1, rule2, rule3, rule4, rule5, rule6, rule7, rule8, rule9, rule10, rule11, rule12, rule13, rule14, rule15, rule16, rule17, rule18, rule19, rule20, rule21, rule22, rule23, rule24, repeats}
-use Rattle.profile.specs.Verdict.{verdict, breaks, rules, subjects, subjectKind, subjectTable}
+use Rattle.profile.specs.Verdict.{verdict, rules, ruleCount, ruleAt, numberAt, breaks, subjects, subjectKind, ruleBroken}
 use Rattle.profile.specs.declared.Verdict.the-variants.{Accepted}
-use Rattle.profile.specs.FirstBroken.{BrokenAt}
 use Rattle.profile.proofs.BoolLaws.{or-false, or-none, or-none-3, or-none-4, and-both}
 use Rattle.profile.proofs.CountingLaws.{any-none, any-howMany, finds, lowest-holds}
 use Rattle.profile.proofs.SumLaws.{any-nowhere}
 use Rattle.profile.proofs.GroupLaws.{any-witness}
-use Rattle.profile.proofs.VerdictLaws.{none-accepted}
+use Rattle.profile.proofs.VerdictLaws.{kept-accepted, rule-kept}
 use Rattle.grouping.specs.steps.Groups.{GroupsGround, ProgrammesKept}
 use Rattle.screen.specs.steps.Values.{setBroken}
 use Rattle.screen.specs.steps.Objects.{objectBroken, objectValues, setsBroken}
@@ -93,83 +92,83 @@ module _ (s : Sheet) (header : headerBroken s ≡ false) (records : RecordsKept 
 
   -- a rule is kept at all its places
   abbrev kept : ℕ → Type 0
-  kept rule = any (λ section. any (breaks s rule section) (subjects s rule section)) 8 ≡ false
+  kept rule = ruleBroken s rule ≡ false
 
   kept-1 : kept 1
-  unfolding any breaks rules subjects subjectKind subjectTable
-  kept-1 = rw (header-parts .0) refl
+  unfolding any breaks subjects subjectKind
+  kept-1 = rule-kept s 1 (rw (header-parts .0) refl)
 
   kept-2 : kept 2
-  unfolding any breaks rules subjects subjectKind subjectTable
-  kept-2 = rw (header-parts .1) refl
+  unfolding any breaks subjects subjectKind
+  kept-2 = rule-kept s 2 (rw (header-parts .1) refl)
 
   kept-3 : kept 3
-  unfolding any breaks rules subjects subjectKind subjectTable
-  kept-3 = rw (header-parts .2, header-parts .3, header-parts .4, header-parts .5, header-parts .6, header-parts .7, header-parts .8) refl
+  unfolding any breaks subjects subjectKind
+  kept-3 = rule-kept s 3 (rw (header-parts .2, header-parts .3, header-parts .4, header-parts .5, header-parts .6, header-parts .7, header-parts .8) refl)
 
   kept-4 : kept 4
-  unfolding any breaks rules subjects subjectKind subjectTable
-  kept-4 = rw (any-nowhere (rule4 s programmes) (count s programmes) (λ k l. programme-at k l .0), any-nowhere (rule4 s contents) (count s contents) (λ k l. content-at k l .0 .0), any-nowhere (rule4 s objects) (count s objects) (λ k l. object-parts k l .0)) refl
+  unfolding any breaks subjects subjectKind
+  kept-4 = rule-kept s 4 (rw (any-nowhere (rule4 s programmes) (count s programmes) (λ k l. programme-at k l .0), any-nowhere (rule4 s contents) (count s contents) (λ k l. content-at k l .0 .0), any-nowhere (rule4 s objects) (count s objects) (λ k l. object-parts k l .0)) refl)
 
   kept-5 : kept 5
-  unfolding any breaks rules subjects subjectKind subjectTable
-  kept-5 = rw (any-nowhere (rule5 s programmes) (count s programmes) (λ k l. programme-at k l .1), any-nowhere (rule5 s contents) (count s contents) (λ k l. content-at k l .0 .1), any-nowhere (rule5 s objects) (count s objects) (λ k l. object-parts k l .1), any-nowhere (rule5 s tracks) (count s tracks) (λ k l. track-at k l)) refl
+  unfolding any breaks subjects subjectKind
+  kept-5 = rule-kept s 5 (rw (any-nowhere (rule5 s programmes) (count s programmes) (λ k l. programme-at k l .1), any-nowhere (rule5 s contents) (count s contents) (λ k l. content-at k l .0 .1), any-nowhere (rule5 s objects) (count s objects) (λ k l. object-parts k l .1), any-nowhere (rule5 s tracks) (count s tracks) (λ k l. track-at k l)) refl)
 
   kept-6 : kept 6
-  unfolding any breaks rules subjects subjectKind subjectTable
-  kept-6 = rw (any-nowhere (rule6 s programmes) (count s programmes) (λ k l. programme-at k l .2), any-nowhere (rule6 s contents) (count s contents) (λ k l. content-at k l .0 .2), any-nowhere (rule6 s objects) (count s objects) (λ k l. object-parts k l .2), any-nowhere (rule6 s packs) (count s packs) (λ k l. pack-at k l .0), any-nowhere (rule6 s valueSets) (count s valueSets) (λ k l. set-at k l .0)) refl
+  unfolding any breaks subjects subjectKind
+  kept-6 = rule-kept s 6 (rw (any-nowhere (rule6 s programmes) (count s programmes) (λ k l. programme-at k l .2), any-nowhere (rule6 s contents) (count s contents) (λ k l. content-at k l .0 .2), any-nowhere (rule6 s objects) (count s objects) (λ k l. object-parts k l .2), any-nowhere (rule6 s packs) (count s packs) (λ k l. pack-at k l .0), any-nowhere (rule6 s valueSets) (count s valueSets) (λ k l. set-at k l .0)) refl)
 
   kept-7 : kept 7
-  unfolding any breaks rules subjects subjectKind subjectTable
-  kept-7 = rw (header-parts .9, header-parts .10, header-parts .11, header-parts .12, header-parts .13) refl
+  unfolding any breaks subjects subjectKind
+  kept-7 = rule-kept s 7 (rw (header-parts .9, header-parts .10, header-parts .11, header-parts .12, header-parts .13) refl)
 
   kept-8 : kept 8
-  unfolding any breaks rules subjects subjectKind subjectTable
-  kept-8 = rw (any-nowhere (rule8 s programmes) (count s programmes) (λ k l. programme-at k l .3), any-nowhere (rule8 s contents) (count s contents) (λ k l. content-at k l .0 .3), any-nowhere (rule8 s objects) (count s objects) (λ k l. object-parts k l .3)) refl
+  unfolding any breaks subjects subjectKind
+  kept-8 = rule-kept s 8 (rw (any-nowhere (rule8 s programmes) (count s programmes) (λ k l. programme-at k l .3), any-nowhere (rule8 s contents) (count s contents) (λ k l. content-at k l .0 .3), any-nowhere (rule8 s objects) (count s objects) (λ k l. object-parts k l .3)) refl)
 
   kept-9 : kept 9
-  unfolding any breaks rules subjects subjectKind subjectTable
-  kept-9 = rw (any-nowhere (rule9 s programmes) (count s programmes) (λ k l. programme-at k l .4), any-nowhere (rule9 s contents) (count s contents) (λ k l. content-at k l .0 .4)) refl
+  unfolding any breaks subjects subjectKind
+  kept-9 = rule-kept s 9 (rw (any-nowhere (rule9 s programmes) (count s programmes) (λ k l. programme-at k l .4), any-nowhere (rule9 s contents) (count s contents) (λ k l. content-at k l .0 .4)) refl)
 
   kept-10 : kept 10
-  unfolding any breaks rules subjects subjectKind subjectTable
-  kept-10 = rw (any-nowhere (rule10 s packs) (count s packs) (λ k l. pack-at k l .1)) refl
+  unfolding any breaks subjects subjectKind
+  kept-10 = rule-kept s 10 (rw (any-nowhere (rule10 s packs) (count s packs) (λ k l. pack-at k l .1)) refl)
 
   kept-11 : kept 11
-  unfolding any breaks rules subjects subjectKind subjectTable
-  kept-11 = rw (any-nowhere (rule11 s objects) (count s objects) (λ k l. object-parts k l .4), any-nowhere (rule11 s valueSets) (count s valueSets) (λ k l. set-once k l)) refl
+  unfolding any breaks subjects subjectKind
+  kept-11 = rule-kept s 11 (rw (any-nowhere (rule11 s objects) (count s objects) (λ k l. object-parts k l .4), any-nowhere (rule11 s valueSets) (count s valueSets) (λ k l. set-once k l)) refl)
 
   kept-13 : kept 13
-  unfolding any breaks rules subjects subjectKind subjectTable
-  kept-13 = rw (any-nowhere (rule13 s objects) (count s objects) (λ k l. object-parts k l .5)) refl
+  unfolding any breaks subjects subjectKind
+  kept-13 = rule-kept s 13 (rw (any-nowhere (rule13 s objects) (count s objects) (λ k l. object-parts k l .5)) refl)
 
   kept-14 : kept 14
-  unfolding any breaks rules subjects subjectKind subjectTable
-  kept-14 = rw (any-nowhere (rule14 s objects) (count s objects) (λ k l. object-parts k l .6)) refl
+  unfolding any breaks subjects subjectKind
+  kept-14 = rule-kept s 14 (rw (any-nowhere (rule14 s objects) (count s objects) (λ k l. object-parts k l .6)) refl)
 
   kept-15 : kept 15
-  unfolding any breaks rules subjects subjectKind subjectTable
-  kept-15 = rw (any-nowhere (rule15 s objects) (count s objects) (λ k l. object-parts k l .7)) refl
+  unfolding any breaks subjects subjectKind
+  kept-15 = rule-kept s 15 (rw (any-nowhere (rule15 s objects) (count s objects) (λ k l. object-parts k l .7)) refl)
 
   kept-16 : kept 16
-  unfolding any breaks rules subjects subjectKind subjectTable
-  kept-16 = rw (any-nowhere (rule16 s objects) (count s objects) (λ k l. object-parts k l .8)) refl
+  unfolding any breaks subjects subjectKind
+  kept-16 = rule-kept s 16 (rw (any-nowhere (rule16 s objects) (count s objects) (λ k l. object-parts k l .8)) refl)
 
   kept-17 : kept 17
-  unfolding any breaks rules subjects subjectKind subjectTable
-  kept-17 = rw (any-nowhere (rule17 s objects) (count s objects) (λ k l. object-parts k l .9), any-nowhere (rule17 s valueSets) (count s valueSets) (λ k l. set-at k l .1)) refl
+  unfolding any breaks subjects subjectKind
+  kept-17 = rule-kept s 17 (rw (any-nowhere (rule17 s objects) (count s objects) (λ k l. object-parts k l .9), any-nowhere (rule17 s valueSets) (count s valueSets) (λ k l. set-at k l .1)) refl)
 
   kept-18 : kept 18
-  unfolding any breaks rules subjects subjectKind subjectTable
-  kept-18 = rw (any-nowhere (rule18 s objects) (count s objects) (λ k l. object-parts k l .10), any-nowhere (rule18 s valueSets) (count s valueSets) (λ k l. set-at k l .2)) refl
+  unfolding any breaks subjects subjectKind
+  kept-18 = rule-kept s 18 (rw (any-nowhere (rule18 s objects) (count s objects) (λ k l. object-parts k l .10), any-nowhere (rule18 s valueSets) (count s valueSets) (λ k l. set-at k l .2)) refl)
 
   kept-19 : kept 19
-  unfolding any breaks rules subjects subjectKind subjectTable
-  kept-19 = rw (any-nowhere (rule19 s objects) (count s objects) (λ k l. object-parts k l .11)) refl
+  unfolding any breaks subjects subjectKind
+  kept-19 = rule-kept s 19 (rw (any-nowhere (rule19 s objects) (count s objects) (λ k l. object-parts k l .11)) refl)
 
   kept-20 : kept 20
-  unfolding any breaks rules subjects subjectKind subjectTable
-  kept-20 = rw (any-nowhere (rule20 s objects) (count s objects) (λ k l. object-parts k l .12)) refl
+  unfolding any breaks subjects subjectKind
+  kept-20 = rule-kept s 20 (rw (any-nowhere (rule20 s objects) (count s objects) (λ k l. object-parts k l .12)) refl)
 
   module _ (once : (p : ℕ) → p < count s programmes → repeats s programmes p contentList ≡ false)
       (whole : any (rule21 s programmes) (count s programmes) ≡ false) (alike : any (rule22 s programmes) (count s programmes) ≡ false)
@@ -179,38 +178,30 @@ module _ (s : Sheet) (header : headerBroken s ≡ false) (records : RecordsKept 
     content-once p l = simp (once p l)
 
     kept-12 : kept 12
-    unfolding any breaks rules subjects subjectKind subjectTable
-    kept-12 = rw (any-nowhere (rule12 s programmes) (count s programmes) content-once, any-nowhere (rule12 s contents) (count s contents) (λ k l. content-at k l .1)) refl
+    unfolding any breaks subjects subjectKind
+    kept-12 = rule-kept s 12 (rw (any-nowhere (rule12 s programmes) (count s programmes) content-once, any-nowhere (rule12 s contents) (count s contents) (λ k l. content-at k l .1)) refl)
 
     kept-21 : kept 21
-    unfolding any breaks rules subjects subjectKind subjectTable
-    kept-21 = rw whole refl
+    unfolding any breaks subjects subjectKind
+    kept-21 = rule-kept s 21 (rw whole refl)
 
     kept-22 : kept 22
-    unfolding any breaks rules subjects subjectKind subjectTable
-    kept-22 = rw alike refl
+    unfolding any breaks subjects subjectKind
+    kept-22 = rule-kept s 22 (rw alike refl)
 
     kept-23 : kept 23
-    unfolding any breaks rules subjects subjectKind subjectTable
-    kept-23 = rw groups refl
+    unfolding any breaks subjects subjectKind
+    kept-23 = rule-kept s 23 (rw groups refl)
 
     kept-24 : kept 24
-    unfolding any breaks rules subjects subjectKind subjectTable
-    kept-24 = rw tracks refl
-
-    all-kept : any (λ i. any (λ section. any (breaks s (suc i) section) (subjects s (suc i) section)) 8) 24 ≡ false
-    unfolding any
-    all-kept = rw (kept-1, kept-2, kept-3, kept-4, kept-5, kept-6, kept-7, kept-8, kept-9, kept-10, kept-11, kept-12, kept-13, kept-14, kept-15, kept-16, kept-17, kept-18, kept-19, kept-20, kept-21, kept-22, kept-23, kept-24) refl
+    unfolding any breaks subjects subjectKind
+    kept-24 = rule-kept s 24 (rw tracks refl)
 
     screened-accepted : verdict s ≡ Accepted
+    unfolding any rules ruleCount ruleAt numberAt
     screened-accepted =
-        none-accepted s
-        (λ rule section k b.
-        let h : suc (rule - 1) ≡ rule = omega (arith, b .from-1) in
-        let e = any-none (λ i. any (λ section. any (breaks s (suc i) section) (subjects s (suc i) section)) 8) 24 all-kept (rule - 1) (omega (arith, b .from-1, b .to-24)) in
-        let f = any-none (λ section. any (breaks s (suc (rule - 1)) section) (subjects s (suc (rule - 1)) section)) 8 e section (b .to-7) in
-        let g = any-none (breaks s (suc (rule - 1)) section) (subjects s (suc (rule - 1)) section) f k (rw (sym h) at (b .subject)) in
-        true≢false (sym (b .broken) ∙ (rw h at g)))
+        kept-accepted s
+        (rw (kept-1, kept-2, kept-3, kept-4, kept-5, kept-6, kept-7, kept-8, kept-9, kept-10, kept-11, kept-12, kept-13, kept-14, kept-15, kept-16, kept-17, kept-18, kept-19, kept-20, kept-21, kept-22, kept-23, kept-24) refl)
 
   -- what the pass over the programmes rests on
   ground : GroupsGround s

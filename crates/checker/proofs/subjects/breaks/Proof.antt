@@ -1,9 +1,9 @@
 -- Each rule by its number. Assumes nothing.
 use mathlib.Core.Path.{refl}
 use Rattle.sheet.specs.Words.{sheetOf}
-use Rattle.profile.specs.Verdict.{breaks, rules}
+use Rattle.profile.specs.Verdict.{breaks, numberAt, ruleAt, ruleCount, rules}
 use Rattle.checker.specs.steps.Tables.{Right, firstTable, secondTable}
-use Rattle.checker.proofs.SubjectLaws.{above, no-rule}
+use Rattle.checker.proofs.SubjectLaws.{no-rule}
 use borrow.Author.Needs.{needs}
 use Rattle.checker.proofs.subjects.breaks.Statement.{statement}
 use Rattle.checker.proofs.subjects.breaks.Tie as tie
@@ -87,109 +87,110 @@ rule24-requires : tie.Need-rule24-requires
 rule24-requires c κs = search needs
 
 returns : tie.Need-returns
-unfolding breaks rules
+unfolding breaks
 returns c = (refl, λ first second. simp (c .rule1 .ensures, c .before .match .keys1))
 
 returns-2 : tie.Need-returns-2
-unfolding breaks rules
+unfolding breaks
 returns-2 c = (refl, λ first second. simp (c .rule2 .ensures, c .before .match .keys2))
 
 returns-3 : tie.Need-returns-3
-unfolding breaks rules
+unfolding breaks
 returns-3 c = (refl, λ first second. simp (c .rule3 .ensures, c .before .match .keys3))
 
 returns-4 : tie.Need-returns-4
-unfolding breaks rules
+unfolding breaks
 returns-4 c = (refl, λ first second. simp (c .rule4 .ensures, c .before .match .keys4))
 
 returns-5 : tie.Need-returns-5
-unfolding breaks rules firstTable secondTable
-returns-5 c = (refl, λ first second. let f : Right (sheetOf (c .before .before .before .before .before .before .args .s .now)) (firstTable 5 (c .before .before .before .before .before .before .args .section)) (c .before .before .before .before .before .before .args .first .now) = rw (c .before .match .keys5) at first in let g : Right (sheetOf (c .before .before .before .before .before .before .args .s .now)) (secondTable 5 (c .before .before .before .before .before .before .args .section)) (c .before .before .before .before .before .before .args .second .now) = rw (c .before .match .keys5) at second in simp (c .rule5 .ensures f g, c .before .match .keys5))
+unfolding breaks firstTable secondTable
+returns-5 c = (refl, λ first second. let k = c .before .match .keys5 in simp (c .rule5 .ensures (rw k at first) (rw k at second), k))
 
 returns-6 : tie.Need-returns-6
-unfolding breaks rules firstTable secondTable
-returns-6 c = (refl, λ first second. let f : Right (sheetOf (c .before .before .before .before .before .before .args .s .now)) (firstTable 6 (c .before .before .before .before .before .before .args .section)) (c .before .before .before .before .before .before .args .first .now) = rw (c .before .match .keys6) at first in simp (c .rule6 .ensures f, c .before .match .keys6))
+unfolding breaks firstTable secondTable
+returns-6 c = (refl, λ first second. let k = c .before .match .keys6 in simp (c .rule6 .ensures (rw k at first), k))
 
 returns-7 : tie.Need-returns-7
-unfolding breaks rules
+unfolding breaks
 returns-7 c = (refl, λ first second. simp (c .rule7 .ensures, c .before .match .keys7))
 
 returns-8 : tie.Need-returns-8
-unfolding breaks rules
+unfolding breaks
 returns-8 c = (refl, λ first second. simp (c .rule8 .ensures, c .before .match .keys8))
 
 returns-9 : tie.Need-returns-9
-unfolding breaks rules firstTable secondTable
-returns-9 c = (refl, λ first second. let f : Right (sheetOf (c .before .before .before .before .before .before .args .s .now)) (firstTable 9 (c .before .before .before .before .before .before .args .section)) (c .before .before .before .before .before .before .args .first .now) = rw (c .before .match .keys9) at first in simp (c .rule9 .ensures f, c .before .match .keys9))
+unfolding breaks firstTable secondTable
+returns-9 c = (refl, λ first second. let k = c .before .match .keys9 in simp (c .rule9 .ensures (rw k at first), k))
 
 returns-10 : tie.Need-returns-10
-unfolding breaks rules
+unfolding breaks
 returns-10 c = (refl, λ first second. simp (c .rule10 .ensures, c .before .match .keys10))
 
 returns-11 : tie.Need-returns-11
-unfolding breaks rules firstTable secondTable
+unfolding breaks firstTable secondTable
 returns-11 c = (refl, λ first second. let f : Right (sheetOf (c .before .before .before .before .before .before .args .s .now)) (firstTable 11 (c .before .before .before .before .before .before .args .section)) (c .before .before .before .before .before .before .args .first .now) = rw (c .before .match .keys11) at first in simp (c .rule11 .ensures (λ e. rw e at f) (λ e. rw e at f), c .before .match .keys11))
 
 returns-12 : tie.Need-returns-12
-unfolding breaks rules firstTable secondTable
+unfolding breaks firstTable secondTable
 returns-12 c = (refl, λ first second. let f : Right (sheetOf (c .before .before .before .before .before .before .args .s .now)) (firstTable 12 (c .before .before .before .before .before .before .args .section)) (c .before .before .before .before .before .before .args .first .now) = rw (c .before .match .keys12) at first in simp (c .rule12 .ensures (λ e. rw e at f) (λ e. rw e at f), c .before .match .keys12))
 
 returns-13 : tie.Need-returns-13
-unfolding breaks rules
+unfolding breaks
 returns-13 c = (refl, λ first second. simp (c .rule13 .ensures, c .before .match .keys13))
 
 returns-14 : tie.Need-returns-14
-unfolding breaks rules firstTable secondTable
-returns-14 c = (refl, λ first second. let f : Right (sheetOf (c .before .before .before .before .before .before .args .s .now)) (firstTable 14 (c .before .before .before .before .before .before .args .section)) (c .before .before .before .before .before .before .args .first .now) = rw (c .before .match .keys14) at first in let g : Right (sheetOf (c .before .before .before .before .before .before .args .s .now)) (secondTable 14 (c .before .before .before .before .before .before .args .section)) (c .before .before .before .before .before .before .args .second .now) = rw (c .before .match .keys14) at second in simp (c .rule14 .ensures f g, c .before .match .keys14))
+unfolding breaks firstTable secondTable
+returns-14 c = (refl, λ first second. let k = c .before .match .keys14 in simp (c .rule14 .ensures (rw k at first) (rw k at second), k))
 
 returns-15 : tie.Need-returns-15
-unfolding breaks rules firstTable secondTable
-returns-15 c = (refl, λ first second. let f : Right (sheetOf (c .before .before .before .before .before .before .args .s .now)) (firstTable 15 (c .before .before .before .before .before .before .args .section)) (c .before .before .before .before .before .before .args .first .now) = rw (c .before .match .keys15) at first in simp (c .rule15 .ensures f, c .before .match .keys15))
+unfolding breaks firstTable secondTable
+returns-15 c = (refl, λ first second. let k = c .before .match .keys15 in simp (c .rule15 .ensures (rw k at first), k))
 
 returns-16 : tie.Need-returns-16
-unfolding breaks rules
+unfolding breaks
 returns-16 c = (refl, λ first second. simp (c .rule16 .ensures, c .before .match .keys16))
 
 returns-17 : tie.Need-returns-17
-unfolding breaks rules firstTable secondTable
-returns-17 c = (refl, λ first second. let f : Right (sheetOf (c .before .before .before .before .before .before .args .s .now)) (firstTable 17 (c .before .before .before .before .before .before .args .section)) (c .before .before .before .before .before .before .args .first .now) = rw (c .before .match .keys17) at first in simp (c .rule17 .ensures f, c .before .match .keys17))
+unfolding breaks firstTable secondTable
+returns-17 c = (refl, λ first second. let k = c .before .match .keys17 in simp (c .rule17 .ensures (rw k at first), k))
 
 returns-18 : tie.Need-returns-18
-unfolding breaks rules firstTable secondTable
-returns-18 c = (refl, λ first second. let f : Right (sheetOf (c .before .before .before .before .before .before .args .s .now)) (firstTable 18 (c .before .before .before .before .before .before .args .section)) (c .before .before .before .before .before .before .args .first .now) = rw (c .before .match .keys18) at first in simp (c .rule18 .ensures f, c .before .match .keys18))
+unfolding breaks firstTable secondTable
+returns-18 c = (refl, λ first second. let k = c .before .match .keys18 in simp (c .rule18 .ensures (rw k at first), k))
 
 returns-19 : tie.Need-returns-19
-unfolding breaks rules firstTable secondTable
-returns-19 c = (refl, λ first second. let f : Right (sheetOf (c .before .before .before .before .before .before .args .s .now)) (firstTable 19 (c .before .before .before .before .before .before .args .section)) (c .before .before .before .before .before .before .args .first .now) = rw (c .before .match .keys19) at first in let g : Right (sheetOf (c .before .before .before .before .before .before .args .s .now)) (secondTable 19 (c .before .before .before .before .before .before .args .section)) (c .before .before .before .before .before .before .args .second .now) = rw (c .before .match .keys19) at second in simp (c .rule19 .ensures f g, c .before .match .keys19))
+unfolding breaks firstTable secondTable
+returns-19 c = (refl, λ first second. let k = c .before .match .keys19 in simp (c .rule19 .ensures (rw k at first) (rw k at second), k))
 
 returns-20 : tie.Need-returns-20
-unfolding breaks rules
+unfolding breaks
 returns-20 c = (refl, λ first second. simp (c .rule20 .ensures, c .before .match .keys20))
 
 same-length : tie.Need-same-length
 same-length c = c .before .before .before .before .mark-included .ensures .0
 
 returns-21 : tie.Need-returns-21
-unfolding breaks rules
+unfolding breaks
 returns-21 c = (c .before .before .before .before .mark-included .ensures .0, λ first second. simp (c .rule21 .ensures (c .before .before .before .before .mark-included .ensures .1), c .before .before .before .before .before .before .match .keys21))
 
 same-length-2 : tie.Need-same-length-2
 same-length-2 c = c .before .before .before .before .mark-included2 .ensures .0
 
 returns-22 : tie.Need-returns-22
-unfolding breaks rules firstTable secondTable
+unfolding breaks firstTable secondTable
 returns-22 c = (c .before .before .before .before .mark-included2 .ensures .0, λ first second. let f : Right (sheetOf (c .before .before .before .before .before .before .before .before .before .before .before .args .s .now)) (firstTable 22 (c .before .before .before .before .before .before .before .before .before .before .before .args .section)) (c .before .before .before .before .before .before .before .before .before .before .before .args .first .now) = rw (c .before .before .before .before .before .before .match .keys22) at first in let g : Right (sheetOf (c .before .before .before .before .before .before .before .before .before .before .before .args .s .now)) (secondTable 22 (c .before .before .before .before .before .before .before .before .before .before .before .args .section)) (c .before .before .before .before .before .before .before .before .before .before .before .args .second .now) = rw (c .before .before .before .before .before .before .match .keys22) at second in simp (c .rule22 .ensures f g (c .before .before .before .before .mark-included2 .ensures .1), c .before .before .before .before .before .before .match .keys22))
 
 returns-23 : tie.Need-returns-23
-unfolding breaks rules firstTable secondTable
-returns-23 c = (refl, λ first second. let f : Right (sheetOf (c .before .before .before .before .before .before .args .s .now)) (firstTable 23 (c .before .before .before .before .before .before .args .section)) (c .before .before .before .before .before .before .args .first .now) = rw (c .before .match .keys23) at first in let g : Right (sheetOf (c .before .before .before .before .before .before .args .s .now)) (secondTable 23 (c .before .before .before .before .before .before .args .section)) (c .before .before .before .before .before .before .args .second .now) = rw (c .before .match .keys23) at second in simp (c .rule23 .ensures f g, c .before .match .keys23))
+unfolding breaks firstTable secondTable
+returns-23 c = (refl, λ first second. let k = c .before .match .keys23 in simp (c .rule23 .ensures (rw k at first) (rw k at second), k))
 
 returns-24 : tie.Need-returns-24
-unfolding breaks rules firstTable secondTable
-returns-24 c = (refl, λ first second. let f : Right (sheetOf (c .before .before .before .before .before .before .args .s .now)) (firstTable 24 (c .before .before .before .before .before .before .args .section)) (c .before .before .before .before .before .before .args .first .now) = rw (c .before .match .keys24) at first in let g : Right (sheetOf (c .before .before .before .before .before .before .args .s .now)) (secondTable 24 (c .before .before .before .before .before .before .args .section)) (c .before .before .before .before .before .before .args .second .now) = rw (c .before .match .keys24) at second in simp (c .rule24 .ensures f g, c .before .match .keys24))
+unfolding breaks firstTable secondTable
+returns-24 c = (refl, λ first second. let k = c .before .match .keys24 in simp (c .rule24 .ensures (rw k at first) (rw k at second), k))
 
 returns-25 : tie.Need-returns-25
-returns-25 c = (refl, λ first second. no-rule _ _ _ _ (λ h. above _ 24 h (c .match .rest)))
+unfolding numberAt ruleAt ruleCount rules
+returns-25 c = (refl, λ first second. no-rule _ _ _ _ (c .match .rest))
 
 pub breaks-spec : {M : Type 1} → statement M
 breaks-spec =

@@ -18,7 +18,7 @@ unfolding subjectsOf
 returns-2 c = simp (c .before .match .keys2, c .count .ensures)
 
 returns-3 : tie.Need-returns-3
-returns-3 c = other-kind _ _ _ (c .match .rest)
+returns-3 c = other-kind _ _ _ (c .match .rest .0 .1) (c .match .rest .1)
 
 pub subjects-spec : {M : Type 1} → statement M
 subjects-spec = tie.close (tie.spec count-requires returns returns-2 returns-3)
