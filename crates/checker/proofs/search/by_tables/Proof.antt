@@ -43,7 +43,12 @@ broken-below-requires : tie.Need-broken-below-requires
 broken-below-requires c κs = c .before .before .before .before .before .before .before .before .before .before .before .before .before .pre
 
 returns-2 : tie.Need-returns-2
-returns-2 c = let f : Right (sheetOf (c .before .before .before .before .before .before .before .before .before .before .before .before .before .before .before .args .s .now)) (firstTable (c .before .before .before .before .before .before .before .before .before .before .before .before .before .before .before .args .rule) (c .before .before .before .before .before .before .before .before .before .before .before .before .before .before .before .args .section)) (c .before .before .before .before .before .before .before .before .before .before .fill-table .last .1 .1 .0) = rw (c .before .before .before .before .before .before .before .before .before .before .before .before .first-table .ensures) at (c .before .before .before .before .before .before .before .before .before .before .fill-table .ensures .1 (λ x l. nought 6552 x)) in let g : Right (sheetOf (c .before .before .before .before .before .before .before .before .before .before .before .before .before .before .before .args .s .now)) (secondTable (c .before .before .before .before .before .before .before .before .before .before .before .before .before .before .before .args .rule) (c .before .before .before .before .before .before .before .before .before .before .before .before .before .before .before .args .section)) (c .before .before .before .before .before .before .fill-table2 .last .1 .1 .0) = rw (c .before .before .before .before .before .before .before .before .second-table .ensures) at (c .before .before .before .before .before .before .fill-table2 .ensures .1 (λ x l. nought 2048 x)) in c .before .broken-below .ensures .1 f g
+returns-2 c =
+    let second = c .before .before .before .before .before .before in
+    let first = second .before .before .before .before in
+    let f = rw (first .before .before .first-table .ensures) at (first .fill-table .ensures .1 (λ x l. nought 6552 x)) in
+    let g = rw (second .before .before .second-table .ensures) at (second .fill-table2 .ensures .1 (λ x l. nought 2048 x)) in
+    c .before .broken-below .ensures .1 f g
 
 pub by-tables-spec : {M : Type 1} → statement M
 by-tables-spec =

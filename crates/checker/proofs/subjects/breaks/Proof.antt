@@ -171,14 +171,19 @@ same-length c = c .before .before .before .before .mark-included .ensures .0
 
 returns-21 : tie.Need-returns-21
 unfolding breaks
-returns-21 c = (c .before .before .before .before .mark-included .ensures .0, λ first second. simp (c .rule21 .ensures (c .before .before .before .before .mark-included .ensures .1), c .before .before .before .before .before .before .match .keys21))
+returns-21 c =
+    let b = c .before .before .before .before in
+    (b .mark-included .ensures .0, λ first second. simp (c .rule21 .ensures (b .mark-included .ensures .1), b .before .before .match .keys21))
 
 same-length-2 : tie.Need-same-length-2
 same-length-2 c = c .before .before .before .before .mark-included2 .ensures .0
 
 returns-22 : tie.Need-returns-22
 unfolding breaks firstTable secondTable
-returns-22 c = (c .before .before .before .before .mark-included2 .ensures .0, λ first second. let f : Right (sheetOf (c .before .before .before .before .before .before .before .before .before .before .before .args .s .now)) (firstTable 22 (c .before .before .before .before .before .before .before .before .before .before .before .args .section)) (c .before .before .before .before .before .before .before .before .before .before .before .args .first .now) = rw (c .before .before .before .before .before .before .match .keys22) at first in let g : Right (sheetOf (c .before .before .before .before .before .before .before .before .before .before .before .args .s .now)) (secondTable 22 (c .before .before .before .before .before .before .before .before .before .before .before .args .section)) (c .before .before .before .before .before .before .before .before .before .before .before .args .second .now) = rw (c .before .before .before .before .before .before .match .keys22) at second in simp (c .rule22 .ensures f g (c .before .before .before .before .mark-included2 .ensures .1), c .before .before .before .before .before .before .match .keys22))
+returns-22 c =
+    let b = c .before .before .before .before in
+    let k = b .before .before .match .keys22 in
+    (b .mark-included2 .ensures .0, λ first second. simp (c .rule22 .ensures (rw k at first) (rw k at second) (b .mark-included2 .ensures .1), k))
 
 returns-23 : tie.Need-returns-23
 unfolding breaks firstTable secondTable
