@@ -20,13 +20,12 @@ use sheet::layout::reference;
 ghost use Prim.Native.Nat.{_+_, _<_, _≤_};
 ghost use lib.Dec.{eqb};
 ghost use lib.ListN.{getD, length};
-ghost use mathlib.Core.Bool.{cond};
+ghost use mathlib.Core.Bool.{cond, false, true};
 ghost use mathlib.Core.Path.{_≡_};
-ghost use Rattle.profile.specs.Counting.{howMany, sum};
+ghost use Rattle.profile.specs.Counting.{sum};
 ghost use Rattle.sheet.specs.Words.{sheetOf};
-ghost use Rattle.tables.specs.steps.Coverage.{Reaching, begin, behind, cover, edge, namedAt};
-ghost use Rattle.tables.specs.steps.Marks.{Standing, marked, namedBy, repeat};
-ghost use Rattle.tables.specs.steps.Namings.{namers};
+ghost use Rattle.tables.specs.steps.Coverage.{Reaching, Tallied, begin, behind, cover, edge, namedAt};
+ghost use Rattle.tables.specs.steps.Marks.{Filled, MarkedTimes, NamingsCounted, Standing, marked, repeat};
 ghost use Rattle.tables.specs.declared.Mark.the-variants.{Count};
 
 // The index at which a record's run begins.
@@ -116,7 +115,7 @@ fn edge(s: &[u8], kind: Naming, last: bool, q: u16) -> u32
 // Adds 1 at an index, where there is such a one.
 fn add_at(table: &mut [u16], x: u32)
     requires { ⌜ (x < length (now table) → getD (now table) x 0 < 65535) ⌝ }
-    ensures { λ r. ⌜ (length (now (table .exit)) ≡ length (now (table .entry))) × Standing (λ z. cond (eqb x z) (getD (now (table .entry)) z 0 + 1) (getD (now (table .entry)) z 0)) (now (table .exit)) ⌝ }
+    ensures { λ r. ⌜ Filled (λ z. cond (eqb x z) (getD (now (table .entry)) z 0 + 1) (getD (now (table .entry)) z 0)) (now (table .entry)) (now (table .exit)) ⌝ }
 {
     let i = x as usize;
     if i < table.len() {
@@ -127,7 +126,7 @@ fn add_at(table: &mut [u16], x: u32)
 // Counts for each index how many runs begin there, or end before it, in a table of noughts.
 fn tally(s: &[u8], kind: Naming, last: bool, table: &mut [u16])
     requires { ⌜ Standing (λ x. 0) (now table) ⌝ }
-    ensures { λ r. ⌜ (length (now (table .exit)) ≡ length (now (table .entry))) × Standing (λ y. howMany (λ q. eqb (edge (sheetOf (now (s .entry))) kind last q) y) (namers (sheetOf (now (s .entry))) kind)) (now (table .exit)) ⌝ }
+    ensures { λ r. ⌜ (length (now (table .exit)) ≡ length (now (table .entry))) × Tallied (sheetOf (now (s .entry))) kind last (now (table .exit)) ⌝ }
 {
     let n = namers(s, kind);
     let mut q: u16 = 0;
@@ -152,7 +151,7 @@ fn counted_on(c: u16, times: u32) -> u16
 
 // Counts a record so many times.
 fn count_times(table: &mut [u16], x: u16, times: u32)
-    ensures { λ r. ⌜ (length (now (table .exit)) ≡ length (now (table .entry))) × Standing (λ z. cond (eqb x z) (repeat (marked Count) times (getD (now (table .entry)) z 0)) (getD (now (table .entry)) z 0)) (now (table .exit)) ⌝ }
+    ensures { λ r. ⌜ Filled (λ z. cond (eqb x z) (repeat (marked Count) times (getD (now (table .entry)) z 0)) (getD (now (table .entry)) z 0)) (now (table .entry)) (now (table .exit)) ⌝ }
 {
     let i = x as usize;
     if i < table.len() {
@@ -162,8 +161,8 @@ fn count_times(table: &mut [u16], x: u16, times: u32)
 
 // Counts what the indices below m name, each as often as runs cover it: those that began and have not ended.
 fn count_indices(s: &[u8], kind: Naming, m: u16, begins: &[u16], ends: &[u16], table: &mut [u16])
-    requires { ⌜ (m ≤ length (now begins)) × (m ≤ length (now ends)) × Standing (λ y. howMany (λ q. eqb (begin (sheetOf (now s)) kind q) y) (namers (sheetOf (now s)) kind)) (now begins) × Standing (λ y. howMany (λ q. eqb (behind (sheetOf (now s)) kind q) y) (namers (sheetOf (now s)) kind)) (now ends) ⌝ }
-    ensures { λ r. ⌜ (length (now (table .exit)) ≡ length (now (table .entry))) × Standing (λ x. repeat (marked Count) (sum (λ y. cond (eqb (namedAt (sheetOf (now (s .entry))) kind y) x) (cover (sheetOf (now (s .entry))) kind y) 0) m) (getD (now (table .entry)) x 0)) (now (table .exit)) ⌝ }
+    requires { ⌜ (m ≤ length (now begins)) × (m ≤ length (now ends)) × Tallied (sheetOf (now s)) kind false (now begins) × Tallied (sheetOf (now s)) kind true (now ends) ⌝ }
+    ensures { λ r. ⌜ MarkedTimes Count (λ x. sum (λ y. cond (eqb (namedAt (sheetOf (now (s .entry))) kind y) x) (cover (sheetOf (now (s .entry))) kind y) 0) m) (now (table .entry)) (now (table .exit)) ⌝ }
 {
     let mut begun: u32 = 0;
     let mut ended: u32 = 0;
@@ -179,7 +178,7 @@ fn count_indices(s: &[u8], kind: Naming, m: u16, begins: &[u16], ends: &[u16], t
 // Counts by the cover of the indices below m.
 fn count_cover(s: &[u8], kind: Naming, m: u16, table: &mut [u16])
     requires { ⌜ (m ≤ 32768) × Reaching (sheetOf (now s)) kind m ⌝ }
-    ensures { λ r. ⌜ (length (now (table .exit)) ≡ length (now (table .entry))) × Standing (λ x. repeat (marked Count) (namedBy (sheetOf (now (s .entry))) kind x) (getD (now (table .entry)) x 0)) (now (table .exit)) ⌝ }
+    ensures { λ r. ⌜ NamingsCounted (sheetOf (now (s .entry))) kind (now (table .entry)) (now (table .exit)) ⌝ }
 {
     let mut begins: [u16; 32768] = [0; 32768];
     tally(s, kind, false, &mut begins);
@@ -190,7 +189,7 @@ fn count_cover(s: &[u8], kind: Naming, m: u16, table: &mut [u16])
 
 // Counts how often each record is named. No list of a sheet that keeps rule 4 reaches further than the tables.
 pub fn count_covered(s: &[u8], kind: Naming, table: &mut [u16])
-    ensures { λ r. ⌜ (length (now (table .exit)) ≡ length (now (table .entry))) × Standing (λ x. repeat (marked Count) (namedBy (sheetOf (now (s .entry))) kind x) (getD (now (table .entry)) x 0)) (now (table .exit)) ⌝ }
+    ensures { λ r. ⌜ NamingsCounted (sheetOf (now (s .entry))) kind (now (table .entry)) (now (table .exit)) ⌝ }
 {
     if crowded(s, kind) {
         let m = reach(s, kind);

@@ -2,7 +2,8 @@
 -- of its span. How many runs cover an index. Assumes nothing.
 use Prim.Native.Nat.{ℕ, _+_, _<_, _≤_}
 use mathlib.Core.Bool.{Bool, cond, _&&_}
-use lib.Dec.{leb, ltb}
+use mathlib.Core.List.{List}
+use lib.Dec.{eqb, leb, ltb}
 use Rattle.sheet.specs.Words.{Sheet}
 use Rattle.sheet.specs.Layout.{field, first, reference}
 use Rattle.sheet.specs.Fields.{programmes, contents, objects, contentList, setList, contentObject, childList, complementList, setSpan}
@@ -10,6 +11,7 @@ use Rattle.profile.specs.Counting.{howMany}
 use Rattle.tables.specs.declared.Naming.{Naming}
 use Rattle.tables.specs.declared.Naming.the-variants.{ContentObjects, Children, Complements, ContentLists, Included, SetLists, SetSpans}
 use Rattle.tables.specs.steps.Namings.{namers, items}
+use Rattle.tables.specs.steps.Marks.{Standing}
 
 -- the index at which a record's run begins
 abbrev pub begin : Sheet → Naming → ℕ → ℕ
@@ -38,6 +40,10 @@ behind s kind q = begin s kind q + items s kind q
 -- one edge of the run
 abbrev pub edge : Sheet → Naming → Bool → ℕ → ℕ
 edge s kind last q = cond last (behind s kind q) (begin s kind q)
+
+-- the table has for each index how many runs have it as that edge
+abbrev pub Tallied : Sheet → Naming → Bool → List ℕ → Type 0
+Tallied s kind last t = Standing (λ y. howMany (λ q. eqb (edge s kind last q) y) (namers s kind)) t
 
 -- all runs end at m or before
 abbrev pub Reaching : Sheet → Naming → ℕ → Type 0
