@@ -23,7 +23,13 @@ count-requires : tie.Need-count-requires Inv-loop μ-loop
 count-requires c κs = search needs
 
 loop-holds : tie.Need-loop-holds Inv-loop μ-loop
-loop-holds c = (omega (arith, c .count .ensures), refl, rw (c .count .ensures) (next-start (count (sheetOf (c .before .before .before .args .s .now)) references) (referenceTest (sheetOf (c .before .before .before .args .s .now)) (c .before .before .before .args .test)) (count (sheetOf (c .before .before .before .args .s .now)) references) (omega arith)), rw (c .count .ensures) (filled-start (Next (referenceTest (sheetOf (c .before .before .before .args .s .now)) (c .before .before .before .args .test)) (count (sheetOf (c .before .before .before .args .s .now)) references)) (count (sheetOf (c .before .before .before .args .s .now)) references) (c .before .before .before .args .table .now)))
+loop-holds c =
+    let a = c .before .before .before .args in let s = sheetOf (a .s .now) in (
+      omega (arith, c .count .ensures),
+      refl,
+      rw (c .count .ensures) (next-start (count s references) (referenceTest s (a .test)) (count s references) (omega arith)),
+      rw (c .count .ensures) (filled-start (Next (referenceTest s (a .test)) (count s references)) (count s references) (a .table .now)),
+    )
 
 sub-y : tie.Need-sub-y Inv-loop μ-loop
 sub-y c = search needs
@@ -44,11 +50,20 @@ loop-less : tie.Need-loop-less Inv-loop μ-loop
 loop-less c = search needs
 
 loop-again : tie.Need-loop-again Inv-loop μ-loop
-loop-again c = let x = c .before .before .before .before .before .before .before .loop .x - 1 in
-    let e : suc x ≡ c .before .before .before .before .before .before .before .loop .x = omega (arith, c .before .before .before .before .before .before .loop-test .taken) in
-    let v : c .before .before .before .before .here-or .result ≡ cond ((referenceTest (sheetOf (c .before .before .before .before .before .before .before .before .before .before .before .args .s .now)) (c .before .before .before .before .before .before .before .before .before .before .before .args .test)) x) x (c .before .before .before .before .before .before .before .loop .next) = c .before .before .before .before .here-or .ensures ∙ ap (λ (b : Bool). cond b x (c .before .before .before .before .before .before .before .loop .next)) (c .before .before .before .before .before .reference-test .ensures) in
-    let n : Next (referenceTest (sheetOf (c .before .before .before .before .before .before .before .before .before .before .before .args .s .now)) (c .before .before .before .before .before .before .before .before .before .before .before .args .test)) (count (sheetOf (c .before .before .before .before .before .before .before .before .before .before .before .args .s .now)) references) x (c .before .before .before .before .here-or .result) = rw v (next-more (count (sheetOf (c .before .before .before .before .before .before .before .before .before .before .before .args .s .now)) references) x (omega (arith, c .before .before .before .before .before .before .before .loop .inv .0)) (referenceTest (sheetOf (c .before .before .before .before .before .before .before .before .before .before .before .args .s .now)) (c .before .before .before .before .before .before .before .before .before .before .before .args .test)) (c .before .before .before .before .before .before .before .loop .next) (rw e (c .before .before .before .before .before .before .before .loop .inv .2))) in
-    (omega (arith, c .before .before .before .before .before .before .before .loop .inv .0), c .before .before .mark-at .ensures .0 ∙ c .before .before .before .before .before .before .before .loop .inv .1, n, filled-more (Next (referenceTest (sheetOf (c .before .before .before .before .before .before .before .before .before .before .before .args .s .now)) (c .before .before .before .before .before .before .before .before .before .before .before .args .test)) (count (sheetOf (c .before .before .before .before .before .before .before .before .before .before .before .args .s .now)) references)) (count (sheetOf (c .before .before .before .before .before .before .before .before .before .before .before .args .s .now)) references) x (c .before .before .before .before .here-or .result) (c .before .before .before .before .before .before .before .loop .table) (c .before .before .mark-at .last .0) (c .before .before .mark-at .ensures .0) (rw e (c .before .before .before .before .before .before .before .loop .inv .3)) n (c .before .before .mark-at .ensures .1))
+loop-again c =
+    let a = c .before .before .before .before .before .before .before .before .before .before .before .args in
+    let l = c .before .before .before .before .before .before .before .loop in let test = c .before .before .before .before .before .before .loop-test in
+    let reference-test = c .before .before .before .before .before .reference-test in let here-or = c .before .before .before .before .here-or in
+    let mark-at = c .before .before .mark-at in let s = sheetOf (a .s .now) in
+    let x = l .x - 1 in
+    let e : suc x ≡ l .x = omega (arith, test .taken) in
+    let v : here-or .result ≡ cond ((referenceTest s (a .test)) x) x (l .next) = here-or .ensures ∙ ap (λ (b : Bool). cond b x (l .next)) (reference-test .ensures) in
+    let n : Next (referenceTest s (a .test)) (count s references) x (here-or .result) = rw v (next-more (count s references) x (omega (arith, l .inv .0)) (referenceTest s (a .test)) (l .next) (rw e (l .inv .2))) in (
+      omega (arith, l .inv .0),
+      mark-at .ensures .0 ∙ l .inv .1,
+      n,
+      filled-more (Next (referenceTest s (a .test)) (count s references)) (count s references) x (here-or .result) (l .table) (mark-at .last .0) (mark-at .ensures .0) (rw e (l .inv .3)) n (mark-at .ensures .1),
+    )
 
 same-length : tie.Need-same-length Inv-loop μ-loop
 same-length c = c .before .loop .inv .1

@@ -24,7 +24,15 @@ count-requires : tie.Need-count-requires Inv-loop μ-loop
 count-requires c κs = search needs
 
 loop-holds : tie.Need-loop-holds Inv-loop μ-loop
-loop-holds c = (omega (arith, c .count .ensures), refl, length-replicate {A = ℕ} 65536 65535, λ z l. rw (getD-replicate {A = ℕ} 65536 z 65535 0 l, c .count .ensures) (next-start (count (sheetOf (c .before .before .before .args .s .now)) references) (λ y. eqb ((referenceKey (sheetOf (c .before .before .before .args .s .now)) (c .before .before .before .args .key)) y) z) 65535 (omega (arith, c .count .ok, c .count .ensures))), rw (c .count .ensures) (repeat-start (count (sheetOf (c .before .before .before .args .s .now)) references) (referenceKey (sheetOf (c .before .before .before .args .s .now)) (c .before .before .before .args .key)) 65535 (omega (arith, c .count .ok, c .count .ensures))), rw (c .count .ensures) (filled-start (Repeat (referenceKey (sheetOf (c .before .before .before .args .s .now)) (c .before .before .before .args .key)) (count (sheetOf (c .before .before .before .args .s .now)) references)) (count (sheetOf (c .before .before .before .args .s .now)) references) (c .before .before .before .args .table .now)))
+loop-holds c =
+    let a = c .before .before .before .args in let s = sheetOf (a .s .now) in (
+      omega (arith, c .count .ensures),
+      refl,
+      length-replicate {A = ℕ} 65536 65535,
+      λ z l. rw (getD-replicate {A = ℕ} 65536 z 65535 0 l, c .count .ensures) (next-start (count s references) (λ y. eqb ((referenceKey s (a .key)) y) z) 65535 (omega (arith, c .count .ok, c .count .ensures))),
+      rw (c .count .ensures) (repeat-start (count s references) (referenceKey s (a .key)) 65535 (omega (arith, c .count .ok, c .count .ensures))),
+      rw (c .count .ensures) (filled-start (Repeat (referenceKey s (a .key)) (count s references)) (count s references) (a .table .now)),
+    )
 
 sub-y : tie.Need-sub-y Inv-loop μ-loop
 sub-y c = search needs
@@ -51,13 +59,25 @@ loop-less : tie.Need-loop-less Inv-loop μ-loop
 loop-less c = search needs
 
 loop-again : tie.Need-loop-again Inv-loop μ-loop
-loop-again c = let x = c .before .before .before .before .before .before .before .before .before .before .loop .x - 1 in
-    let e : suc x ≡ c .before .before .before .before .before .before .before .before .before .before .loop .x = omega (arith, c .before .before .before .before .before .before .before .before .before .loop-test .taken) in
-    let i : suc x ≤ (count (sheetOf (c .before .before .before .before .before .before .before .before .before .before .before .before .before .before .args .s .now)) references) = omega (arith, c .before .before .before .before .before .before .before .before .before .before .loop .inv .0) in
-    let k : c .before .before .before .before .before .before .keep .result ≡ (getD (c .before .before .before .before .before .before .before .before .before .before .loop .later) ((referenceKey (sheetOf (c .before .before .before .before .before .before .before .before .before .before .before .before .before .before .args .s .now)) (c .before .before .before .before .before .before .before .before .before .before .before .before .before .before .args .key)) x) 0) = c .before .before .before .before .before .before .keep .ensures .1 ∙ ap (λ (z : ℕ). getD (c .before .before .before .before .before .before .before .before .before .before .loop .later) z 0) (c .before .before .before .before .before .before .before .reference-key .ensures) in
-    let v : c .before .before .before .before .lower .result ≡ cond (ltb (getD (c .before .before .before .before .before .before .before .before .before .before .loop .later) ((referenceKey (sheetOf (c .before .before .before .before .before .before .before .before .before .before .before .before .before .before .args .s .now)) (c .before .before .before .before .before .before .before .before .before .before .before .before .before .before .args .key)) x) 0) (c .before .before .before .before .before .before .before .before .before .before .loop .next)) (getD (c .before .before .before .before .before .before .before .before .before .before .loop .later) ((referenceKey (sheetOf (c .before .before .before .before .before .before .before .before .before .before .before .before .before .before .args .s .now)) (c .before .before .before .before .before .before .before .before .before .before .before .before .before .before .args .key)) x) 0) (c .before .before .before .before .before .before .before .before .before .before .loop .next) = c .before .before .before .before .lower .ensures ∙ ap (λ (w : ℕ). cond (ltb w (c .before .before .before .before .before .before .before .before .before .before .loop .next)) w (c .before .before .before .before .before .before .before .before .before .before .loop .next)) k in
-    let n : Repeat (referenceKey (sheetOf (c .before .before .before .before .before .before .before .before .before .before .before .before .before .before .args .s .now)) (c .before .before .before .before .before .before .before .before .before .before .before .before .before .before .args .key)) (count (sheetOf (c .before .before .before .before .before .before .before .before .before .before .before .before .before .before .args .s .now)) references) x (c .before .before .before .before .lower .result) = rw v (repeat-more (count (sheetOf (c .before .before .before .before .before .before .before .before .before .before .before .before .before .before .args .s .now)) references) x i (referenceKey (sheetOf (c .before .before .before .before .before .before .before .before .before .before .before .before .before .before .args .s .now)) (c .before .before .before .before .before .before .before .before .before .before .before .before .before .before .args .key)) (getD (c .before .before .before .before .before .before .before .before .before .before .loop .later) ((referenceKey (sheetOf (c .before .before .before .before .before .before .before .before .before .before .before .before .before .before .args .s .now)) (c .before .before .before .before .before .before .before .before .before .before .before .before .before .before .args .key)) x) 0) (c .before .before .before .before .before .before .before .before .before .before .loop .next) (rw e (c .before .before .before .before .before .before .before .before .before .before .loop .inv .3 ((referenceKey (sheetOf (c .before .before .before .before .before .before .before .before .before .before .before .before .before .before .args .s .now)) (c .before .before .before .before .before .before .before .before .before .before .before .before .before .before .args .key)) x) (omega (arith, c .before .before .before .before .before .before .before .reference-key .ok, c .before .before .before .before .before .before .before .reference-key .ensures)))) (rw e (c .before .before .before .before .before .before .before .before .before .before .loop .inv .4))) in
-    (omega (arith, c .before .before .before .before .before .before .before .before .before .before .loop .inv .0), c .before .before .mark-at .ensures .0 ∙ c .before .before .before .before .before .before .before .before .before .before .loop .inv .1, c .before .before .before .before .before .before .keep .ensures .0, λ z l. rw (c .before .before .before .before .before .before .keep .ensures .2 z (rw (c .before .before .before .before .before .before .keep .ensures .0) l) ∙ ap (λ (w : ℕ). cond (eqb w z) x (getD (c .before .before .before .before .before .before .before .before .before .before .loop .later) z 0)) (c .before .before .before .before .before .before .before .reference-key .ensures)) (next-more (count (sheetOf (c .before .before .before .before .before .before .before .before .before .before .before .before .before .before .args .s .now)) references) x i (λ y. eqb ((referenceKey (sheetOf (c .before .before .before .before .before .before .before .before .before .before .before .before .before .before .args .s .now)) (c .before .before .before .before .before .before .before .before .before .before .before .before .before .before .args .key)) y) z) (getD (c .before .before .before .before .before .before .before .before .before .before .loop .later) z 0) (rw e (c .before .before .before .before .before .before .before .before .before .before .loop .inv .3 z l))), n, filled-more (Repeat (referenceKey (sheetOf (c .before .before .before .before .before .before .before .before .before .before .before .before .before .before .args .s .now)) (c .before .before .before .before .before .before .before .before .before .before .before .before .before .before .args .key)) (count (sheetOf (c .before .before .before .before .before .before .before .before .before .before .before .before .before .before .args .s .now)) references)) (count (sheetOf (c .before .before .before .before .before .before .before .before .before .before .before .before .before .before .args .s .now)) references) x (c .before .before .before .before .lower .result) (c .before .before .before .before .before .before .before .before .before .before .loop .table) (c .before .before .mark-at .last .0) (c .before .before .mark-at .ensures .0) (rw e (c .before .before .before .before .before .before .before .before .before .before .loop .inv .5)) n (c .before .before .mark-at .ensures .1))
+loop-again c =
+    let a = c .before .before .before .before .before .before .before .before .before .before .before .before .before .before .args in
+    let l′ = c .before .before .before .before .before .before .before .before .before .before .loop in
+    let test = c .before .before .before .before .before .before .before .before .before .loop-test in
+    let reference-key = c .before .before .before .before .before .before .before .reference-key in let keep = c .before .before .before .before .before .before .keep in
+    let lower = c .before .before .before .before .lower in let mark-at = c .before .before .mark-at in let s = sheetOf (a .s .now) in
+    let x = l′ .x - 1 in
+    let e : suc x ≡ l′ .x = omega (arith, test .taken) in
+    let i : suc x ≤ (count s references) = omega (arith, l′ .inv .0) in
+    let k : keep .result ≡ (getD (l′ .later) ((referenceKey s (a .key)) x) 0) = keep .ensures .1 ∙ ap (λ (z : ℕ). getD (l′ .later) z 0) (reference-key .ensures) in
+    let v : lower .result ≡ cond (ltb (getD (l′ .later) ((referenceKey s (a .key)) x) 0) (l′ .next)) (getD (l′ .later) ((referenceKey s (a .key)) x) 0) (l′ .next) = lower .ensures ∙ ap (λ (w : ℕ). cond (ltb w (l′ .next)) w (l′ .next)) k in
+    let n : Repeat (referenceKey s (a .key)) (count s references) x (lower .result) = rw v (repeat-more (count s references) x i (referenceKey s (a .key)) (getD (l′ .later) ((referenceKey s (a .key)) x) 0) (l′ .next) (rw e (l′ .inv .3 ((referenceKey s (a .key)) x) (omega (arith, reference-key .ok, reference-key .ensures)))) (rw e (l′ .inv .4))) in (
+      omega (arith, l′ .inv .0),
+      mark-at .ensures .0 ∙ l′ .inv .1,
+      keep .ensures .0,
+      λ z l. rw (keep .ensures .2 z (rw (keep .ensures .0) l) ∙ ap (λ (w : ℕ). cond (eqb w z) x (getD (l′ .later) z 0)) (reference-key .ensures)) (next-more (count s references) x i (λ y. eqb ((referenceKey s (a .key)) y) z) (getD (l′ .later) z 0) (rw e (l′ .inv .3 z l))),
+      n,
+      filled-more (Repeat (referenceKey s (a .key)) (count s references)) (count s references) x (lower .result) (l′ .table) (mark-at .last .0) (mark-at .ensures .0) (rw e (l′ .inv .5)) n (mark-at .ensures .1),
+    )
 
 same-length : tie.Need-same-length Inv-loop μ-loop
 same-length c = c .before .loop .inv .1

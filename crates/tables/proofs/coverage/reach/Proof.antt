@@ -34,7 +34,11 @@ loop-less : tie.Need-loop-less Inv-loop μ-loop
 loop-less c = search needs
 
 loop-again : tie.Need-loop-again Inv-loop μ-loop
-loop-again c = (search needs, below-more (λ j. behind (sheetOf (c .before .before .before .before .before .before .args .s .now)) (c .before .before .before .before .before .before .args .kind) j ≤ c .larger .result) (c .before .before .before .loop .q) (λ j l. omega (arith, c .before .before .before .loop .inv .1 j l, c .larger .ensures .0)) (omega (arith, c .before .behind .ensures, c .larger .ensures .1)))
+loop-again c =
+    let a = c .before .before .before .before .before .before .args in let l′ = c .before .before .before .loop in (
+      search needs,
+      below-more (λ j. behind (sheetOf (a .s .now)) (a .kind) j ≤ c .larger .result) (l′ .q) (λ j l. omega (arith, l′ .inv .1 j l, c .larger .ensures .0)) (omega (arith, c .before .behind .ensures, c .larger .ensures .1)),
+    )
 
 returns : tie.Need-returns Inv-loop μ-loop
 returns c = λ j l. c .before .loop .inv .1 j (omega (arith, l, c .before .before .namers .ensures, c .loop-test .left))

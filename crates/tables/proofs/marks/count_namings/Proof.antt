@@ -1,13 +1,12 @@
 -- The records passed are counted. Assumes nothing.
-use Prim.Native.Nat.{ℕ, _-_, _≤_}
-use mathlib.Core.Path.{_≡_, refl, ap, _∙_}
+use Prim.Native.Nat.{_-_, _≤_}
+use mathlib.Core.Path.{_≡_, refl}
 use native.Mathlib.Omega.{arith}
-use lib.ListN.{length, getD}
 use Rattle.sheet.specs.Words.{sheetOf}
 use Rattle.profile.specs.Counting.{sum}
 use Rattle.tables.specs.declared.Mark.the-variants.{Count}
 use Rattle.tables.specs.steps.Namings.{namers}
-use Rattle.tables.specs.steps.Marks.{Standing, marked, repeat, timesBy, namedBy, MarkedTimes, namedBefore}
+use Rattle.tables.specs.steps.Marks.{repeat, namedBy, MarkedTimes, namedBefore}
 use Rattle.tables.proofs.MarkLaws.{namers-more}
 use Rattle.tables.proofs.marks.count_namings.Statement.{statement}
 use Rattle.tables.proofs.marks.count_namings.Tie as tie

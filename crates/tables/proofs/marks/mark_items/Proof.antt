@@ -1,16 +1,13 @@
 -- Each kind by its pass. Assumes nothing.
-use Prim.Native.Nat.{ℕ, _+_, _-_, _≤_}
-use mathlib.Core.Path.{_≡_, refl, ap, _∙_}
-use native.Mathlib.Omega.{arith}
+use Prim.Native.Nat.{ℕ}
+use mathlib.Core.Path.{ap, _∙_}
 use lib.Dec.{eqb}
-use lib.ListN.{length, getD}
-use Rattle.sheet.specs.Words.{sheetOf, word}
+use lib.ListN.{getD}
+use Rattle.sheet.specs.Words.{sheetOf}
 use Rattle.profile.specs.Counting.{howMany}
-use Rattle.tables.specs.steps.Namings.{items, item}
-use Rattle.tables.specs.steps.Marks.{Standing, marked, repeat, timesBy}
-use Rattle.tables.proofs.MarkLaws.{items-more}
-use Rattle.sheet.specs.Layout.{field, number, entry, reference, offset}
-use Rattle.sheet.specs.Fields.{contents, contentObject, objects, childList, complementList, setSpan, programmes, contentList, setList}
+use Rattle.tables.specs.steps.Marks.{marked, repeat, timesBy}
+use Rattle.sheet.specs.Layout.{field, number}
+use Rattle.sheet.specs.Fields.{contents, contentObject}
 use Rattle.profile.specs.Relations.{times}
 use Rattle.tables.proofs.MarkLaws.{repeat-more}
 use mathlib.Core.Bool.{cond}
@@ -77,7 +74,10 @@ same-length c = search needs
 
 returns : tie.Need-returns
 unfolding timesBy howMany repeat
-returns c = rw (c .before .before .before .before .before .enum-told .given .1) (c .before .before .mark-at .ensures .0, λ x l. c .before .before .mark-at .ensures .1 x l ∙ ap (λ (y : ℕ). cond (eqb y x) (marked (c .before .before .before .before .before .before .before .before .before .args .mark) (getD (c .before .before .before .before .before .before .before .before .before .args .table .now) x 0)) (getD (c .before .before .before .before .before .before .before .before .before .args .table .now) x 0)) (c .before .before .before .field .ensures) ∙ repeat-more (marked (c .before .before .before .before .before .before .before .before .before .args .mark)) (λ i. eqb (field (sheetOf (c .before .before .before .before .before .before .before .before .before .args .s .now)) contents (c .before .before .before .before .before .before .before .before .before .args .q) contentObject) x) 0 (getD (c .before .before .before .before .before .before .before .before .before .args .table .now) x 0))
+returns c =
+    let a = c .before .before .before .before .before .before .before .before .before .args in let enum-told = c .before .before .before .before .before .enum-told in
+    let mark-at = c .before .before .mark-at in
+    rw (enum-told .given .1) (mark-at .ensures .0, λ x l. mark-at .ensures .1 x l ∙ ap (λ (y : ℕ). cond (eqb y x) (marked (a .mark) (getD (a .table .now) x 0)) (getD (a .table .now) x 0)) (c .before .before .before .field .ensures) ∙ repeat-more (marked (a .mark)) (λ i. eqb (field (sheetOf (a .s .now)) contents (a .q) contentObject) x) 0 (getD (a .table .now) x 0))
 
 same-length-2 : tie.Need-same-length-2
 same-length-2 c = search needs

@@ -1,8 +1,7 @@
 -- The programmes passed are counted. Assumes nothing.
-use Prim.Native.Nat.{ℕ, _-_, _≤_}
-use mathlib.Core.Path.{_≡_, refl, sym, ap, _∙_}
+use Prim.Native.Nat.{_-_, _≤_}
+use mathlib.Core.Path.{_≡_, refl}
 use native.Mathlib.Omega.{arith}
-use lib.ListN.{length, getD}
 use Rattle.sheet.specs.Words.{sheetOf}
 use Rattle.sheet.specs.Layout.{count, entry, reference}
 use Rattle.sheet.specs.Fields.{programmes}
@@ -10,7 +9,7 @@ use Rattle.profile.specs.Counting.{sum}
 use borrow.Author.Needs.{needs}
 use Rattle.tables.specs.declared.Mark.the-variants.{Count}
 use Rattle.tables.specs.declared.Naming.the-variants.{ContentLists}
-use Rattle.tables.specs.steps.Marks.{Standing, marked, repeat, timesBy, namedBy, MarkedTimes, namedBefore}
+use Rattle.tables.specs.steps.Marks.{repeat, timesBy, namedBy, MarkedTimes, namedBefore}
 use Rattle.tables.proofs.MarkLaws.{namers-more}
 use Rattle.tables.proofs.passes.count_contents.Statement.{statement}
 use Rattle.tables.proofs.passes.count_contents.Tie as tie

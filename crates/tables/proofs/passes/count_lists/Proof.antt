@@ -1,18 +1,16 @@
 -- The objects passed are counted, in each table, and kept where they are the first. Assumes nothing.
-use Prim.Native.Nat.{ℕ, suc, _-_, _≤_}
-use mathlib.Core.Path.{_≡_, refl, sym, ap, _∙_}
+use Prim.Native.Nat.{_-_, _≤_}
+use mathlib.Core.Path.{_≡_, refl, _∙_}
 use native.Mathlib.Omega.{arith}
-use lib.Dec.{eqb}
-use lib.ListN.{length, getD}
-use native.Mathlib.Numerals.{add-one}
+use lib.ListN.{length}
 use Rattle.sheet.specs.Words.{sheetOf}
 use Rattle.sheet.specs.Layout.{count}
 use Rattle.sheet.specs.Fields.{objects}
-use Rattle.profile.specs.Counting.{sum, howMany}
+use Rattle.profile.specs.Counting.{sum}
 use borrow.Author.Needs.{needs}
 use Rattle.tables.specs.declared.Mark.the-variants.{Count}
 use Rattle.tables.specs.declared.Naming.the-variants.{Children, Complements, SetSpans}
-use Rattle.tables.specs.steps.Marks.{Standing, marked, repeat, timesBy, namedBy, namesBy, firstFrom, firstBy, MarkedTimes, namedBefore}
+use Rattle.tables.specs.steps.Marks.{Standing, repeat, namedBy, namesBy, firstFrom, firstBy, MarkedTimes, namedBefore}
 use Rattle.tables.proofs.MarkLaws.{namers-more, first-next}
 use Rattle.tables.proofs.passes.count_lists.Statement.{statement}
 use Rattle.tables.proofs.passes.count_lists.Tie as tie

@@ -1,14 +1,13 @@
 -- The one object of the content. Assumes nothing.
-use Prim.Native.Nat.{ℕ, suc, _-_, _≤_}
-use mathlib.Core.Path.{_≡_, refl, sym, ap, _∙_}
+use Prim.Native.Nat.{ℕ}
+use mathlib.Core.Path.{ap, _∙_}
 use mathlib.Core.Bool.{cond}
-use native.Mathlib.Omega.{arith}
 use lib.Dec.{eqb}
-use lib.ListN.{length, getD}
+use lib.ListN.{getD}
 use Rattle.sheet.specs.Words.{sheetOf}
-use Rattle.sheet.specs.Layout.{count, field}
-use Rattle.sheet.specs.Fields.{contents, objects, contentObject}
-use Rattle.profile.specs.Counting.{sum, howMany}
+use Rattle.sheet.specs.Layout.{field}
+use Rattle.sheet.specs.Fields.{contents, contentObject}
+use Rattle.profile.specs.Counting.{howMany}
 use Rattle.tables.specs.declared.Mark.the-variants.{Count}
 use Rattle.tables.specs.steps.Marks.{marked, repeat, timesBy}
 use Rattle.tables.proofs.MarkLaws.{repeat-more}
@@ -30,7 +29,11 @@ same-length c = search needs
 
 returns : tie.Need-returns
 unfolding timesBy howMany repeat
-returns c = (c .before .before .mark-at .ensures .0, λ x l. c .before .before .mark-at .ensures .1 x l ∙ ap (λ (y : ℕ). cond (eqb y x) (marked Count (getD (c .before .before .before .before .before .before .before .args .table .now) x 0)) (getD (c .before .before .before .before .before .before .before .args .table .now) x 0)) (c .before .before .before .field .ensures) ∙ repeat-more (marked Count) (λ i. eqb (field (sheetOf (c .before .before .before .before .before .before .before .args .s .now)) contents (c .before .before .before .before .before .before .before .args .q) contentObject) x) 0 (getD (c .before .before .before .before .before .before .before .args .table .now) x 0))
+returns c =
+    let a = c .before .before .before .before .before .before .before .args in let mark-at = c .before .before .mark-at in (
+      mark-at .ensures .0,
+      λ x l. mark-at .ensures .1 x l ∙ ap (λ (y : ℕ). cond (eqb y x) (marked Count (getD (a .table .now) x 0)) (getD (a .table .now) x 0)) (c .before .before .before .field .ensures) ∙ repeat-more (marked Count) (λ i. eqb (field (sheetOf (a .s .now)) contents (a .q) contentObject) x) 0 (getD (a .table .now) x 0),
+    )
 
 pub count-object-spec : {M : Type 1} → statement M
 count-object-spec =

@@ -1,18 +1,15 @@
 -- The records passed are counted, in each table. Assumes nothing.
-use Prim.Native.Nat.{ℕ, suc, _-_, _≤_}
-use mathlib.Core.Path.{_≡_, refl, sym, ap, _∙_}
-use mathlib.Core.Bool.{cond}
+use Prim.Native.Nat.{_-_, _≤_}
+use mathlib.Core.Path.{_≡_, refl}
 use native.Mathlib.Omega.{arith}
-use lib.Dec.{eqb}
-use lib.ListN.{length, getD}
 use Rattle.sheet.specs.Words.{sheetOf}
-use Rattle.sheet.specs.Layout.{count, field}
-use Rattle.sheet.specs.Fields.{contents, objects, contentObject}
-use Rattle.profile.specs.Counting.{sum, howMany}
+use Rattle.sheet.specs.Layout.{count}
+use Rattle.sheet.specs.Fields.{contents}
+use Rattle.profile.specs.Counting.{sum}
 use borrow.Author.Needs.{needs}
 use Rattle.tables.specs.declared.Mark.the-variants.{Count}
-use Rattle.tables.specs.declared.Naming.the-variants.{Children, Complements, ContentObjects, SetSpans}
-use Rattle.tables.specs.steps.Marks.{Standing, marked, repeat, timesBy, namedBy, MarkedTimes, namedBefore}
+use Rattle.tables.specs.declared.Naming.the-variants.{ContentObjects}
+use Rattle.tables.specs.steps.Marks.{repeat, namedBy, MarkedTimes, namedBefore}
 use Rattle.tables.proofs.MarkLaws.{namers-more}
 use Rattle.tables.proofs.passes.count_tops.Statement.{statement}
 use Rattle.tables.proofs.passes.count_tops.Tie as tie

@@ -1,17 +1,8 @@
 -- Nothing to mark, or all of it, in each table. Assumes nothing.
-use Prim.Native.Nat.{ℕ, suc, _-_, _≤_}
-use mathlib.Core.Path.{_≡_, refl, sym, ap, _∙_}
-use native.Mathlib.Omega.{arith}
-use lib.Dec.{eqb}
-use lib.ListN.{length, getD}
+use mathlib.Core.Path.{_≡_, refl, sym}
 use native.Mathlib.Numerals.{add-one}
-use Rattle.sheet.specs.Words.{sheetOf}
-use Rattle.sheet.specs.Layout.{count}
-use Rattle.sheet.specs.Fields.{objects}
-use Rattle.profile.specs.Counting.{sum, howMany}
-use Rattle.tables.specs.declared.Mark.the-variants.{Count, First}
-use Rattle.tables.specs.steps.Marks.{marked, repeat, timesBy}
-use Rattle.tables.specs.steps.Namings.{items, item}
+use Rattle.profile.specs.Counting.{howMany}
+use Rattle.tables.specs.steps.Marks.{repeat, timesBy}
 use borrow.Author.Needs.{needs}
 use Rattle.tables.proofs.passes.mark_both.Statement.{statement}
 use Rattle.tables.proofs.passes.mark_both.Tie as tie

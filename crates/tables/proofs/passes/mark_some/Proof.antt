@@ -1,16 +1,7 @@
 -- Nothing to mark, or all of it. Assumes nothing.
-use Prim.Native.Nat.{ℕ, suc, _-_, _≤_}
-use mathlib.Core.Path.{_≡_, refl, sym, ap, _∙_}
-use mathlib.Core.Bool.{cond}
-use native.Mathlib.Omega.{arith}
-use lib.Dec.{eqb}
-use lib.ListN.{length, getD}
-use Rattle.sheet.specs.Words.{sheetOf}
-use Rattle.sheet.specs.Layout.{count, field}
-use Rattle.sheet.specs.Fields.{contents, objects, contentObject}
-use Rattle.profile.specs.Counting.{sum, howMany}
-use Rattle.tables.specs.steps.Marks.{marked, repeat, timesBy}
-use Rattle.tables.specs.steps.Namings.{items, item}
+use mathlib.Core.Path.{_≡_, refl, sym}
+use Rattle.profile.specs.Counting.{howMany}
+use Rattle.tables.specs.steps.Marks.{repeat, timesBy}
 use borrow.Author.Needs.{needs}
 use Rattle.tables.proofs.passes.mark_some.Statement.{statement}
 use Rattle.tables.proofs.passes.mark_some.Tie as tie
