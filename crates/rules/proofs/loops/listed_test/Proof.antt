@@ -27,13 +27,17 @@ included-by-requires : tie.Need-included-by-requires
 included-by-requires c κs = search needs
 
 returns : tie.Need-returns
-returns c = λ right. let r : Tops (sheetOf (c .before .before .before .before .before .before .args .s .now)) (c .before .before .before .before .before .before .args .a .now) × Complemented (sheetOf (c .before .before .before .before .before .before .args .s .now)) (c .before .before .before .before .before .before .args .b .now) = rw (c .before .enum-told .given .1) at right in simp (c .bad-complement .ensures (r .0) (r .1), c .before .enum-told .given .1)
+returns c =
+    let a = c .before .before .before .before .before .before .args in let s = sheetOf (a .s .now) in
+    λ right. let r : Tops s (a .a .now) × Complemented s (a .b .now) = rw (c .before .enum-told .given .1) at right in simp (c .bad-complement .ensures (r .0) (r .1), c .before .enum-told .given .1)
 
 returns-2 : tie.Need-returns-2
 returns-2 c = λ right. simp (c .differs .ensures, c .before .before .test .given .1)
 
 returns-3 : tie.Need-returns-3
-returns-3 c = λ right. let r : Owners (sheetOf (c .before .before .before .before .before .before .before .before .args .s .now)) (c .before .before .before .before .before .before .before .before .args .a .now) × Included (sheetOf (c .before .before .before .before .before .before .before .before .args .s .now)) (c .before .before .before .test2 .given .0 .0) (c .before .before .before .before .before .before .before .before .args .b .now) = rw (c .before .before .before .test2 .given .1) at right in simp (c .included-by .ensures (r .1), c .before .owner-by .ensures (r .0), c .before .before .before .test2 .given .1)
+returns-3 c =
+    let a = c .before .before .before .before .before .before .before .before .args in let test2 = c .before .before .before .test2 in let s = sheetOf (a .s .now) in
+    λ right. let r : Owners s (a .a .now) × Included s (test2 .given .0 .0) (a .b .now) = rw (test2 .given .1) at right in simp (c .included-by .ensures (r .1), c .before .owner-by .ensures (r .0), test2 .given .1)
 
 pub listed-test-spec : {M : Type 1} → statement M
 listed-test-spec =

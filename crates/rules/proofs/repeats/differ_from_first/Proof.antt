@@ -1,10 +1,10 @@
 -- No two of the sets passed differ within a group. Assumes nothing.
-use Prim.Native.Nat.{ℕ, _-_, _<_, _≤_}
-use mathlib.Core.Path.{_≡_, refl, sym, ap, ap₂, _∙_}
-use mathlib.Core.Bool.{true, false}
+use Prim.Native.Nat.{ℕ, _-_, _≤_}
+use mathlib.Core.Path.{_≡_, sym, ap, ap₂, _∙_}
+use mathlib.Core.Bool.{false}
 use native.Mathlib.Omega.{arith}
 use borrow.Author.Count.{below-none, below-more}
-use lib.ListN.{length, replicate, length-replicate}
+use lib.ListN.{length, length-replicate}
 use Rattle.profile.specs.Counting.{any, twoOf}
 use Rattle.profile.specs.Relations.{leaderOf, owner, namedSet}
 use Rattle.profile.specs.Rules.{setsDiffer}
@@ -29,7 +29,12 @@ number-requires : tie.Need-number-requires Inv-loop μ-loop
 number-requires c κs = search needs
 
 loop-holds : tie.Need-loop-holds Inv-loop μ-loop
-loop-holds c = (search needs, length-replicate {A = ℕ} 2048 0, λ owners leaders. (firsts-none (sheetOf (c .before .before .before .before .args .s .now)) (λ i. namedSet (sheetOf (c .before .before .before .before .args .s .now)) (c .before .before .before .before .args .p) i) (λ i. leaderOf (sheetOf (c .before .before .before .before .args .s .now)) (owner (sheetOf (c .before .before .before .before .args .s .now)) (namedSet (sheetOf (c .before .before .before .before .args .s .now)) (c .before .before .before .before .args .p) i))) 2048, below-none _))
+loop-holds c =
+    let a = c .before .before .before .before .args in let s = sheetOf (a .s .now) in (
+      search needs,
+      length-replicate {A = ℕ} 2048 0,
+      λ owners leaders. (firsts-none s (λ i. namedSet s (a .p) i) (λ i. leaderOf s (owner s (namedSet s (a .p) i))) 2048, below-none _),
+    )
 
 named-set-requires : tie.Need-named-set-requires Inv-loop μ-loop
 named-set-requires c κs = search needs
@@ -60,7 +65,16 @@ sets-differ-requires c κs = search needs
 
 returns-2 : tie.Need-returns-2 Inv-loop μ-loop
 unfolding twoEntries twoOf namedSet
-returns-2 c = λ owners leaders. sym (any-one (λ m. any (λ i. differ (sheetOf (c .before .before .before .before .before .before .before .before .before .before .before .before .before .before .before .before .args .s .now)) (λ i. namedSet (sheetOf (c .before .before .before .before .before .before .before .before .before .before .before .before .before .before .before .before .args .s .now)) (c .before .before .before .before .before .before .before .before .before .before .before .before .before .before .before .before .args .p) i) (λ i. leaderOf (sheetOf (c .before .before .before .before .before .before .before .before .before .before .before .before .before .before .before .before .args .s .now)) (owner (sheetOf (c .before .before .before .before .before .before .before .before .before .before .before .before .before .before .before .before .args .s .now)) (namedSet (sheetOf (c .before .before .before .before .before .before .before .before .before .before .before .before .before .before .before .before .args .s .now)) (c .before .before .before .before .before .before .before .before .before .before .before .before .before .before .before .before .args .p) i))) i m) m) (number (sheetOf (c .before .before .before .before .before .before .before .before .before .before .before .before .before .before .before .before .args .s .now)) programmes (c .before .before .before .before .before .before .before .before .before .before .before .before .before .before .before .before .args .p) setList) (c .before .before .before .before .before .before .before .before .before .before .before .loop .j) (omega (arith, c .before .before .before .before .before .before .before .before .before .before .loop-test .taken, c .before .before .before .before .before .before .before .before .before .before .before .before .number .ensures)) (found-next (sheetOf (c .before .before .before .before .before .before .before .before .before .before .before .before .before .before .before .before .args .s .now)) (λ i. namedSet (sheetOf (c .before .before .before .before .before .before .before .before .before .before .before .before .before .before .before .before .args .s .now)) (c .before .before .before .before .before .before .before .before .before .before .before .before .before .before .before .before .args .p) i) (λ i. leaderOf (sheetOf (c .before .before .before .before .before .before .before .before .before .before .before .before .before .before .before .before .args .s .now)) (owner (sheetOf (c .before .before .before .before .before .before .before .before .before .before .before .before .before .before .before .before .args .s .now)) (namedSet (sheetOf (c .before .before .before .before .before .before .before .before .before .before .before .before .before .before .before .before .args .s .now)) (c .before .before .before .before .before .before .before .before .before .before .before .before .before .before .before .before .args .p) i))) (c .before .before .before .before .before .before .before .before .before .before .before .loop .first) (c .before .before .before .before .before .before .before .before .before .before .before .loop .j) (c .before .before .before .before .before .before .before .leader-by .result) (c .before .before .before .before .first-of .result) (c .before .before .before .before .before .before .before .before .before .before .before .loop .inv .2 owners leaders .0) (c .before .before .before .before .before .before .before .leader-by .ensures leaders ∙ ap (leaderOf (sheetOf (c .before .before .before .before .before .before .before .before .before .before .before .before .before .before .before .before .args .s .now))) (c .before .before .before .before .before .before .before .before .owner-by .ensures owners ∙ ap (owner (sheetOf (c .before .before .before .before .before .before .before .before .before .before .before .before .before .before .before .before .args .s .now))) (c .before .before .before .before .before .before .before .before .before .named-set .ensures))) (omega (arith, c .before .before .before .before .before .before .before .before .before .before .before .loop .inv .1, c .before .before .before .before .before .before .if1 .left)) (c .before .before .before .before .first-of .ensures .1) (c .before .before .before .before .before .before .before .before .before .before .before .loop .inv .2 owners leaders .1) (sym (c .before .sets-differ .ensures ∙ ap₂ (setsDiffer (sheetOf (c .before .before .before .before .before .before .before .before .before .before .before .before .before .before .before .before .args .s .now))) (c .before .before .named-set2 .ensures) (c .before .before .before .before .before .before .before .before .before .named-set .ensures)) ∙ c .if2 .taken)))
+returns-2 c =
+    let a = c .before .before .before .before .before .before .before .before .before .before .before .before .before .before .before .before .args in
+    let number′ = c .before .before .before .before .before .before .before .before .before .before .before .before .number in
+    let l = c .before .before .before .before .before .before .before .before .before .before .before .loop in
+    let test = c .before .before .before .before .before .before .before .before .before .before .loop-test in
+    let named-set = c .before .before .before .before .before .before .before .before .before .named-set in
+    let owner-by = c .before .before .before .before .before .before .before .before .owner-by in
+    let leader-by = c .before .before .before .before .before .before .before .leader-by in let if1 = c .before .before .before .before .before .before .if1 in
+    let first-of = c .before .before .before .before .first-of in let s = sheetOf (a .s .now) in
+    λ owners leaders. sym (any-one (λ m. any (λ i. differ s (λ i. namedSet s (a .p) i) (λ i. leaderOf s (owner s (namedSet s (a .p) i))) i m) m) (number s programmes (a .p) setList) (l .j) (omega (arith, test .taken, number′ .ensures)) (found-next s (λ i. namedSet s (a .p) i) (λ i. leaderOf s (owner s (namedSet s (a .p) i))) (l .first) (l .j) (leader-by .result) (first-of .result) (l .inv .2 owners leaders .0) (leader-by .ensures leaders ∙ ap (leaderOf s) (owner-by .ensures owners ∙ ap (owner s) (named-set .ensures))) (omega (arith, l .inv .1, if1 .left)) (first-of .ensures .1) (l .inv .2 owners leaders .1) (sym (c .before .sets-differ .ensures ∙ ap₂ (setsDiffer s) (c .before .before .named-set2 .ensures) (named-set .ensures)) ∙ c .if2 .taken)))
 
 add-j : tie.Need-add-j Inv-loop μ-loop
 add-j c = search needs
@@ -69,11 +83,23 @@ loop-less : tie.Need-loop-less Inv-loop μ-loop
 loop-less c = search needs
 
 loop-again : tie.Need-loop-again Inv-loop μ-loop
-loop-again c = (search needs, c .before .before .before .before .first-of .ensures .0, λ owners leaders. (firsts-more (sheetOf (c .before .before .before .before .before .before .before .before .before .before .before .before .before .before .before .before .args .s .now)) (λ i. namedSet (sheetOf (c .before .before .before .before .before .before .before .before .before .before .before .before .before .before .before .before .args .s .now)) (c .before .before .before .before .before .before .before .before .before .before .before .before .before .before .before .before .args .p) i) (λ i. leaderOf (sheetOf (c .before .before .before .before .before .before .before .before .before .before .before .before .before .before .before .before .args .s .now)) (owner (sheetOf (c .before .before .before .before .before .before .before .before .before .before .before .before .before .before .before .before .args .s .now)) (namedSet (sheetOf (c .before .before .before .before .before .before .before .before .before .before .before .before .before .before .before .before .args .s .now)) (c .before .before .before .before .before .before .before .before .before .before .before .before .before .before .before .before .args .p) i))) (c .before .before .before .before .before .before .before .before .before .before .before .loop .first) (c .before .before .before .before .before .before .before .before .before .before .before .loop .j) (c .before .before .before .before .before .before .before .leader-by .result) (c .before .before .before .before .first-of .result) (c .before .before .before .before .before .before .before .before .before .before .before .loop .inv .2 owners leaders .0) (c .before .before .before .before .before .before .before .leader-by .ensures leaders ∙ ap (leaderOf (sheetOf (c .before .before .before .before .before .before .before .before .before .before .before .before .before .before .before .before .args .s .now))) (c .before .before .before .before .before .before .before .before .owner-by .ensures owners ∙ ap (owner (sheetOf (c .before .before .before .before .before .before .before .before .before .before .before .before .before .before .before .before .args .s .now))) (c .before .before .before .before .before .before .before .before .before .named-set .ensures))) (omega (arith, c .before .before .before .before .before .before .before .before .before .before .before .loop .inv .1, c .before .before .before .before .before .before .if1 .left)) (c .before .before .before .before .first-of .ensures .1) (c .before .before .before .before .first-of .last .0) (c .before .before .before .before .first-of .ensures .0 ∙ sym (c .before .before .before .before .before .before .before .before .before .before .before .loop .inv .1)) (c .before .before .before .before .first-of .ensures .2), below-more (λ m. any (λ i. differ (sheetOf (c .before .before .before .before .before .before .before .before .before .before .before .before .before .before .before .before .args .s .now)) (λ i. namedSet (sheetOf (c .before .before .before .before .before .before .before .before .before .before .before .before .before .before .before .before .args .s .now)) (c .before .before .before .before .before .before .before .before .before .before .before .before .before .before .before .before .args .p) i) (λ i. leaderOf (sheetOf (c .before .before .before .before .before .before .before .before .before .before .before .before .before .before .before .before .args .s .now)) (owner (sheetOf (c .before .before .before .before .before .before .before .before .before .before .before .before .before .before .before .before .args .s .now)) (namedSet (sheetOf (c .before .before .before .before .before .before .before .before .before .before .before .before .before .before .before .before .args .s .now)) (c .before .before .before .before .before .before .before .before .before .before .before .before .before .before .before .before .args .p) i))) i m) m ≡ false) (c .before .before .before .before .before .before .before .before .before .before .before .loop .j) (c .before .before .before .before .before .before .before .before .before .before .before .loop .inv .2 owners leaders .1) (agree-next (sheetOf (c .before .before .before .before .before .before .before .before .before .before .before .before .before .before .before .before .args .s .now)) (λ i. namedSet (sheetOf (c .before .before .before .before .before .before .before .before .before .before .before .before .before .before .before .before .args .s .now)) (c .before .before .before .before .before .before .before .before .before .before .before .before .before .before .before .before .args .p) i) (λ i. leaderOf (sheetOf (c .before .before .before .before .before .before .before .before .before .before .before .before .before .before .before .before .args .s .now)) (owner (sheetOf (c .before .before .before .before .before .before .before .before .before .before .before .before .before .before .before .before .args .s .now)) (namedSet (sheetOf (c .before .before .before .before .before .before .before .before .before .before .before .before .before .before .before .before .args .s .now)) (c .before .before .before .before .before .before .before .before .before .before .before .before .before .before .before .before .args .p) i))) (c .before .before .before .before .before .before .before .before .before .before .before .loop .first) (c .before .before .before .before .before .before .before .before .before .before .before .loop .j) (c .before .before .before .before .before .before .before .leader-by .result) (c .before .before .before .before .first-of .result) (c .before .before .before .before .before .before .before .before .before .before .before .loop .inv .2 owners leaders .0) (c .before .before .before .before .before .before .before .leader-by .ensures leaders ∙ ap (leaderOf (sheetOf (c .before .before .before .before .before .before .before .before .before .before .before .before .before .before .before .before .args .s .now))) (c .before .before .before .before .before .before .before .before .owner-by .ensures owners ∙ ap (owner (sheetOf (c .before .before .before .before .before .before .before .before .before .before .before .before .before .before .before .before .args .s .now))) (c .before .before .before .before .before .before .before .before .before .named-set .ensures))) (omega (arith, c .before .before .before .before .before .before .before .before .before .before .before .loop .inv .1, c .before .before .before .before .before .before .if1 .left)) (c .before .before .before .before .first-of .ensures .1) (c .before .before .before .before .before .before .before .before .before .before .before .loop .inv .2 owners leaders .1) (sym (c .before .sets-differ .ensures ∙ ap₂ (setsDiffer (sheetOf (c .before .before .before .before .before .before .before .before .before .before .before .before .before .before .before .before .args .s .now))) (c .before .before .named-set2 .ensures) (c .before .before .before .before .before .before .before .before .before .named-set .ensures)) ∙ c .if2 .left))))
+loop-again c =
+    let a = c .before .before .before .before .before .before .before .before .before .before .before .before .before .before .before .before .args in
+    let l = c .before .before .before .before .before .before .before .before .before .before .before .loop in
+    let named-set = c .before .before .before .before .before .before .before .before .before .named-set in
+    let owner-by = c .before .before .before .before .before .before .before .before .owner-by in
+    let leader-by = c .before .before .before .before .before .before .before .leader-by in let if1 = c .before .before .before .before .before .before .if1 in
+    let first-of = c .before .before .before .before .first-of in let s = sheetOf (a .s .now) in (
+      search needs,
+      first-of .ensures .0,
+      λ owners leaders. (firsts-more s (λ i. namedSet s (a .p) i) (λ i. leaderOf s (owner s (namedSet s (a .p) i))) (l .first) (l .j) (leader-by .result) (first-of .result) (l .inv .2 owners leaders .0) (leader-by .ensures leaders ∙ ap (leaderOf s) (owner-by .ensures owners ∙ ap (owner s) (named-set .ensures))) (omega (arith, l .inv .1, if1 .left)) (first-of .ensures .1) (first-of .last .0) (first-of .ensures .0 ∙ sym (l .inv .1)) (first-of .ensures .2), below-more (λ m. any (λ i. differ s (λ i. namedSet s (a .p) i) (λ i. leaderOf s (owner s (namedSet s (a .p) i))) i m) m ≡ false) (l .j) (l .inv .2 owners leaders .1) (agree-next s (λ i. namedSet s (a .p) i) (λ i. leaderOf s (owner s (namedSet s (a .p) i))) (l .first) (l .j) (leader-by .result) (first-of .result) (l .inv .2 owners leaders .0) (leader-by .ensures leaders ∙ ap (leaderOf s) (owner-by .ensures owners ∙ ap (owner s) (named-set .ensures))) (omega (arith, l .inv .1, if1 .left)) (first-of .ensures .1) (l .inv .2 owners leaders .1) (sym (c .before .sets-differ .ensures ∙ ap₂ (setsDiffer s) (c .before .before .named-set2 .ensures) (named-set .ensures)) ∙ c .if2 .left))),
+    )
 
 returns-3 : tie.Need-returns-3 Inv-loop μ-loop
 unfolding twoEntries twoOf namedSet
-returns-3 c = λ owners leaders. sym (any-nowhere (λ m. any (λ i. differ (sheetOf (c .before .before .before .before .before .before .args .s .now)) (λ i. namedSet (sheetOf (c .before .before .before .before .before .before .args .s .now)) (c .before .before .before .before .before .before .args .p) i) (λ i. leaderOf (sheetOf (c .before .before .before .before .before .before .args .s .now)) (owner (sheetOf (c .before .before .before .before .before .before .args .s .now)) (namedSet (sheetOf (c .before .before .before .before .before .before .args .s .now)) (c .before .before .before .before .before .before .args .p) i))) i m) m) (number (sheetOf (c .before .before .before .before .before .before .args .s .now)) programmes (c .before .before .before .before .before .before .args .p) setList) (λ m l. (c .before .loop .inv .2 owners leaders .1) m (omega (arith, l, c .loop-test .left, c .before .before .number .ensures))))
+returns-3 c =
+    let a = c .before .before .before .before .before .before .args in let s = sheetOf (a .s .now) in
+    λ owners leaders. sym (any-nowhere (λ m. any (λ i. differ s (λ i. namedSet s (a .p) i) (λ i. leaderOf s (owner s (namedSet s (a .p) i))) i m) m) (number s programmes (a .p) setList) (λ m l. (c .before .loop .inv .2 owners leaders .1) m (omega (arith, l, c .loop-test .left, c .before .before .number .ensures))))
 
 pub differ-from-first-spec : {M : Type 1} → statement M
 differ-from-first-spec =

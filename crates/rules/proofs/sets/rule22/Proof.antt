@@ -39,7 +39,12 @@ differ-in-group-requires c κs = search needs
 
 returns-3 : tie.Need-returns-3
 unfolding rule22 anyListed twoEntries anyGroup keysAlike ownerAt namedSet
-returns-3 c = λ owners leaders marks. simp (c .differ-in-group .ensures owners leaders, c .before .any-group .ensures marks (c .before .before .before .before .mark-named-sets .ensures .1 (λ x l. nought 4680 x)), sym (c .before .before .before .before .before .before .before .before .before .any-listed .ensures (owners, marks)) ∙ c .before .before .before .before .before .before .before .before .if1 .left, sym (c .before .before .before .before .before .before .before .one-owner .ensures owners) ∙ c .before .before .before .before .before .before .if2 .left)
+returns-3 c =
+    let any-listed = c .before .before .before .before .before .before .before .before .before .any-listed in
+    let if1 = c .before .before .before .before .before .before .before .before .if1 in
+    let one-owner = c .before .before .before .before .before .before .before .one-owner in let if2 = c .before .before .before .before .before .before .if2 in
+    let mark-named-sets = c .before .before .before .before .mark-named-sets in
+    λ owners leaders marks. simp (c .differ-in-group .ensures owners leaders, c .before .any-group .ensures marks (mark-named-sets .ensures .1 (λ x l. nought 4680 x)), sym (any-listed .ensures (owners, marks)) ∙ if1 .left, sym (one-owner .ensures owners) ∙ if2 .left)
 
 pub rule22-spec : {M : Type 1} → statement M
 rule22-spec =
