@@ -20,7 +20,7 @@ use Rattle.tables.specs.declared.Mark.{Mark}
 use Rattle.tables.specs.declared.Mark.the-variants.{Count}
 use Rattle.tables.specs.steps.Namings.{namers, items, item}
 use Rattle.tables.specs.steps.Marks.{Filled, MarkedTimes, marked, repeat, timesBy, namedBy}
-use Rattle.tables.specs.steps.Coverage.{begin, namedAt, behind, Reaching, cover}
+use Rattle.tables.specs.steps.Coverage.{runBegin, namedAt, runEnd, Reaching, cover}
 use Rattle.tables.proofs.MarkLaws.{repeat-add}
 use Rattle.tables.proofs.TableLaws.{run-times}
 
@@ -149,7 +149,7 @@ edges-more e t₀ t t′ q w ew before now = (
 
 module _ (s : Sheet) where
   -- what a record names is what the indices of its run name
-  item-index : (kind : Naming) (q i : ℕ) → i < items s kind q → namedAt s kind (begin s kind q + i) ≡ item s kind q i
+  item-index : (kind : Naming) (q i : ℕ) → i < items s kind q → namedAt s kind (runBegin s kind q + i) ≡ item s kind q i
   item-index ContentObjects q i l = let e : i ≡ 0 = omega arith in rw (e, add-zero)
   item-index Children q i l = unfold entry in refl
   item-index Complements q i l = unfold entry in refl
@@ -161,15 +161,15 @@ module _ (s : Sheet) where
   -- how often a record is named, by the cover
   pub named-cover : (kind : Naming) (m : ℕ) → Reaching s kind m
       → (x : ℕ) → sum (λ y. cond (eqb (namedAt s kind y) x) (cover s kind y) 0) m ≡ namedBy s kind x
-  unfolding cover behind namedBy timesBy
+  unfolding cover runEnd namedBy timesBy
   named-cover kind m h x =
-      cover-sum (λ y. eqb (namedAt s kind y) x) (begin s kind) (items s kind) m (namers s kind) h
-      ∙ sum-eq (λ q. howMany (λ i. eqb (namedAt s kind (begin s kind q + i)) x) (items s kind q)) (λ q. howMany (λ i. eqb (item s kind q i) x) (items s kind q)) (namers s kind)
-      (λ q l. howMany-eq (λ i. eqb (namedAt s kind (begin s kind q + i)) x) (λ i. eqb (item s kind q i) x) (items s kind q)
+      cover-sum (λ y. eqb (namedAt s kind y) x) (runBegin s kind) (items s kind) m (namers s kind) h
+      ∙ sum-eq (λ q. howMany (λ i. eqb (namedAt s kind (runBegin s kind q + i)) x) (items s kind q)) (λ q. howMany (λ i. eqb (item s kind q i) x) (items s kind q)) (namers s kind)
+      (λ q l. howMany-eq (λ i. eqb (namedAt s kind (runBegin s kind q + i)) x) (λ i. eqb (item s kind q i) x) (items s kind q)
       (λ i h. ap (λ (z : ℕ). eqb z x) (item-index kind q i h)))
 
   -- the runs that have an index, and those that ended by then, are those that began by then
   pub covered : (kind : Naming) (y : ℕ)
-      → cover s kind y + howMany (λ q. ltb (behind s kind q) (y + 1)) (namers s kind) ≡ howMany (λ q. ltb (begin s kind q) (y + 1)) (namers s kind)
+      → cover s kind y + howMany (λ q. ltb (runEnd s kind q) (y + 1)) (namers s kind) ≡ howMany (λ q. ltb (runBegin s kind q) (y + 1)) (namers s kind)
   unfolding cover
-  covered kind y = cover-edges (begin s kind) (behind s kind) y (namers s kind) (λ q. unfold behind in omega arith)
+  covered kind y = cover-edges (runBegin s kind) (runEnd s kind) y (namers s kind) (λ q. unfold runEnd in omega arith)

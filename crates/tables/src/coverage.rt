@@ -1,7 +1,9 @@
 // Counting how often each record is named, by the indices that the records' lists cover: linear in the sheet's words, also where
 // many records share one long list. Each list or span is a run of indices.
+use crate::Lists;
 use crate::Mark;
 use crate::Naming;
+use crate::entry_counts::entries_up_to;
 use crate::marks::after;
 use crate::marks::count_namings;
 use crate::namings::items;
@@ -24,13 +26,13 @@ ghost use mathlib.Core.Bool.{cond, false, true};
 ghost use mathlib.Core.Path.{_≡_};
 ghost use Rattle.profile.specs.Counting.{sum};
 ghost use Rattle.sheet.specs.Words.{sheetOf};
-ghost use Rattle.tables.specs.steps.Coverage.{Reaching, Tallied, begin, behind, cover, edge, namedAt};
+ghost use Rattle.tables.specs.steps.Coverage.{Reaching, Tallied, cover, edge, namedAt, runBegin, runEnd};
 ghost use Rattle.tables.specs.steps.Marks.{Filled, MarkedTimes, NamingsCounted, Standing, marked, repeat};
 ghost use Rattle.tables.specs.declared.Mark.the-variants.{Count};
 
 // The index at which a record's run begins.
-fn begin(s: &[u8], kind: Naming, q: u16) -> u16
-    ensures { λ r. ⌜ r ≡ begin (sheetOf (now (s .entry))) kind q ⌝ }
+fn run_begin(s: &[u8], kind: Naming, q: u16) -> u16
+    ensures { λ r. ⌜ r ≡ runBegin (sheetOf (now (s .entry))) kind q ⌝ }
 {
     match kind {
         Naming::ContentObjects => field(s, CONTENTS, q, CONTENT_OBJECT),
@@ -43,11 +45,11 @@ fn begin(s: &[u8], kind: Naming, q: u16) -> u16
     }
 }
 
-// The index behind it.
-fn behind(s: &[u8], kind: Naming, q: u16) -> u32
-    ensures { λ r. ⌜ r ≡ behind (sheetOf (now (s .entry))) kind q ⌝ }
+// The index after its last.
+fn run_end(s: &[u8], kind: Naming, q: u16) -> u32
+    ensures { λ r. ⌜ r ≡ runEnd (sheetOf (now (s .entry))) kind q ⌝ }
 {
-    begin(s, kind, q) as u32 + items(s, kind, q) as u32
+    run_begin(s, kind, q) as u32 + items(s, kind, q) as u32
 }
 
 // The record that an index names: itself, or the entry of section 6.
@@ -65,20 +67,8 @@ fn named_at(s: &[u8], kind: Naming, y: u16) -> u16
     }
 }
 
-// Whether the runs have so many indices together that the cover is worth its tables. What is counted is the same either way.
-fn crowded(s: &[u8], kind: Naming) -> bool {
-    let n = namers(s, kind);
-    let mut total: u32 = 0;
-    let mut q: u16 = 0;
-    while q < n {
-        total += items(s, kind, q) as u32;
-        if 8192 < total {
-            return true;
-        }
-        q += 1;
-    }
-    false
-}
+// The cover is worth its tables where the runs have more indices together. What is counted is the same either way.
+const FEW_INDICES: u32 = 8192;
 
 // The larger one.
 fn larger(a: u32, b: u32) -> u32
@@ -87,7 +77,7 @@ fn larger(a: u32, b: u32) -> u32
     if a < b { b } else { a }
 }
 
-// The index behind all runs.
+// The index after the last of all runs.
 fn reach(s: &[u8], kind: Naming) -> u32
     ensures { λ r. ⌜ Reaching (sheetOf (now (s .entry))) kind r ⌝ }
 {
@@ -95,20 +85,20 @@ fn reach(s: &[u8], kind: Naming) -> u32
     let mut most: u32 = 0;
     let mut q: u16 = 0;
     while q < n {
-        most = larger(most, behind(s, kind, q));
+        most = larger(most, run_end(s, kind, q));
         q += 1;
     }
     most
 }
 
-// One edge of a record's run: where it begins, or the index behind it.
+// One edge of a record's run: where it begins, or the index after its last.
 fn edge(s: &[u8], kind: Naming, last: bool, q: u16) -> u32
     ensures { λ r. ⌜ r ≡ edge (sheetOf (now (s .entry))) kind last q ⌝ }
 {
     if last {
-        behind(s, kind, q)
+        run_end(s, kind, q)
     } else {
-        begin(s, kind, q) as u32
+        run_begin(s, kind, q) as u32
     }
 }
 
@@ -191,7 +181,7 @@ fn count_cover(s: &[u8], kind: Naming, m: u16, table: &mut [u16])
 pub fn count_covered(s: &[u8], kind: Naming, table: &mut [u16])
     ensures { λ r. ⌜ NamingsCounted (sheetOf (now (s .entry))) kind (now (table .entry)) (now (table .exit)) ⌝ }
 {
-    if crowded(s, kind) {
+    if FEW_INDICES < entries_up_to(s, Lists::Namings(kind), FEW_INDICES + 1) {
         let m = reach(s, kind);
         if m <= 32768 {
             count_cover(s, kind, m as u16, table);

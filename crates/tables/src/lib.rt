@@ -1,6 +1,7 @@
 // Tables over the records of a sheet, filled in passes over its lists: how often a record is named, and by which record first. What
 // stands at each index is the contract of the function that fills the table.
 pub mod coverage;
+pub mod entry_counts;
 pub mod marks;
 pub mod namings;
 pub mod passes;
@@ -23,6 +24,16 @@ pub enum Naming {
     SetLists,
     // an object has value sets
     SetSpans,
+}
+
+// Lists whose entries are counted together.
+pub enum Lists {
+    // the lists of a section's records
+    Section(u8),
+    // those, and the spans of value sets
+    SectionAndSpans(u8),
+    // those by which records name others in one way
+    Namings(Naming),
 }
 
 // What is done with the place of a record that is named.

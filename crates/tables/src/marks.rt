@@ -90,7 +90,7 @@ fn mark_objects(s: &[u8], q: u16, mark: Mark, table: &mut [u16])
 }
 
 // Marks the entries of the list at a position of a record.
-fn mark_listed(s: &[u8], section: u8, q: u16, at: u8, mark: Mark, table: &mut [u16])
+fn mark_entries(s: &[u8], section: u8, q: u16, at: u8, mark: Mark, table: &mut [u16])
     ensures { λ r. ⌜ MarkedTimes mark (times (sheetOf (now (s .entry))) section q at) (now (table .entry)) (now (table .exit)) ⌝ }
 {
     mark_list(
@@ -113,11 +113,11 @@ pub fn mark_items(s: &[u8], kind: Naming, q: u16, mark: Mark, table: &mut [u16])
             field(s, CONTENTS, q, CONTENT_OBJECT) as u32,
             mark,
         ),
-        Naming::Children => mark_listed(s, OBJECTS, q, CHILD_LIST, mark, table),
-        Naming::Complements => mark_listed(s, OBJECTS, q, COMPLEMENT_LIST, mark, table),
-        Naming::ContentLists => mark_listed(s, PROGRAMMES, q, CONTENT_LIST, mark, table),
+        Naming::Children => mark_entries(s, OBJECTS, q, CHILD_LIST, mark, table),
+        Naming::Complements => mark_entries(s, OBJECTS, q, COMPLEMENT_LIST, mark, table),
+        Naming::ContentLists => mark_entries(s, PROGRAMMES, q, CONTENT_LIST, mark, table),
         Naming::Included => mark_objects(s, q, mark, table),
-        Naming::SetLists => mark_listed(s, PROGRAMMES, q, SET_LIST, mark, table),
+        Naming::SetLists => mark_entries(s, PROGRAMMES, q, SET_LIST, mark, table),
         Naming::SetSpans => mark_span(
             field(s, OBJECTS, q, SET_SPAN),
             number(s, OBJECTS, q, SET_SPAN),

@@ -10,7 +10,7 @@ use Rattle.profile.specs.Counting.{howMany, sum}
 use Rattle.tables.specs.declared.Mark.the-variants.{Count}
 use Rattle.tables.specs.steps.Namings.{namers}
 use Rattle.tables.specs.steps.Marks.{MarkedTimes, repeat}
-use Rattle.tables.specs.steps.Coverage.{begin, behind, namedAt, cover}
+use Rattle.tables.specs.steps.Coverage.{runBegin, runEnd, namedAt, cover}
 use Rattle.tables.proofs.CoverLaws.{below-first, below-more, covered, indices-more}
 use borrow.Author.Needs.{needs}
 use Rattle.tables.proofs.coverage.count_indices.Statement.{statement}
@@ -21,8 +21,8 @@ Inv-loop s kind m begins ends table₀ begun₀ ended₀ y₀ table begun ended 
     (y ≤ m)
     × (begun ≤ 65535 * y)
     × (ended ≤ 65535 * y)
-    × (begun ≡ howMany (λ q. ltb (begin (sheetOf s) kind q) y) (namers (sheetOf s) kind))
-    × (ended ≡ howMany (λ q. ltb (behind (sheetOf s) kind q) y) (namers (sheetOf s) kind))
+    × (begun ≡ howMany (λ q. ltb (runBegin (sheetOf s) kind q) y) (namers (sheetOf s) kind))
+    × (ended ≡ howMany (λ q. ltb (runEnd (sheetOf s) kind q) y) (namers (sheetOf s) kind))
     × MarkedTimes Count (λ x. sum (λ j. cond (eqb (namedAt (sheetOf s) kind j) x) (cover (sheetOf s) kind j) 0) y) table₀ table
 
 abbrev μ-loop : tie.MeasureT-loop
@@ -33,7 +33,7 @@ unfolding sum repeat
 loop-holds c =
     let a = c .before .before .before .before .args in
     let s = sheetOf (a .s .now) in
-    (search needs, search needs, search needs, sym (below-first (begin s (a .kind)) _), sym (below-first (behind s (a .kind)) _), (refl, λ x l. refl))
+    (search needs, search needs, search needs, sym (below-first (runBegin s (a .kind)) _), sym (below-first (runEnd s (a .kind)) _), (refl, λ x l. refl))
 
 cast-begun : tie.Need-cast-begun Inv-loop μ-loop
 cast-begun c = search needs
@@ -75,8 +75,8 @@ sub-count-times c =
     let l = c .before .before .before .before .before .loop in
     let s = sheetOf (a .s .now) in
     let below : l .y < a .m = c .before .before .before .before .loop-test .taken in
-    let begun = below-more (begin s (a .kind)) (l .y) (namers s (a .kind)) (l .begun) (getD (a .begins .now) (l .y) 0) (l .inv .3) (pre .2 (l .y) (omega (arith, pre .0))) in
-    let ended = below-more (behind s (a .kind)) (l .y) (namers s (a .kind)) (l .ended) (getD (a .ends .now) (l .y) 0) (l .inv .4) (pre .3 (l .y) (omega (arith, pre .1))) in
+    let begun = below-more (runBegin s (a .kind)) (l .y) (namers s (a .kind)) (l .begun) (getD (a .begins .now) (l .y) 0) (l .inv .3) (pre .2 (l .y) (omega (arith, pre .0))) in
+    let ended = below-more (runEnd s (a .kind)) (l .y) (namers s (a .kind)) (l .ended) (getD (a .ends .now) (l .y) 0) (l .inv .4) (pre .3 (l .y) (omega (arith, pre .1))) in
     omega (arith, covered s (a .kind) (l .y), begun, ended)
 
 count-times-requires : tie.Need-count-times-requires Inv-loop μ-loop
@@ -95,8 +95,8 @@ loop-again c =
     let l = c .before .before .before .before .before .before .before .before .loop in
     let s = sheetOf (a .s .now) in
     let below : l .y < a .m = c .before .before .before .before .before .before .before .loop-test .taken in
-    let begun = below-more (begin s (a .kind)) (l .y) (namers s (a .kind)) (l .begun) (getD (a .begins .now) (l .y) 0) (l .inv .3) (pre .2 (l .y) (omega (arith, pre .0))) in
-    let ended = below-more (behind s (a .kind)) (l .y) (namers s (a .kind)) (l .ended) (getD (a .ends .now) (l .y) 0) (l .inv .4) (pre .3 (l .y) (omega (arith, pre .1))) in
+    let begun = below-more (runBegin s (a .kind)) (l .y) (namers s (a .kind)) (l .begun) (getD (a .begins .now) (l .y) 0) (l .inv .3) (pre .2 (l .y) (omega (arith, pre .0))) in
+    let ended = below-more (runEnd s (a .kind)) (l .y) (namers s (a .kind)) (l .ended) (getD (a .ends .now) (l .y) 0) (l .inv .4) (pre .3 (l .y) (omega (arith, pre .1))) in
     let named = c .before .before .before .named-at in
     let counted = c .before .before .count-times in
     let k = (l .begun + getD (a .begins .now) (l .y) 0) - (l .ended + getD (a .ends .now) (l .y) 0) in

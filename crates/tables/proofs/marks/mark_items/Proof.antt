@@ -30,20 +30,20 @@ mark-at-requires c κs = search needs
 enum-told-2 : tie.Need-enum-told-2
 enum-told-2 c = search needs
 
-mark-listed-requires : tie.Need-mark-listed-requires
-mark-listed-requires c κs = search needs
+mark-entries-requires : tie.Need-mark-entries-requires
+mark-entries-requires c κs = search needs
 
 enum-told-3 : tie.Need-enum-told-3
 enum-told-3 c = search needs
 
-mark-listed-requires-2 : tie.Need-mark-listed-requires-2
-mark-listed-requires-2 c κs = search needs
+mark-entries-requires-2 : tie.Need-mark-entries-requires-2
+mark-entries-requires-2 c κs = search needs
 
 enum-told-4 : tie.Need-enum-told-4
 enum-told-4 c = search needs
 
-mark-listed-requires-3 : tie.Need-mark-listed-requires-3
-mark-listed-requires-3 c κs = search needs
+mark-entries-requires-3 : tie.Need-mark-entries-requires-3
+mark-entries-requires-3 c κs = search needs
 
 enum-told-5 : tie.Need-enum-told-5
 enum-told-5 c = search needs
@@ -54,8 +54,8 @@ mark-objects-requires c κs = search needs
 enum-told-6 : tie.Need-enum-told-6
 enum-told-6 c = search needs
 
-mark-listed-requires-4 : tie.Need-mark-listed-requires-4
-mark-listed-requires-4 c κs = search needs
+mark-entries-requires-4 : tie.Need-mark-entries-requires-4
+mark-entries-requires-4 c κs = search needs
 
 enum-told-7 : tie.Need-enum-told-7
 enum-told-7 c = search needs
@@ -84,21 +84,21 @@ same-length-2 c = search needs
 
 returns-2 : tie.Need-returns-2
 unfolding timesBy times
-returns-2 c = rw (c .before .before .before .before .enum-told2 .given .1) (c .before .before .mark-listed .ensures .0, c .before .before .mark-listed .ensures .1)
+returns-2 c = rw (c .before .before .before .before .enum-told2 .given .1) (c .before .before .mark-entries .ensures .0, c .before .before .mark-entries .ensures .1)
 
 same-length-3 : tie.Need-same-length-3
 same-length-3 c = search needs
 
 returns-3 : tie.Need-returns-3
 unfolding timesBy times
-returns-3 c = rw (c .before .before .before .before .enum-told3 .given .1) (c .before .before .mark-listed2 .ensures .0, c .before .before .mark-listed2 .ensures .1)
+returns-3 c = rw (c .before .before .before .before .enum-told3 .given .1) (c .before .before .mark-entries2 .ensures .0, c .before .before .mark-entries2 .ensures .1)
 
 same-length-4 : tie.Need-same-length-4
 same-length-4 c = search needs
 
 returns-4 : tie.Need-returns-4
 unfolding timesBy times
-returns-4 c = rw (c .before .before .before .before .enum-told4 .given .1) (c .before .before .mark-listed3 .ensures .0, c .before .before .mark-listed3 .ensures .1)
+returns-4 c = rw (c .before .before .before .before .enum-told4 .given .1) (c .before .before .mark-entries3 .ensures .0, c .before .before .mark-entries3 .ensures .1)
 
 same-length-5 : tie.Need-same-length-5
 same-length-5 c = search needs
@@ -112,7 +112,7 @@ same-length-6 c = search needs
 
 returns-6 : tie.Need-returns-6
 unfolding timesBy times
-returns-6 c = rw (c .before .before .before .before .enum-told6 .given .1) (c .before .before .mark-listed4 .ensures .0, c .before .before .mark-listed4 .ensures .1)
+returns-6 c = rw (c .before .before .before .before .enum-told6 .given .1) (c .before .before .mark-entries4 .ensures .0, c .before .before .mark-entries4 .ensures .1)
 
 same-length-7 : tie.Need-same-length-7
 same-length-7 c = search needs
@@ -130,15 +130,15 @@ mark-items-spec =
     cast-mark-at
     mark-at-requires
     enum-told-2
-    mark-listed-requires
+    mark-entries-requires
     enum-told-3
-    mark-listed-requires-2
+    mark-entries-requires-2
     enum-told-4
-    mark-listed-requires-3
+    mark-entries-requires-3
     enum-told-5
     mark-objects-requires
     enum-told-6
-    mark-listed-requires-4
+    mark-entries-requires-4
     enum-told-7
     field-requires-2
     number-requires

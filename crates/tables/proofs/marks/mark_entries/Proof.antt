@@ -2,8 +2,8 @@
 use Rattle.sheet.specs.Layout.{field, number, entry, reference, offset}
 use Rattle.profile.specs.Relations.{times}
 use borrow.Author.Needs.{needs}
-use Rattle.tables.proofs.marks.mark_listed.Statement.{statement}
-use Rattle.tables.proofs.marks.mark_listed.Tie as tie
+use Rattle.tables.proofs.marks.mark_entries.Statement.{statement}
+use Rattle.tables.proofs.marks.mark_entries.Tie as tie
 
 offset-requires : tie.Need-offset-requires
 offset-requires c κs = search needs
@@ -24,8 +24,8 @@ returns : tie.Need-returns
 unfolding times entry reference
 returns c = (c .before .before .mark-list .ensures .0, rw (c .before .before .before .before .before .before .offset .ensures, c .before .before .before .before .before .field .ensures, c .before .before .before .before .number .ensures) at (c .before .before .mark-list .ensures .1))
 
-pub mark-listed-spec : {M : Type 1} → statement M
-mark-listed-spec =
+pub mark-entries-spec : {M : Type 1} → statement M
+mark-entries-spec =
     tie.close
     (tie.spec
     offset-requires

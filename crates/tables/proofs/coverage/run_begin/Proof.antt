@@ -1,7 +1,7 @@
 -- By the way of naming. Assumes nothing.
 use borrow.Author.Needs.{needs}
-use Rattle.tables.proofs.coverage.begin.Statement.{statement}
-use Rattle.tables.proofs.coverage.begin.Tie as tie
+use Rattle.tables.proofs.coverage.run_begin.Statement.{statement}
+use Rattle.tables.proofs.coverage.run_begin.Tie as tie
 
 enum-told : tie.Need-enum-told
 enum-told c = search needs
@@ -66,8 +66,8 @@ returns-6 c = simp (c .before .enum-told6 .given .1, c .field6 .ensures)
 returns-7 : tie.Need-returns-7
 returns-7 c = simp (c .before .enum-told7 .given .1, c .field7 .ensures)
 
-pub begin-spec : {M : Type 1} → statement M
-begin-spec =
+pub run-begin-spec : {M : Type 1} → statement M
+run-begin-spec =
     tie.close
     (tie.spec
     enum-told
