@@ -1,8 +1,9 @@
 // Rules 19 to 21: complementary groups.
 use crate::GroupTest;
-use crate::ListedTest;
+use crate::ListAt;
+use crate::TabledTest;
 use crate::loops::any_group;
-use crate::loops::any_listed;
+use crate::loops::any_tabled;
 use sheet::fields::COMPLEMENT_LIST;
 use sheet::fields::OBJECTS;
 ghost use mathlib.Core.Path.{_≡_};
@@ -13,14 +14,16 @@ ghost use Rattle.tables.specs.steps.Right.{Complemented, Included, Tops};
 pub fn rule19(s: &[u8], tops: &[u16], complements: &[u16], section: u8, o: u16) -> bool
     ensures { λ r. ⌜ (Tops (sheetOf (now (s .entry))) (now (tops .entry)) → Complemented (sheetOf (now (s .entry))) (now (complements .entry)) → r ≡ rule19 (sheetOf (now (s .entry))) section o) ⌝ }
 {
-    any_listed(
+    any_tabled(
         s,
         tops,
         complements,
-        OBJECTS,
-        o,
-        COMPLEMENT_LIST,
-        ListedTest::BadComplement,
+        ListAt {
+            section: OBJECTS,
+            k: o,
+            at: COMPLEMENT_LIST,
+        },
+        TabledTest::BadComplement,
     )
 }
 
@@ -29,14 +32,16 @@ pub fn rule20(s: &[u8], section: u8, o: u16) -> bool
     ensures { λ r. ⌜ r ≡ rule20 (sheetOf (now (s .entry))) section o ⌝ }
 {
     let none: [u16; 1] = [0];
-    any_listed(
+    any_tabled(
         s,
         &none,
         &none,
-        OBJECTS,
-        o,
-        COMPLEMENT_LIST,
-        ListedTest::DiffersFrom(o),
+        ListAt {
+            section: OBJECTS,
+            k: o,
+            at: COMPLEMENT_LIST,
+        },
+        TabledTest::DiffersFrom(o),
     )
 }
 

@@ -13,6 +13,13 @@ pub mod sets;
 pub mod totals;
 pub mod words;
 
+// The list at a position of a record.
+pub struct ListAt {
+    section: u8,
+    k: u16,
+    at: u8,
+}
+
 // What two entries of a list are tested for.
 pub enum PairTest {
     // they are the same number
@@ -33,8 +40,8 @@ pub enum Key {
     Ordinal,
 }
 
-// What an entry of a list is tested for, where the test looks into other lists.
-pub enum ListedTest {
+// What an entry of a list is tested for by tables.
+pub enum TabledTest {
     // a complement that rule 19 refuses
     BadComplement,
     // an object that differs from this leader

@@ -1,7 +1,8 @@
 // The loops of the rules, each over any of its tests.
 use crate::GroupTest;
-use crate::ListedTest;
+use crate::ListAt;
 use crate::PairTest;
+use crate::TabledTest;
 use relations::EntryTest;
 use relations::MemberTest;
 use relations::entries::how_many_entries;
@@ -39,7 +40,7 @@ ghost use mathlib.Core.Path.{_≡_};
 ghost use Rattle.profile.specs.Relations.{channels};
 ghost use Rattle.profile.specs.Rules.{badComplement, differs, setsDiffer};
 ghost use Rattle.relations.specs.steps.Tests.{howManyMembers, memberTest};
-ghost use Rattle.rules.specs.steps.Loops.{anyGroup, anyListed, badChannel, earlierEntry, fieldsDiffer, groupRight, groupTest, listedRight, listedTest, memberRight, ownSet, pairRight, pairTest, totalTimes, twoEntries};
+ghost use Rattle.rules.specs.steps.Loops.{anyGroup, anyTabled, badChannel, earlierEntry, fieldsDiffer, groupRight, groupTest, tabledRight, tabledTest, memberRight, ownSet, pairRight, pairTest, totalTimes, twoEntries};
 ghost use Rattle.sheet.specs.Fields.{complementList};
 ghost use Rattle.sheet.specs.Words.{sheetOf};
 ghost use Rattle.tables.specs.steps.Right.{Complemented, Included, Tops};
@@ -106,33 +107,25 @@ pub fn bad_complement(s: &[u8], tops: &[u16], complements: &[u16], q: u16) -> bo
 }
 
 // Whether an entry passes the test, with the two tables that the test reads.
-pub fn listed_test(s: &[u8], a: &[u16], b: &[u16], test: ListedTest, e: u16) -> bool
-    ensures { λ r. ⌜ (listedRight (sheetOf (now (s .entry))) test (now (a .entry)) (now (b .entry)) → r ≡ listedTest (sheetOf (now (s .entry))) test e) ⌝ }
+pub fn tabled_test(s: &[u8], a: &[u16], b: &[u16], test: TabledTest, e: u16) -> bool
+    ensures { λ r. ⌜ (tabledRight (sheetOf (now (s .entry))) test (now (a .entry)) (now (b .entry)) → r ≡ tabledTest (sheetOf (now (s .entry))) test e) ⌝ }
 {
     match test {
-        ListedTest::BadComplement => bad_complement(s, a, b, e),
-        ListedTest::DiffersFrom(l) => differs(s, l, e),
-        ListedTest::NotIncluded(p) => !included_by(s, p, b, owner_by(s, a, e)),
+        TabledTest::BadComplement => bad_complement(s, a, b, e),
+        TabledTest::DiffersFrom(l) => differs(s, l, e),
+        TabledTest::NotIncluded(p) => !included_by(s, p, b, owner_by(s, a, e)),
     }
 }
 
 // Whether some entry of the list at a position of a record passes the test.
-pub fn any_listed(
-    s: &[u8],
-    a: &[u16],
-    b: &[u16],
-    section: u8,
-    k: u16,
-    at: u8,
-    test: ListedTest,
-) -> bool
-    ensures { λ r. ⌜ (listedRight (sheetOf (now (s .entry))) test (now (a .entry)) (now (b .entry)) → r ≡ anyListed (sheetOf (now (s .entry))) section k at test) ⌝ }
+pub fn any_tabled(s: &[u8], a: &[u16], b: &[u16], list: ListAt, test: TabledTest) -> bool
+    ensures { λ r. ⌜ (tabledRight (sheetOf (now (s .entry))) test (now (a .entry)) (now (b .entry)) → r ≡ anyTabled (sheetOf (now (s .entry))) (list .section) (list .k) (list .at) test) ⌝ }
 {
-    let n = number(s, section, k, at);
+    let n = number(s, list.section, list.k, list.at);
     let mut found = false;
     let mut i: u16 = 0;
     while i < n {
-        found = found | listed_test(s, a, b, test, entry(s, section, k, at, i));
+        found = found | tabled_test(s, a, b, test, entry(s, list.section, list.k, list.at, i));
         i += 1;
     }
     found
@@ -162,41 +155,39 @@ fn earlier_entry(
     s: &[u8],
     owners: &[u16],
     leaders: &[u16],
-    section: u8,
-    k: u16,
-    at: u8,
+    list: ListAt,
     test: PairTest,
     j: u16,
 ) -> bool
-    ensures { λ r. ⌜ (pairRight (sheetOf (now (s .entry))) test (now (owners .entry)) (now (leaders .entry)) → r ≡ earlierEntry (sheetOf (now (s .entry))) section k at test j) ⌝ }
+    ensures { λ r. ⌜ (pairRight (sheetOf (now (s .entry))) test (now (owners .entry)) (now (leaders .entry)) → r ≡ earlierEntry (sheetOf (now (s .entry))) (list .section) (list .k) (list .at) test j) ⌝ }
 {
-    let y = entry(s, section, k, at, j);
+    let y = entry(s, list.section, list.k, list.at, j);
     let mut found = false;
     let mut i: u16 = 0;
     while i < j {
-        found = found | pair_test(s, owners, leaders, test, entry(s, section, k, at, i), y);
+        found = found
+            | pair_test(
+                s,
+                owners,
+                leaders,
+                test,
+                entry(s, list.section, list.k, list.at, i),
+                y,
+            );
         i += 1;
     }
     found
 }
 
 // Whether two entries of the list pass the test.
-pub fn two_entries(
-    s: &[u8],
-    owners: &[u16],
-    leaders: &[u16],
-    section: u8,
-    k: u16,
-    at: u8,
-    test: PairTest,
-) -> bool
-    ensures { λ r. ⌜ (pairRight (sheetOf (now (s .entry))) test (now (owners .entry)) (now (leaders .entry)) → r ≡ twoEntries (sheetOf (now (s .entry))) section k at test) ⌝ }
+pub fn two_entries(s: &[u8], owners: &[u16], leaders: &[u16], list: ListAt, test: PairTest) -> bool
+    ensures { λ r. ⌜ (pairRight (sheetOf (now (s .entry))) test (now (owners .entry)) (now (leaders .entry)) → r ≡ twoEntries (sheetOf (now (s .entry))) (list .section) (list .k) (list .at) test) ⌝ }
 {
-    let n = number(s, section, k, at);
+    let n = number(s, list.section, list.k, list.at);
     let mut found = false;
     let mut j: u16 = 0;
     while j < n {
-        found = found | earlier_entry(s, owners, leaders, section, k, at, test, j);
+        found = found | earlier_entry(s, owners, leaders, list, test, j);
         j += 1;
     }
     found

@@ -1,5 +1,6 @@
 // Lists with two entries alike: short lists by their pairs, long ones by a table of what was seen.
 use crate::Key;
+use crate::ListAt;
 use crate::PairTest;
 use crate::loops::bad_channel;
 use crate::loops::sets_differ;
@@ -85,7 +86,17 @@ pub fn repeats(s: &[u8], section: u8, k: u16, at: u8) -> bool
 {
     let none: [u16; 1] = [0];
     if number(s, section, k, at) <= SHORT {
-        two_entries(s, &none, &none, section, k, at, PairTest::Same)
+        two_entries(
+            s,
+            &none,
+            &none,
+            ListAt {
+                section: section,
+                k: k,
+                at: at,
+            },
+            PairTest::Same,
+        )
     } else {
         keys_alike(s, &none, section, k, at, Key::Entry)
     }
@@ -116,9 +127,11 @@ pub fn one_owner(s: &[u8], owners: &[u16], p: u16) -> bool
             s,
             owners,
             owners,
-            PROGRAMMES,
-            p,
-            SET_LIST,
+            ListAt {
+                section: PROGRAMMES,
+                k: p,
+                at: SET_LIST,
+            },
             PairTest::OneOwner,
         )
     } else {
@@ -162,9 +175,11 @@ fn group_pairs_differ(s: &[u8], owners: &[u16], leaders: &[u16], p: u16) -> bool
         s,
         owners,
         leaders,
-        PROGRAMMES,
-        p,
-        SET_LIST,
+        ListAt {
+            section: PROGRAMMES,
+            k: p,
+            at: SET_LIST,
+        },
         PairTest::DifferInGroup,
     )
 }

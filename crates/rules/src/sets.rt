@@ -1,8 +1,9 @@
 // Rule 22: the sets that a programme names.
 use crate::GroupTest;
-use crate::ListedTest;
+use crate::ListAt;
+use crate::TabledTest;
 use crate::loops::any_group;
-use crate::loops::any_listed;
+use crate::loops::any_tabled;
 use crate::repeats::differ_in_group;
 use crate::repeats::one_owner;
 use sheet::fields::PROGRAMMES;
@@ -16,14 +17,16 @@ ghost use Rattle.tables.specs.steps.Right.{Included, Leaders, Owners};
 pub fn rule22(s: &[u8], owners: &[u16], leaders: &[u16], marks: &[u16], section: u8, p: u16) -> bool
     ensures { λ r. ⌜ (Owners (sheetOf (now (s .entry))) (now (owners .entry)) → Leaders (sheetOf (now (s .entry))) (now (leaders .entry)) → Included (sheetOf (now (s .entry))) p (now (marks .entry)) → r ≡ rule22 (sheetOf (now (s .entry))) section p) ⌝ }
 {
-    if any_listed(
+    if any_tabled(
         s,
         owners,
         marks,
-        PROGRAMMES,
-        p,
-        SET_LIST,
-        ListedTest::NotIncluded(p),
+        ListAt {
+            section: PROGRAMMES,
+            k: p,
+            at: SET_LIST,
+        },
+        TabledTest::NotIncluded(p),
     ) {
         return true;
     }

@@ -1,4 +1,4 @@
--- What each loop of the rules computes, over any of its tests. Assumes nothing.
+-- What each loop of the rules computes, over any of its tests, and for which tables; the sections that lists name records of. Assumes nothing.
 use Prim.Native.Nat.{ℕ, _+_}
 use mathlib.Core.Bool.{Bool, not, cond, _&&_}
 use mathlib.Core.List.{List}
@@ -16,8 +16,8 @@ use Rattle.rules.specs.declared.Key.{Key}
 use Rattle.rules.specs.declared.Key.the-variants.{Entry, Owner, Ordinal}
 use Rattle.rules.specs.declared.PairTest.{PairTest}
 use Rattle.rules.specs.declared.PairTest.the-variants.{Same, OneOwner, DifferInGroup}
-use Rattle.rules.specs.declared.ListedTest.{ListedTest}
-use Rattle.rules.specs.declared.ListedTest.the-variants.{BadComplement, DiffersFrom, NotIncluded}
+use Rattle.rules.specs.declared.TabledTest.{TabledTest}
+use Rattle.rules.specs.declared.TabledTest.the-variants.{BadComplement, DiffersFrom, NotIncluded}
 use Rattle.rules.specs.declared.GroupTest.{GroupTest}
 use Rattle.rules.specs.declared.GroupTest.the-variants.{Split, PartlySet}
 
@@ -65,20 +65,20 @@ pairRight s OneOwner owners leaders = Owners s owners
 pairRight s DifferInGroup owners leaders = Owners s owners × Leaders s leaders
 
 -- an entry passes the test
-abbrev pub listedTest : Sheet → ListedTest → ℕ → Bool
-listedTest s BadComplement e = badComplement s e
-listedTest s (DiffersFrom l) e = differs s l e
-listedTest s (NotIncluded p) e = not (includes s p (owner s e))
+abbrev pub tabledTest : Sheet → TabledTest → ℕ → Bool
+tabledTest s BadComplement e = badComplement s e
+tabledTest s (DiffersFrom l) e = differs s l e
+tabledTest s (NotIncluded p) e = not (includes s p (owner s e))
 
 -- the tables that the test reads are right
-abbrev pub listedRight : Sheet → ListedTest → List ℕ → List ℕ → Type 0
-listedRight s BadComplement tops complements = Tops s tops × Complemented s complements
-listedRight s (DiffersFrom l) a b = Unit {0}
-listedRight s (NotIncluded p) owners marks = Owners s owners × Included s p marks
+abbrev pub tabledRight : Sheet → TabledTest → List ℕ → List ℕ → Type 0
+tabledRight s BadComplement tops complements = Tops s tops × Complemented s complements
+tabledRight s (DiffersFrom l) a b = Unit {0}
+tabledRight s (NotIncluded p) owners marks = Owners s owners × Included s p marks
 
 -- some entry of the list passes it
-unfoldable pub anyListed : Sheet → ℕ → ℕ → ℕ → ListedTest → Bool
-anyListed s section k at test = any (λ i. listedTest s test (entry s section k at i)) (number s section k at)
+unfoldable pub anyTabled : Sheet → ℕ → ℕ → ℕ → TabledTest → Bool
+anyTabled s section k at test = any (λ i. tabledTest s test (entry s section k at i)) (number s section k at)
 
 -- a leader passes the test, for a programme
 abbrev pub groupTest : Sheet → ℕ → GroupTest → ℕ → Bool

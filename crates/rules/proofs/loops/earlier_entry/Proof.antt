@@ -12,10 +12,10 @@ use Rattle.rules.proofs.loops.earlier_entry.Tie as tie
 use borrow.Author.Needs.{needs}
 
 abbrev Inv-loop : tie.InvT-loop
-Inv-loop s owners leaders section k at test j y found₀ i₀ found i = (i ≤ j) × (pairRight (sheetOf s) test owners leaders → found ≡ any (λ h. pairTest (sheetOf s) test (entry (sheetOf s) section k at h) (entry (sheetOf s) section k at j)) i)
+Inv-loop s owners leaders list test j y found₀ i₀ found i = (i ≤ j) × (pairRight (sheetOf s) test owners leaders → found ≡ any (λ h. pairTest (sheetOf s) test (entry (sheetOf s) (list .section) (list .k) (list .at) h) (entry (sheetOf s) (list .section) (list .k) (list .at) j)) i)
 
 abbrev μ-loop : tie.MeasureT-loop
-μ-loop s owners leaders section k at test j y found₀ i₀ found i = j - i
+μ-loop s owners leaders list test j y found₀ i₀ found i = j - i
 
 entry-requires : tie.Need-entry-requires Inv-loop μ-loop
 entry-requires c κs = search needs

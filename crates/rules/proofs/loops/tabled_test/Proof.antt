@@ -2,8 +2,8 @@
 use Rattle.sheet.specs.Words.{sheetOf}
 use Rattle.tables.specs.steps.Right.{Tops, Complemented, Owners, Included}
 use borrow.Author.Needs.{needs}
-use Rattle.rules.proofs.loops.listed_test.Statement.{statement}
-use Rattle.rules.proofs.loops.listed_test.Tie as tie
+use Rattle.rules.proofs.loops.tabled_test.Statement.{statement}
+use Rattle.rules.proofs.loops.tabled_test.Tie as tie
 
 enum-told : tie.Need-enum-told
 enum-told c = search needs
@@ -39,8 +39,8 @@ returns-3 c =
     let a = c .before .before .before .before .before .before .before .before .args in let test2 = c .before .before .before .test2 in let s = sheetOf (a .s .now) in
     λ right. let r : Owners s (a .a .now) × Included s (test2 .given .0 .0) (a .b .now) = rw (test2 .given .1) at right in simp (c .included-by .ensures (r .1), c .before .owner-by .ensures (r .0), test2 .given .1)
 
-pub listed-test-spec : {M : Type 1} → statement M
-listed-test-spec =
+pub tabled-test-spec : {M : Type 1} → statement M
+tabled-test-spec =
     tie.close
     (tie.spec
     enum-told

@@ -11,10 +11,10 @@ use Rattle.rules.proofs.loops.two_entries.Tie as tie
 use borrow.Author.Needs.{needs}
 
 abbrev Inv-loop : tie.InvT-loop
-Inv-loop s owners leaders section k at test n found₀ j₀ found j = (j ≤ n) × (pairRight (sheetOf s) test owners leaders → found ≡ any (earlierEntry (sheetOf s) section k at test) j)
+Inv-loop s owners leaders list test n found₀ j₀ found j = (j ≤ n) × (pairRight (sheetOf s) test owners leaders → found ≡ any (earlierEntry (sheetOf s) (list .section) (list .k) (list .at) test) j)
 
 abbrev μ-loop : tie.MeasureT-loop
-μ-loop s owners leaders section k at test n found₀ j₀ found j = n - j
+μ-loop s owners leaders list test n found₀ j₀ found j = n - j
 
 number-requires : tie.Need-number-requires Inv-loop μ-loop
 number-requires c κs = search needs
