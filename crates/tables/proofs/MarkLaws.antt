@@ -1,21 +1,21 @@
 -- What a pass over namings keeps of a table. Assumes nothing.
 use Prim.Native.Nat.{ℕ, zero, suc, _+_, _<_, _≤_}
 use mathlib.Core.Path.{_≡_, refl, sym, ap, _∙_}
-use mathlib.Core.Bool.{Bool, true, false, cond, not, _||_}
+use mathlib.Core.Bool.{Bool, true, false, cond, not}
 use mathlib.Core.List.{List}
 use native.Mathlib.Omega.{arith}
 use native.Mathlib.Nat.{add-zero}
 use native.Mathlib.Numerals.{add-one}
-use borrow.Author.Tests.{eqb-true, eq-eqb, ne-eqb, eqb-false}
-use lib.Dec.{eqb, ltb}
+use borrow.Author.Tests.{eqb-true, ne-eqb, eqb-false}
+use lib.Dec.{eqb}
 use lib.ListN.{length, getD, set, replicate, length-set}
 use lib.Seq.{getD-set-same, getD-set-other}
 use Rattle.sheet.specs.Words.{Sheet}
-use Rattle.profile.specs.Counting.{any, howMany, sum}
+use Rattle.profile.specs.Counting.{howMany, sum}
 use Rattle.profile.proofs.CountingLaws.{any-howMany}
 use Rattle.tables.specs.declared.Naming.{Naming}
 use Rattle.tables.specs.declared.Mark.{Mark}
-use Rattle.tables.specs.declared.Mark.the-variants.{Count, Store, First}
+use Rattle.tables.specs.declared.Mark.the-variants.{Store, First}
 use Rattle.tables.specs.steps.Namings.{items, item}
 use Rattle.tables.specs.steps.Marks.{Standing, MarkedTimes, marked, repeat, timesBy, namedBefore, namesBy, firstFrom}
 

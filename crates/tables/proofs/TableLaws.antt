@@ -5,22 +5,20 @@ use mathlib.Core.Logic.{⊎-elim}
 use mathlib.Core.Bool.{Bool, true, false, cond, not, _&&_, _||_}
 use native.Mathlib.Omega.{arith}
 use native.Mathlib.Nat.{zero-add, add-zero, eq-or-lt-of-le}
-use borrow.Author.Tests.{eq-eqb, ne-eqb, lt-ltb, le-ltb, le-leb, lt-leb, ltb-true, ltb-false, leb-true, eqb-true, eqb-false}
+use borrow.Author.Tests.{eq-eqb, ne-eqb, lt-ltb, le-ltb, le-leb, ltb-true, ltb-false, leb-true, eqb-true, eqb-false}
 use mathlib.Core.List.{List}
 use lib.Dec.{eqb, leb, ltb}
 use lib.ListN.{length, getD}
 use Rattle.sheet.specs.Words.{Sheet}
 use Rattle.sheet.specs.Layout.{count, field, first, number, entry}
-use Rattle.sheet.specs.Fields.{programmes, contents, objects, contentList, setList, contentObject, childList, complementList, setSpan}
+use Rattle.sheet.specs.Fields.{programmes, contents, objects, contentList, setList, contentObject, complementList, setSpan}
 use Rattle.profile.specs.Counting.{any, howMany, sum, lowest, lowestFrom}
 use Rattle.profile.specs.Relations.{lists, times, top, complement, leaderOf, includes, hasSet, owner, namedSet, namesSet, namings}
 use Rattle.profile.proofs.CountingLaws.{any-howMany, any-none, found, nothing, lowest-le}
 use Rattle.profile.proofs.SumLaws.{sum-eq, sum-swap, howMany-sum, any-nowhere}
-use Rattle.tables.specs.declared.Naming.{Naming}
 use Rattle.tables.specs.declared.Naming.the-variants.{ContentObjects, Children, Complements, ContentLists, Included, SetLists, SetSpans}
 use Rattle.tables.specs.declared.Mark.the-variants.{Count, Store}
-use Rattle.tables.specs.steps.Namings.{namers, items, item}
-use Rattle.tables.specs.steps.Marks.{Standing, marked, repeat, timesBy, namedBy, namesBy, firstFrom, firstBy}
+use Rattle.tables.specs.steps.Marks.{marked, repeat, timesBy, namedBy, namesBy, firstFrom, firstBy}
 use Rattle.tables.specs.steps.Right.{counted, told, NamedSets}
 use Rattle.tables.proofs.MarkLaws.{repeat-add, repeat-store}
 

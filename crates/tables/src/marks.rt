@@ -1,8 +1,6 @@
 // Passes that mark a table. A record past the table's end is passed over.
 use crate::Mark;
 use crate::Naming;
-use crate::namings::item;
-use crate::namings::items;
 use crate::namings::namers;
 use sheet::fields::CHILD_LIST;
 use sheet::fields::COMPLEMENT_LIST;
@@ -14,6 +12,7 @@ use sheet::fields::PROGRAMMES;
 use sheet::fields::REFERENCES;
 use sheet::fields::SET_LIST;
 use sheet::fields::SET_SPAN;
+use sheet::layout::entry;
 use sheet::layout::field;
 use sheet::layout::number;
 use sheet::layout::offset;
@@ -27,8 +26,9 @@ ghost use Rattle.profile.specs.Counting.{howMany};
 ghost use Rattle.profile.specs.Relations.{times};
 ghost use Rattle.sheet.specs.Words.{sheetOf, word};
 ghost use Rattle.tables.specs.steps.Marks.{Filled, MarkedTimes, NamingsCounted, Standing, firstBy, marked, timesBy};
+ghost use Rattle.tables.specs.steps.Namings.{item};
 ghost use Rattle.tables.specs.steps.Right.{Included, NamedSets};
-ghost use Rattle.tables.specs.declared.Naming.the-variants.{Included as IncludedObjects};
+ghost use Rattle.tables.specs.declared.Naming.the-variants.{ContentObjects, Included as IncludedObjects};
 
 // What a place has after a mark.
 pub fn after(mark: Mark, c: u16) -> u16
@@ -77,14 +77,33 @@ pub fn mark_list(s: &[u8], base: u16, first: u16, n: u16, mark: Mark, table: &mu
     }
 }
 
+// Marks the object that a content names.
+pub fn mark_object(s: &[u8], q: u16, mark: Mark, table: &mut [u16])
+    ensures { λ r. ⌜ MarkedTimes mark (timesBy (sheetOf (now (s .entry))) ContentObjects q) (now (table .entry)) (now (table .exit)) ⌝ }
+{
+    mark_at(table, field(s, CONTENTS, q, CONTENT_OBJECT) as u32, mark);
+}
+
+// The object of the content at a place of a programme's list.
+fn included_object(s: &[u8], q: u16, i: u16) -> u16
+    ensures { λ r. ⌜ r ≡ item (sheetOf (now (s .entry))) IncludedObjects q i ⌝ }
+{
+    field(
+        s,
+        CONTENTS,
+        entry(s, PROGRAMMES, q, CONTENT_LIST, i),
+        CONTENT_OBJECT,
+    )
+}
+
 // Marks the objects that a programme includes.
 fn mark_objects(s: &[u8], q: u16, mark: Mark, table: &mut [u16])
     ensures { λ r. ⌜ MarkedTimes mark (timesBy (sheetOf (now (s .entry))) IncludedObjects q) (now (table .entry)) (now (table .exit)) ⌝ }
 {
-    let n = items(s, Naming::Included, q);
+    let n = number(s, PROGRAMMES, q, CONTENT_LIST);
     let mut i: u16 = 0;
     while i < n {
-        mark_at(table, item(s, Naming::Included, q, i), mark);
+        mark_at(table, included_object(s, q, i) as u32, mark);
         i += 1;
     }
 }
@@ -108,11 +127,7 @@ pub fn mark_items(s: &[u8], kind: Naming, q: u16, mark: Mark, table: &mut [u16])
     ensures { λ r. ⌜ MarkedTimes mark (timesBy (sheetOf (now (s .entry))) kind q) (now (table .entry)) (now (table .exit)) ⌝ }
 {
     match kind {
-        Naming::ContentObjects => mark_at(
-            table,
-            field(s, CONTENTS, q, CONTENT_OBJECT) as u32,
-            mark,
-        ),
+        Naming::ContentObjects => mark_object(s, q, mark, table),
         Naming::Children => mark_entries(s, OBJECTS, q, CHILD_LIST, mark, table),
         Naming::Complements => mark_entries(s, OBJECTS, q, COMPLEMENT_LIST, mark, table),
         Naming::ContentLists => mark_entries(s, PROGRAMMES, q, CONTENT_LIST, mark, table),

@@ -1,13 +1,12 @@
 // Passes over all records of a section that count what they name, some in several tables at once.
 use crate::Mark;
 use crate::Naming;
-use crate::marks::mark_at;
 use crate::marks::mark_items;
 use crate::marks::mark_list;
+use crate::marks::mark_object;
 use sheet::fields::CHILD_LIST;
 use sheet::fields::COMPLEMENT_LIST;
 use sheet::fields::CONTENT_LIST;
-use sheet::fields::CONTENT_OBJECT;
 use sheet::fields::CONTENTS;
 use sheet::fields::OBJECTS;
 use sheet::fields::PROGRAMMES;
@@ -26,17 +25,6 @@ ghost use Rattle.tables.specs.steps.Passes.{ListsCounted, TopsCounted};
 ghost use Rattle.tables.specs.declared.Mark.the-variants.{Count, First};
 ghost use Rattle.tables.specs.declared.Naming.the-variants.{ContentLists, ContentObjects};
 
-// Counts the object that a content names.
-fn count_object(s: &[u8], q: u16, table: &mut [u16])
-    ensures { λ r. ⌜ MarkedTimes Count (timesBy (sheetOf (now (s .entry))) ContentObjects q) (now (table .entry)) (now (table .exit)) ⌝ }
-{
-    mark_at(
-        table,
-        field(s, CONTENTS, q, CONTENT_OBJECT) as u32,
-        Mark::Count,
-    );
-}
-
 // Marks the n records that a record names, mostly none.
 fn mark_some(s: &[u8], kind: Naming, q: u16, n: u16, mark: Mark, table: &mut [u16])
     requires { ⌜ n ≡ items (sheetOf (now s)) kind q ⌝ }
@@ -54,8 +42,8 @@ pub fn count_tops(s: &[u8], tops: &mut [u16], named: &mut [u16])
     let n = count(s, CONTENTS);
     let mut q: u16 = 0;
     while q < n {
-        count_object(s, q, tops);
-        count_object(s, q, named);
+        mark_object(s, q, Mark::Count, tops);
+        mark_object(s, q, Mark::Count, named);
         q += 1;
     }
 }

@@ -1,9 +1,8 @@
 -- Found so far is what the words passed have. Assumes nothing.
-use Prim.Native.Nat.{_-_, _≤_}
+use Prim.Native.Nat.{_-_, _≤_, _+_}
 use mathlib.Core.Path.{_≡_, refl, ap, _∙_}
 use native.Mathlib.Omega.{arith}
 use native.Mathlib.Numerals.{add-one}
-use Prim.Native.Nat.{_+_}
 use mathlib.Core.Bool.{not}
 use lib.Dec.{eqb}
 use Rattle.profile.specs.Counting.{any}

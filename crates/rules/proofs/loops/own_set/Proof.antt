@@ -1,9 +1,8 @@
 -- Found so far is what the sets passed have. Assumes nothing.
-use Prim.Native.Nat.{_-_, _≤_}
+use Prim.Native.Nat.{_-_, _≤_, _+_}
 use mathlib.Core.Path.{_≡_, refl, ap, _∙_}
 use native.Mathlib.Omega.{arith}
 use native.Mathlib.Numerals.{add-one}
-use Prim.Native.Nat.{_+_}
 use lib.Dec.{eqb}
 use Rattle.profile.specs.Counting.{any}
 use Rattle.sheet.specs.Layout.{field, first, number}

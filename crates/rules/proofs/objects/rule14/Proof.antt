@@ -52,11 +52,22 @@ odd-tracks-requires c κs = search needs
 returns-2 : tie.Need-returns-2
 unfolding rule14 oddTracks trackAt entry channels
 returns-2 c =
-    let a′ = c .before .before .before .before .before .before .before .before .before .before .before .before .args in
+    let a = c .before .before .before .before .before .before .before .before .before .before .before .before .args in
+    let s = sheetOf (a .s .now) in
+    let first = field s objects (a .o) trackList in
+    let n = number s objects (a .o) trackList in
     let number′ = c .before .before .before .before .before .before .before .before .number in
-    let channels′ = c .before .before .before .before .before .before .before .channels in let if1 = c .before .before .before .before .before .before .if1 in
-    let field′ = c .before .before .before .before .before .field in let inside = c .before .before .before .before .inside in let s = sheetOf (a′ .s .now) in
-    λ next again. let t = all-three _ _ _ (c .before .before .if2 .taken) in let f = all-three _ _ _ (sym (inside .ensures) ∙ t .1) in let g = all-three _ _ _ (sym (c .before .before .before .inside2 .ensures) ∙ t .2) in let e : (number s objects (a′ .o) trackList) ≡ channels s (a′ .o) = (sym (number′ .ensures) ∙ if1 .left ∙ channels′ .ensures) in let full : field s packs (c .before .pack-of .result) packChannels ≡ number′ .result = ap (λ (p : ℕ). field s packs p packChannels) (c .before .pack-of .ensures) ∙ with-pack (hasChildren s (a′ .o)) (number′ .result) (field s packs (packOf s (a′ .o)) packChannels) (number′ .ensures ∙ e) (ltb-true _ _ (t .0)) in let r = c .odd-tracks .ensures next again (ltb-true _ _ (f .0)) (ltb-true _ _ (g .0)) (leb-true _ _ (f .2)) full in rw (eq-eqb _ _ e) (r ∙ ap₂ (λ (a n : ℕ). oddTracks s a n (c .before .pack-of .result)) (field′ .ensures) (number′ .ensures) ∙ ap (oddTracks s (field s objects (a′ .o) trackList) (number s objects (a′ .o) trackList)) (c .before .pack-of .ensures) ∙ ap (λ (m : ℕ). any (λ i. not (eqb (packAt s ((field s objects (a′ .o) trackList) + i)) (packOf s (a′ .o)))) (number s objects (a′ .o) trackList) || any (λ k. not (eqb (howMany (λ i. eqb (ordinalAt s ((field s objects (a′ .o) trackList) + i)) k) (number s objects (a′ .o) trackList)) 1)) m) e)
+    let pack = c .before .pack-of in
+    let tested = all-three _ _ _ (c .before .before .if2 .taken) in
+    let in-next = all-three _ _ _ (sym (c .before .before .before .before .inside .ensures) ∙ tested .1) in
+    let in-again = all-three _ _ _ (sym (c .before .before .before .inside2 .ensures) ∙ tested .2) in
+    let e : n ≡ channels s (a .o) = sym (number′ .ensures) ∙ c .before .before .before .before .before .before .if1 .left ∙ c .before .before .before .before .before .before .before .channels .ensures in
+    let full = ap (λ (p : ℕ). field s packs p packChannels) (pack .ensures) ∙ with-pack (hasChildren s (a .o)) (number′ .result) (field s packs (packOf s (a .o)) packChannels) (number′ .ensures ∙ e) (ltb-true _ _ (tested .0)) in
+    λ next again. rw (eq-eqb _ _ e)
+    (c .odd-tracks .ensures next again (ltb-true _ _ (in-next .0)) (ltb-true _ _ (in-again .0)) (leb-true _ _ (in-next .2)) full
+    ∙ ap₂ (λ (i m : ℕ). oddTracks s i m (pack .result)) (c .before .before .before .before .before .field .ensures) (number′ .ensures)
+    ∙ ap (oddTracks s first n) (pack .ensures)
+    ∙ ap (λ (m : ℕ). any (λ i. not (eqb (packAt s (first + i)) (packOf s (a .o)))) n || any (λ k. not (eqb (howMany (λ i. eqb (ordinalAt s (first + i)) k) n) 1)) m) e)
 
 pack-of-requires-2 : tie.Need-pack-of-requires-2
 pack-of-requires-2 c κs = search needs

@@ -1,6 +1,6 @@
 -- By the channels, or by ordinals that are too high or alike. Assumes nothing.
 use Prim.Native.Nat.{ℕ}
-use mathlib.Core.Path.{_≡_, sym, ap, ap₂, _∙_}
+use mathlib.Core.Path.{sym, ap, ap₂, _∙_}
 use mathlib.Core.Bool.{Bool, not, _||_}
 use lib.Dec.{eqb, leb}
 use Rattle.profile.specs.Counting.{any, howMany}
@@ -36,9 +36,12 @@ keys-alike-requires c κs = search needs
 returns-2 : tie.Need-returns-2
 unfolding badChannel keysAlike anyEntry trackAt
 returns-2 c =
-    let a′ = c .before .before .before .before .before .before .args in let number′ = c .before .before .before .before .number in
-    let any-entry = c .before .before .any-entry in let s = sheetOf (a′ .s .now) in
-    λ e. let past : any-entry .result ≡ any (λ i. leb (number s objects (a′ .o) trackList) (field s tracks (trackAt s (a′ .o) i) trackOrdinal)) (number s objects (a′ .o) trackList) = any-entry .ensures ∙ ap (λ (m : ℕ). any (λ i. leb m (field s tracks (trackAt s (a′ .o) i) trackOrdinal)) (number s objects (a′ .o) trackList)) (number′ .ensures) in ap₂ (λ (a b : Bool). a || b) past (c .keys-alike .ensures tt) ∙ sym (once-each (λ i. field s tracks (trackAt s (a′ .o) i) trackOrdinal) (number s objects (a′ .o) trackList)) ∙ ap (any (λ h. not (eqb (howMany (λ i. eqb (field s tracks (trackAt s (a′ .o) i) trackOrdinal) h) (number s objects (a′ .o) trackList)) 1))) e
+    let a = c .before .before .before .before .before .before .args in
+    let s = sheetOf (a .s .now) in
+    let n = number s objects (a .o) trackList in
+    let f : ℕ → ℕ = λ i. field s tracks (trackAt s (a .o) i) trackOrdinal in
+    let past = c .before .before .any-entry .ensures ∙ ap (λ (m : ℕ). any (λ i. leb m (f i)) n) (c .before .before .before .before .number .ensures) in
+    λ e. ap₂ (λ (a b : Bool). a || b) past (c .keys-alike .ensures tt) ∙ sym (once-each f n) ∙ ap (any (λ h. not (eqb (howMany (λ i. eqb (f i) h) n) 1))) e
 
 pub bad-ordinals-spec : {M : Type 1} → statement M
 bad-ordinals-spec =

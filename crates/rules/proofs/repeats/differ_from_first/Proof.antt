@@ -1,9 +1,8 @@
 -- No two of the sets passed differ within a group. Assumes nothing.
-use Prim.Native.Nat.{ℕ, _-_, _≤_}
+use Prim.Native.Nat.{ℕ, _-_, _<_, _≤_}
 use mathlib.Core.Path.{_≡_, sym, ap, ap₂, _∙_}
-use mathlib.Core.Bool.{false}
 use native.Mathlib.Omega.{arith}
-use borrow.Author.Count.{below-none, below-more}
+use borrow.Author.Count.{below-none}
 use lib.ListN.{length, length-replicate}
 use Rattle.profile.specs.Counting.{any, twoOf}
 use Rattle.profile.specs.Relations.{leaderOf, owner, namedSet}
@@ -14,13 +13,16 @@ use Rattle.sheet.specs.Fields.{programmes, setList}
 use Rattle.sheet.specs.Words.{sheetOf}
 use Rattle.tables.specs.steps.Right.{Owners, Leaders}
 use Rattle.rules.specs.steps.Loops.{twoEntries}
-use Rattle.rules.proofs.DifferLaws.{differ, Firsts, Agree, firsts-none, firsts-more, agree-next, found-next}
+use Rattle.rules.proofs.DifferLaws.{differ, Firsts, Agree, firsts-none, firsts-next, found-next}
 use Rattle.rules.proofs.repeats.differ_from_first.Statement.{statement}
 use Rattle.rules.proofs.repeats.differ_from_first.Tie as tie
 use borrow.Author.Needs.{needs}
 
 abbrev Inv-loop : tie.InvT-loop
-Inv-loop s owners leaders p n first₀ j₀ first j = (j ≤ n) × (length first ≡ 2048) × (Owners (sheetOf s) owners → Leaders (sheetOf s) leaders → Firsts (sheetOf s) (λ h. namedSet (sheetOf s) p h) (λ h. leaderOf (sheetOf s) (owner (sheetOf s) (namedSet (sheetOf s) p h))) first j × Agree (sheetOf s) (λ h. namedSet (sheetOf s) p h) (λ h. leaderOf (sheetOf s) (owner (sheetOf s) (namedSet (sheetOf s) p h))) j)
+Inv-loop s owners leaders p n first₀ j₀ first j =
+    (j ≤ n)
+    × (length first ≡ 2048)
+    × (Owners (sheetOf s) owners → Leaders (sheetOf s) leaders → Firsts (sheetOf s) (namedSet (sheetOf s) p) (λ h. leaderOf (sheetOf s) (owner (sheetOf s) (namedSet (sheetOf s) p h))) first j × Agree (sheetOf s) (namedSet (sheetOf s) p) (λ h. leaderOf (sheetOf s) (owner (sheetOf s) (namedSet (sheetOf s) p h))) j)
 
 abbrev μ-loop : tie.MeasureT-loop
 μ-loop s owners leaders p n first₀ j₀ first j = n - j
@@ -30,11 +32,9 @@ number-requires c κs = search needs
 
 loop-holds : tie.Need-loop-holds Inv-loop μ-loop
 loop-holds c =
-    let a = c .before .before .before .before .args in let s = sheetOf (a .s .now) in (
-      search needs,
-      length-replicate {A = ℕ} 2048 0,
-      λ owners leaders. (firsts-none s (λ i. namedSet s (a .p) i) (λ i. leaderOf s (owner s (namedSet s (a .p) i))) 2048, below-none _),
-    )
+    let a = c .before .before .before .before .args in
+    let s = sheetOf (a .s .now) in
+    (search needs, length-replicate {A = ℕ} 2048 0, λ owners leaders. (firsts-none s (namedSet s (a .p)) (λ i. leaderOf s (owner s (namedSet s (a .p) i))) 2048, below-none _))
 
 named-set-requires : tie.Need-named-set-requires Inv-loop μ-loop
 named-set-requires c κs = search needs
@@ -67,14 +67,17 @@ returns-2 : tie.Need-returns-2 Inv-loop μ-loop
 unfolding twoEntries twoOf namedSet
 returns-2 c =
     let a = c .before .before .before .before .before .before .before .before .before .before .before .before .before .before .before .before .args in
-    let number′ = c .before .before .before .before .before .before .before .before .before .before .before .before .number in
+    let s = sheetOf (a .s .now) in
+    let e = namedSet s (a .p) in
+    let g : ℕ → ℕ = λ i. leaderOf s (owner s (e i)) in
     let l = c .before .before .before .before .before .before .before .before .before .before .before .loop in
-    let test = c .before .before .before .before .before .before .before .before .before .before .loop-test in
-    let named-set = c .before .before .before .before .before .before .before .before .before .named-set in
-    let owner-by = c .before .before .before .before .before .before .before .before .owner-by in
-    let leader-by = c .before .before .before .before .before .before .before .leader-by in let if1 = c .before .before .before .before .before .before .if1 in
-    let first-of = c .before .before .before .before .first-of in let s = sheetOf (a .s .now) in
-    λ owners leaders. sym (any-one (λ m. any (λ i. differ s (λ i. namedSet s (a .p) i) (λ i. leaderOf s (owner s (namedSet s (a .p) i))) i m) m) (number s programmes (a .p) setList) (l .j) (omega (arith, test .taken, number′ .ensures)) (found-next s (λ i. namedSet s (a .p) i) (λ i. leaderOf s (owner s (namedSet s (a .p) i))) (l .first) (l .j) (leader-by .result) (first-of .result) (l .inv .2 owners leaders .0) (leader-by .ensures leaders ∙ ap (leaderOf s) (owner-by .ensures owners ∙ ap (owner s) (named-set .ensures))) (omega (arith, l .inv .1, if1 .left)) (first-of .ensures .1) (l .inv .2 owners leaders .1) (sym (c .before .sets-differ .ensures ∙ ap₂ (setsDiffer s) (c .before .before .named-set2 .ensures) (named-set .ensures)) ∙ c .if2 .taken)))
+    let set = c .before .before .before .before .before .before .before .before .before .named-set .ensures in
+    let lead = c .before .before .before .before .before .before .before .leader-by in
+    let place = c .before .before .before .before .first-of in
+    let inside : lead .result < length (l .first) = omega (arith, l .inv .1, c .before .before .before .before .before .before .if1 .left) in
+    let test = sym (c .before .sets-differ .ensures ∙ ap₂ (setsDiffer s) (c .before .before .named-set2 .ensures) set) in
+    let below : l .j < number s programmes (a .p) setList = omega (arith, c .before .before .before .before .before .before .before .before .before .before .loop-test .taken, c .before .before .before .before .before .before .before .before .before .before .before .before .number .ensures) in
+    λ owners leaders. sym (any-one (λ m. any (λ i. differ s e g i m) m) _ (l .j) below (found-next s e g (l .first) (l .j) (lead .result) (place .result) (l .inv .2 owners leaders .0) (lead .ensures leaders ∙ ap (leaderOf s) (c .before .before .before .before .before .before .before .before .owner-by .ensures owners ∙ ap (owner s) set)) inside (place .ensures .1) (l .inv .2 owners leaders .1) (test ∙ c .if2 .taken)))
 
 add-j : tie.Need-add-j Inv-loop μ-loop
 add-j c = search needs
@@ -85,21 +88,25 @@ loop-less c = search needs
 loop-again : tie.Need-loop-again Inv-loop μ-loop
 loop-again c =
     let a = c .before .before .before .before .before .before .before .before .before .before .before .before .before .before .before .before .args in
+    let s = sheetOf (a .s .now) in
+    let e = namedSet s (a .p) in
+    let g : ℕ → ℕ = λ i. leaderOf s (owner s (e i)) in
     let l = c .before .before .before .before .before .before .before .before .before .before .before .loop in
-    let named-set = c .before .before .before .before .before .before .before .before .before .named-set in
-    let owner-by = c .before .before .before .before .before .before .before .before .owner-by in
-    let leader-by = c .before .before .before .before .before .before .before .leader-by in let if1 = c .before .before .before .before .before .before .if1 in
-    let first-of = c .before .before .before .before .first-of in let s = sheetOf (a .s .now) in (
-      search needs,
-      first-of .ensures .0,
-      λ owners leaders. (firsts-more s (λ i. namedSet s (a .p) i) (λ i. leaderOf s (owner s (namedSet s (a .p) i))) (l .first) (l .j) (leader-by .result) (first-of .result) (l .inv .2 owners leaders .0) (leader-by .ensures leaders ∙ ap (leaderOf s) (owner-by .ensures owners ∙ ap (owner s) (named-set .ensures))) (omega (arith, l .inv .1, if1 .left)) (first-of .ensures .1) (first-of .last .0) (first-of .ensures .0 ∙ sym (l .inv .1)) (first-of .ensures .2), below-more (λ m. any (λ i. differ s (λ i. namedSet s (a .p) i) (λ i. leaderOf s (owner s (namedSet s (a .p) i))) i m) m ≡ false) (l .j) (l .inv .2 owners leaders .1) (agree-next s (λ i. namedSet s (a .p) i) (λ i. leaderOf s (owner s (namedSet s (a .p) i))) (l .first) (l .j) (leader-by .result) (first-of .result) (l .inv .2 owners leaders .0) (leader-by .ensures leaders ∙ ap (leaderOf s) (owner-by .ensures owners ∙ ap (owner s) (named-set .ensures))) (omega (arith, l .inv .1, if1 .left)) (first-of .ensures .1) (l .inv .2 owners leaders .1) (sym (c .before .sets-differ .ensures ∙ ap₂ (setsDiffer s) (c .before .before .named-set2 .ensures) (named-set .ensures)) ∙ c .if2 .left))),
-    )
+    let set = c .before .before .before .before .before .before .before .before .before .named-set .ensures in
+    let lead = c .before .before .before .before .before .before .before .leader-by in
+    let place = c .before .before .before .before .first-of in
+    let inside : lead .result < length (l .first) = omega (arith, l .inv .1, c .before .before .before .before .before .before .if1 .left) in
+    let test = sym (c .before .sets-differ .ensures ∙ ap₂ (setsDiffer s) (c .before .before .named-set2 .ensures) set) in
+    (search needs, place .ensures .0, λ owners leaders. firsts-next s e g (l .first) (l .j) (lead .result) (place .result) (l .inv .2 owners leaders .0) (lead .ensures leaders ∙ ap (leaderOf s) (c .before .before .before .before .before .before .before .before .owner-by .ensures owners ∙ ap (owner s) set)) inside (place .ensures .1) (l .inv .2 owners leaders .1) (test ∙ c .if2 .left) (place .last .0) (place .ensures .0 ∙ sym (l .inv .1)) (place .ensures .2))
 
 returns-3 : tie.Need-returns-3 Inv-loop μ-loop
 unfolding twoEntries twoOf namedSet
 returns-3 c =
-    let a = c .before .before .before .before .before .before .args in let s = sheetOf (a .s .now) in
-    λ owners leaders. sym (any-nowhere (λ m. any (λ i. differ s (λ i. namedSet s (a .p) i) (λ i. leaderOf s (owner s (namedSet s (a .p) i))) i m) m) (number s programmes (a .p) setList) (λ m l. (c .before .loop .inv .2 owners leaders .1) m (omega (arith, l, c .loop-test .left, c .before .before .number .ensures))))
+    let a = c .before .before .before .before .before .before .args in
+    let s = sheetOf (a .s .now) in
+    let e = namedSet s (a .p) in
+    let g : ℕ → ℕ = λ i. leaderOf s (owner s (e i)) in
+    λ owners leaders. sym (any-nowhere (λ m. any (λ i. differ s e g i m) m) (number s programmes (a .p) setList) (λ m l. c .before .loop .inv .2 owners leaders .1 m (omega (arith, l, c .loop-test .left, c .before .before .number .ensures))))
 
 pub differ-from-first-spec : {M : Type 1} → statement M
 differ-from-first-spec =

@@ -1,20 +1,22 @@
 -- What stands from x on is right. Assumes nothing.
 use Prim.Native.Nat.{suc, _-_, _≤_}
-use mathlib.Core.Path.{_≡_, refl, ap, _∙_}
-use mathlib.Core.Bool.{Bool, cond}
+use mathlib.Core.Path.{_≡_, refl, _∙_}
 use native.Mathlib.Omega.{arith}
 use lib.ListN.{length}
 use Rattle.sheet.specs.Words.{sheetOf}
 use Rattle.sheet.specs.Layout.{count}
 use Rattle.sheet.specs.Fields.{references}
 use Rattle.runs.specs.steps.Runs.{Next, referenceTest}
-use Rattle.runs.proofs.RunLaws.{next-start, next-more, Filled, filled-start, filled-more}
+use Rattle.runs.proofs.RunLaws.{next-start, next-more, FilledFrom, filled-start, filled-more}
 use borrow.Author.Needs.{needs}
 use Rattle.runs.proofs.fill.fill_next.Statement.{statement}
 use Rattle.runs.proofs.fill.fill_next.Tie as tie
 
 abbrev Inv-loop : tie.InvT-loop
-Inv-loop s test table₀ x₀ next₀ table x next = (x ≤ (count (sheetOf s) references)) × (length table ≡ length table₀) × Next (referenceTest (sheetOf s) test) (count (sheetOf s) references) x next × Filled (Next (referenceTest (sheetOf s) test) (count (sheetOf s) references)) (count (sheetOf s) references) x table
+Inv-loop s test table₀ x₀ next₀ table x next =
+    let p = referenceTest (sheetOf s) test in
+    let m = count (sheetOf s) references in
+    (x ≤ m) × (length table ≡ length table₀) × Next p m x next × FilledFrom (Next p m) m x table
 
 abbrev μ-loop : tie.MeasureT-loop
 μ-loop s test table₀ x₀ next₀ table x next = x
@@ -24,12 +26,10 @@ count-requires c κs = search needs
 
 loop-holds : tie.Need-loop-holds Inv-loop μ-loop
 loop-holds c =
-    let a = c .before .before .before .args in let s = sheetOf (a .s .now) in (
-      omega (arith, c .count .ensures),
-      refl,
-      rw (c .count .ensures) (next-start (count s references) (referenceTest s (a .test)) (count s references) (omega arith)),
-      rw (c .count .ensures) (filled-start (Next (referenceTest s (a .test)) (count s references)) (count s references) (a .table .now)),
-    )
+    let a = c .before .before .before .args in
+    let p = referenceTest (sheetOf (a .s .now)) (a .test) in
+    let m = count (sheetOf (a .s .now)) references in
+    rw (c .count .ensures) (omega arith, refl, next-start m p m (omega arith), filled-start (Next p m) m (a .table .now))
 
 sub-y : tie.Need-sub-y Inv-loop μ-loop
 sub-y c = search needs
@@ -52,18 +52,16 @@ loop-less c = search needs
 loop-again : tie.Need-loop-again Inv-loop μ-loop
 loop-again c =
     let a = c .before .before .before .before .before .before .before .before .before .before .before .args in
-    let l = c .before .before .before .before .before .before .before .loop in let test = c .before .before .before .before .before .before .loop-test in
-    let reference-test = c .before .before .before .before .before .reference-test in let here-or = c .before .before .before .before .here-or in
-    let mark-at = c .before .before .mark-at in let s = sheetOf (a .s .now) in
+    let p = referenceTest (sheetOf (a .s .now)) (a .test) in
+    let m = count (sheetOf (a .s .now)) references in
+    let l = c .before .before .before .before .before .before .before .loop in
     let x = l .x - 1 in
-    let e : suc x ≡ l .x = omega (arith, test .taken) in
-    let v : here-or .result ≡ cond ((referenceTest s (a .test)) x) x (l .next) = here-or .ensures ∙ ap (λ (b : Bool). cond b x (l .next)) (reference-test .ensures) in
-    let n : Next (referenceTest s (a .test)) (count s references) x (here-or .result) = rw v (next-more (count s references) x (omega (arith, l .inv .0)) (referenceTest s (a .test)) (l .next) (rw e (l .inv .2))) in (
-      omega (arith, l .inv .0),
-      mark-at .ensures .0 ∙ l .inv .1,
-      n,
-      filled-more (Next (referenceTest s (a .test)) (count s references)) (count s references) x (here-or .result) (l .table) (mark-at .last .0) (mark-at .ensures .0) (rw e (l .inv .3)) n (mark-at .ensures .1),
-    )
+    let here = c .before .before .before .before .here-or in
+    let at = c .before .before .mark-at in
+    let e : suc x ≡ l .x = omega (arith, c .before .before .before .before .before .before .loop-test .taken) in
+    let i : suc x ≤ m = omega (arith, l .inv .0) in
+    let n : Next p m x (here .result) = rw (here .ensures, c .before .before .before .before .before .reference-test .ensures) (next-more m x i p (l .next) (rw e (l .inv .2))) in
+    (omega (arith, i), at .ensures .0 ∙ l .inv .1, n, filled-more (Next p m) m x (here .result) (l .table) (at .last .0) (at .ensures .0) (rw e (l .inv .3)) n (at .ensures .1))
 
 same-length : tie.Need-same-length Inv-loop μ-loop
 same-length c = c .before .loop .inv .1

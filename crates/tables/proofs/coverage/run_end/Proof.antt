@@ -1,5 +1,5 @@
 -- The first index and the number added up. Assumes nothing.
-use Rattle.tables.specs.steps.Coverage.{runBegin, runEnd}
+use Rattle.tables.specs.steps.Coverage.{runEnd}
 use borrow.Author.Needs.{needs}
 use Rattle.tables.proofs.coverage.run_end.Statement.{statement}
 use Rattle.tables.proofs.coverage.run_end.Tie as tie

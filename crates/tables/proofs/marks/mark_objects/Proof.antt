@@ -19,15 +19,18 @@ Inv-loop s q mark table₀ n i₀ table i = (i ≤ n) × MarkedTimes mark (λ x.
 abbrev μ-loop : tie.MeasureT-loop
 μ-loop s q mark table₀ n i₀ table i = n - i
 
-items-requires : tie.Need-items-requires Inv-loop μ-loop
-items-requires c κs = search needs
+number-requires : tie.Need-number-requires Inv-loop μ-loop
+number-requires c κs = search needs
 
 loop-holds : tie.Need-loop-holds Inv-loop μ-loop
 unfolding howMany repeat
 loop-holds c = (search needs, (refl, λ x l. refl))
 
-item-requires : tie.Need-item-requires Inv-loop μ-loop
-item-requires c κs = search needs
+included-object-requires : tie.Need-included-object-requires Inv-loop μ-loop
+included-object-requires c κs = search needs
+
+cast-mark-at : tie.Need-cast-mark-at Inv-loop μ-loop
+cast-mark-at c = search needs
 
 mark-at-requires : tie.Need-mark-at-requires Inv-loop μ-loop
 mark-at-requires c κs = search needs
@@ -43,7 +46,7 @@ loop-again c =
     let a = c .before .before .before .before .before .before .before .before .before .before .args in
     let l = c .before .before .before .before .before .before .loop in
     let at = c .before .before .mark-at in
-    (search needs, (at .ensures .0 ∙ l .inv .1 .0, items-more (marked (a .mark)) (a .table .now) (l .table) (at .last .0) (at .ensures .0) (item (sheetOf (a .s .now)) Included (a .q)) (l .i) (c .before .before .before .item .result) (c .before .before .before .item .ensures) (l .inv .1 .1) (at .ensures .1)))
+    (search needs, (at .ensures .0 ∙ l .inv .1 .0, items-more (marked (a .mark)) (a .table .now) (l .table) (at .last .0) (at .ensures .0) (item (sheetOf (a .s .now)) Included (a .q)) (l .i) (c .before .before .before .included-object .result) (c .before .before .before .included-object .ensures) (l .inv .1 .1) (at .ensures .1)))
 
 same-length : tie.Need-same-length Inv-loop μ-loop
 same-length c = c .before .loop .inv .1 .0
@@ -52,7 +55,7 @@ returns : tie.Need-returns Inv-loop μ-loop
 unfolding timesBy
 returns c =
     let a = c .before .before .before .before .before .args in
-    let e : c .before .loop .i ≡ items (sheetOf (a .s .now)) Included (a .q) = omega (arith, c .before .before .items .ensures, c .loop-test .left) in
+    let e : c .before .loop .i ≡ items (sheetOf (a .s .now)) Included (a .q) = omega (arith, c .before .before .number .ensures, c .loop-test .left) in
     rw e at (c .before .loop .inv .1)
 
 pub mark-objects-spec : {M : Type 1} → statement M
@@ -61,9 +64,10 @@ mark-objects-spec =
     (tie.spec
     Inv-loop
     μ-loop
-    items-requires
+    number-requires
     loop-holds
-    item-requires
+    included-object-requires
+    cast-mark-at
     mark-at-requires
     add-i
     loop-less

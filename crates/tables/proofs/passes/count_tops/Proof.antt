@@ -27,11 +27,11 @@ loop-holds : tie.Need-loop-holds Inv-loop μ-loop
 unfolding sum repeat
 loop-holds c = (search needs, (refl, λ x l. refl), (refl, λ x l. refl))
 
-count-object-requires : tie.Need-count-object-requires Inv-loop μ-loop
-count-object-requires c κs = search needs
+mark-object-requires : tie.Need-mark-object-requires Inv-loop μ-loop
+mark-object-requires c κs = search needs
 
-count-object-requires-2 : tie.Need-count-object-requires-2 Inv-loop μ-loop
-count-object-requires-2 c κs = search needs
+mark-object-requires-2 : tie.Need-mark-object-requires-2 Inv-loop μ-loop
+mark-object-requires-2 c κs = search needs
 
 add-q : tie.Need-add-q Inv-loop μ-loop
 add-q c = search needs
@@ -43,10 +43,10 @@ loop-again : tie.Need-loop-again Inv-loop μ-loop
 loop-again c =
     let a = c .before .before .before .before .before .before .before .before .before .before .before .before .before .before .args in
     let l = c .before .before .before .before .before .before .before .before .before .loop in
-    let m = c .before .before .before .before .before .before .count-object in
-    let n = c .before .before .count-object2 in
+    let m = c .before .before .before .before .before .before .mark-object in
+    let n = c .before .before .mark-object2 in
     let more = namers-more Count (sheetOf (a .s .now)) ContentObjects in
-    (search needs, more (a .tops .now) (l .tops) (m .last .1 .1 .0) (l .q) (l .inv .1) (m .ensures), more (a .named .now) (l .named) (n .last .1 .1 .0) (l .q) (l .inv .2) (n .ensures))
+    (search needs, more (a .tops .now) (l .tops) (m .last .1 .1 .1 .0) (l .q) (l .inv .1) (m .ensures), more (a .named .now) (l .named) (n .last .1 .1 .1 .0) (l .q) (l .inv .2) (n .ensures))
 
 same-length : tie.Need-same-length Inv-loop μ-loop
 same-length c = c .before .loop .inv .1 .0
@@ -69,8 +69,8 @@ count-tops-spec =
     μ-loop
     count-requires
     loop-holds
-    count-object-requires
-    count-object-requires-2
+    mark-object-requires
+    mark-object-requires-2
     add-q
     loop-less
     loop-again

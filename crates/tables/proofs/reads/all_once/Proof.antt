@@ -2,10 +2,9 @@
 use borrow.Author.Needs.{needs}
 use borrow.Author.Count.{below-none, below-more}
 use mathlib.Core.Path.{_≡_, sym}
-use mathlib.Core.Bool.{true≢false}
+use mathlib.Core.Bool.{true≢false, true}
 use Prim.Native.Nat.{ℕ, _<_, _-_, _≤_}
 use native.Mathlib.Omega.{arith}
-use mathlib.Core.Bool.{true}
 use lib.ListN.{getD}
 use borrow.Author.Tests.{eqb-true}
 use Rattle.profile.proofs.BoolLaws.{and-both}
