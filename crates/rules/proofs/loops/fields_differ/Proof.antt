@@ -47,9 +47,7 @@ loop-again c = (search needs, rw (add-one, c .field2 .ensures, c .before .field 
 
 returns : tie.Need-returns Inv-loop μ-loop
 unfolding fieldsDiffer
-returns c =
-    let e : c .before .loop .f ≡ 7 = omega arith in
-    c .before .loop .inv .1 ∙ ap (any _) e
+returns c = let e : c .before .loop .f ≡ 7 = omega arith in c .before .loop .inv .1 ∙ ap (any _) e
 
 pub fields-differ-spec : {M : Type 1} → statement M
 fields-differ-spec =

@@ -53,9 +53,7 @@ loop-again c = (search needs, rw (add-one, c .wide-field .ensures, c .before .be
 
 returns : tie.Need-returns Inv-loop μ-loop
 unfolding ownSet
-returns c =
-    let e : c .before .loop .i ≡ c .before .before .number .result = omega arith in
-    c .before .loop .inv .1 ∙ ap (any _) (e ∙ c .before .before .number .ensures)
+returns c = let e : c .before .loop .i ≡ c .before .before .number .result = omega arith in c .before .loop .inv .1 ∙ ap (any _) (e ∙ c .before .before .number .ensures)
 
 pub own-set-spec : {M : Type 1} → statement M
 own-set-spec =

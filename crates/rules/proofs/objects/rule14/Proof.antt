@@ -52,13 +52,9 @@ odd-tracks-requires c κs = search needs
 returns-2 : tie.Need-returns-2
 unfolding rule14 oddTracks trackAt entry channels
 returns-2 c =
-    let a = c .before .before .before .before .before .before .before .before .before .before .before .before .args in
-    let s = sheetOf (a .s .now) in
-    let first = field s objects (a .o) trackList in
-    let n = number s objects (a .o) trackList in
-    let number′ = c .before .before .before .before .before .before .before .before .number in
-    let pack = c .before .pack-of in
-    let tested = all-three _ _ _ (c .before .before .if2 .taken) in
+    let a = c .before .before .before .before .before .before .before .before .before .before .before .before .args in let s = sheetOf (a .s .now) in
+    let first = field s objects (a .o) trackList in let n = number s objects (a .o) trackList in let number′ = c .before .before .before .before .before .before .before .before .number in
+    let pack = c .before .pack-of in let tested = all-three _ _ _ (c .before .before .if2 .taken) in
     let in-next = all-three _ _ _ (sym (c .before .before .before .before .inside .ensures) ∙ tested .1) in
     let in-again = all-three _ _ _ (sym (c .before .before .before .inside2 .ensures) ∙ tested .2) in
     let e : n ≡ channels s (a .o) = sym (number′ .ensures) ∙ c .before .before .before .before .before .before .if1 .left ∙ c .before .before .before .before .before .before .before .channels .ensures in
@@ -82,8 +78,7 @@ returns-3 : tie.Need-returns-3
 unfolding rule14 anyEntry badChannel trackAt
 returns-3 c =
     let number′ = c .before .before .before .before .before .before .before .before .before .number in
-    let channels′ = c .before .before .before .before .before .before .before .before .channels in
-    let if1 = c .before .before .before .before .before .before .before .if1 in
+    let channels′ = c .before .before .before .before .before .before .before .before .channels in let if1 = c .before .before .before .before .before .before .before .if1 in
     λ next again. let e = (sym (number′ .ensures) ∙ if1 .left ∙ channels′ .ensures) in simp (eq-eqb _ _ e, c .before .any-entry .ensures, c .before .before .pack-of2 .ensures, c .bad-ordinals .ensures e)
 
 pub rule14-spec : {M : Type 1} → statement M

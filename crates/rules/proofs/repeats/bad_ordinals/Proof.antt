@@ -36,9 +36,7 @@ keys-alike-requires c κs = search needs
 returns-2 : tie.Need-returns-2
 unfolding badChannel keysAlike anyEntry trackAt
 returns-2 c =
-    let a = c .before .before .before .before .before .before .args in
-    let s = sheetOf (a .s .now) in
-    let n = number s objects (a .o) trackList in
+    let a = c .before .before .before .before .before .before .args in let s = sheetOf (a .s .now) in let n = number s objects (a .o) trackList in
     let f : ℕ → ℕ = λ i. field s tracks (trackAt s (a .o) i) trackOrdinal in
     let past = c .before .before .any-entry .ensures ∙ ap (λ (m : ℕ). any (λ i. leb m (f i)) n) (c .before .before .before .before .number .ensures) in
     λ e. ap₂ (λ (a b : Bool). a || b) past (c .keys-alike .ensures tt) ∙ sym (once-each f n) ∙ ap (any (λ h. not (eqb (howMany (λ i. eqb (f i) h) n) 1))) e

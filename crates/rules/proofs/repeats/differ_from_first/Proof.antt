@@ -32,8 +32,7 @@ number-requires c κs = search needs
 
 loop-holds : tie.Need-loop-holds Inv-loop μ-loop
 loop-holds c =
-    let a = c .before .before .before .before .args in
-    let s = sheetOf (a .s .now) in
+    let a = c .before .before .before .before .args in let s = sheetOf (a .s .now) in
     (search needs, length-replicate {A = ℕ} 2048 0, λ owners leaders. (firsts-none s (namedSet s (a .p)) (λ i. leaderOf s (owner s (namedSet s (a .p) i))) 2048, below-none _))
 
 named-set-requires : tie.Need-named-set-requires Inv-loop μ-loop
@@ -66,14 +65,10 @@ sets-differ-requires c κs = search needs
 returns-2 : tie.Need-returns-2 Inv-loop μ-loop
 unfolding twoEntries twoOf namedSet
 returns-2 c =
-    let a = c .before .before .before .before .before .before .before .before .before .before .before .before .before .before .before .before .args in
-    let s = sheetOf (a .s .now) in
-    let e = namedSet s (a .p) in
-    let g : ℕ → ℕ = λ i. leaderOf s (owner s (e i)) in
-    let l = c .before .before .before .before .before .before .before .before .before .before .before .loop in
+    let a = c .before .before .before .before .before .before .before .before .before .before .before .before .before .before .before .before .args in let s = sheetOf (a .s .now) in
+    let e = namedSet s (a .p) in let g : ℕ → ℕ = λ i. leaderOf s (owner s (e i)) in let l = c .before .before .before .before .before .before .before .before .before .before .before .loop in
     let set = c .before .before .before .before .before .before .before .before .before .named-set .ensures in
-    let lead = c .before .before .before .before .before .before .before .leader-by in
-    let place = c .before .before .before .before .first-of in
+    let lead = c .before .before .before .before .before .before .before .leader-by in let place = c .before .before .before .before .first-of in
     let inside : lead .result < length (l .first) = omega (arith, l .inv .1, c .before .before .before .before .before .before .if1 .left) in
     let test = sym (c .before .sets-differ .ensures ∙ ap₂ (setsDiffer s) (c .before .before .named-set2 .ensures) set) in
     let below : l .j < number s programmes (a .p) setList = omega (arith, c .before .before .before .before .before .before .before .before .before .before .loop-test .taken, c .before .before .before .before .before .before .before .before .before .before .before .before .number .ensures) in
@@ -87,14 +82,10 @@ loop-less c = search needs
 
 loop-again : tie.Need-loop-again Inv-loop μ-loop
 loop-again c =
-    let a = c .before .before .before .before .before .before .before .before .before .before .before .before .before .before .before .before .args in
-    let s = sheetOf (a .s .now) in
-    let e = namedSet s (a .p) in
-    let g : ℕ → ℕ = λ i. leaderOf s (owner s (e i)) in
-    let l = c .before .before .before .before .before .before .before .before .before .before .before .loop in
+    let a = c .before .before .before .before .before .before .before .before .before .before .before .before .before .before .before .before .args in let s = sheetOf (a .s .now) in
+    let e = namedSet s (a .p) in let g : ℕ → ℕ = λ i. leaderOf s (owner s (e i)) in let l = c .before .before .before .before .before .before .before .before .before .before .before .loop in
     let set = c .before .before .before .before .before .before .before .before .before .named-set .ensures in
-    let lead = c .before .before .before .before .before .before .before .leader-by in
-    let place = c .before .before .before .before .first-of in
+    let lead = c .before .before .before .before .before .before .before .leader-by in let place = c .before .before .before .before .first-of in
     let inside : lead .result < length (l .first) = omega (arith, l .inv .1, c .before .before .before .before .before .before .if1 .left) in
     let test = sym (c .before .sets-differ .ensures ∙ ap₂ (setsDiffer s) (c .before .before .named-set2 .ensures) set) in
     (search needs, place .ensures .0, λ owners leaders. firsts-next s e g (l .first) (l .j) (lead .result) (place .result) (l .inv .2 owners leaders .0) (lead .ensures leaders ∙ ap (leaderOf s) (c .before .before .before .before .before .before .before .before .owner-by .ensures owners ∙ ap (owner s) set)) inside (place .ensures .1) (l .inv .2 owners leaders .1) (test ∙ c .if2 .left) (place .last .0) (place .ensures .0 ∙ sym (l .inv .1)) (place .ensures .2))
@@ -102,10 +93,7 @@ loop-again c =
 returns-3 : tie.Need-returns-3 Inv-loop μ-loop
 unfolding twoEntries twoOf namedSet
 returns-3 c =
-    let a = c .before .before .before .before .before .before .args in
-    let s = sheetOf (a .s .now) in
-    let e = namedSet s (a .p) in
-    let g : ℕ → ℕ = λ i. leaderOf s (owner s (e i)) in
+    let a = c .before .before .before .before .before .before .args in let s = sheetOf (a .s .now) in let e = namedSet s (a .p) in let g : ℕ → ℕ = λ i. leaderOf s (owner s (e i)) in
     λ owners leaders. sym (any-nowhere (λ m. any (λ i. differ s e g i m) m) (number s programmes (a .p) setList) (λ m l. c .before .loop .inv .2 owners leaders .1 m (omega (arith, l, c .loop-test .left, c .before .before .number .ensures))))
 
 pub differ-from-first-spec : {M : Type 1} → statement M

@@ -46,12 +46,9 @@ see-requires c κs = c .before .before .before .before .loop .inv .1
 returns : tie.Need-returns Inv-loop μ-loop
 unfolding keysAlike twoOf
 returns c =
-    let a = c .before .before .before .before .before .before .before .before .before .before .before .args in
-    let s = sheetOf (a .s .now) in
-    let f : ℕ → ℕ = λ i. keyOf s (a .key) (entry s (a .section) (a .k) (a .at) i) in
-    let l = c .before .before .before .before .before .before .before .loop in
-    let key = c .before .before .before .before .key-of in
-    let see = c .before .before .see in
+    let a = c .before .before .before .before .before .before .before .before .before .before .before .args in let s = sheetOf (a .s .now) in
+    let f : ℕ → ℕ = λ i. keyOf s (a .key) (entry s (a .section) (a .k) (a .at) i) in let l = c .before .before .before .before .before .before .before .loop in
+    let key = c .before .before .before .before .key-of in let see = c .before .before .see in
     let below : l .j < number s (a .section) (a .k) (a .at) = omega (arith, c .before .before .before .before .before .before .loop-test .taken, c .before .before .before .before .before .before .before .before .number .ensures) in
     λ right. sym (any-one (λ m. any (λ i. eqb (f i) (f m)) m) _ (l .j) below (seen-next f (l .seen) (l .j) (key .result) (l .inv .2 right .0) (key .ensures right ∙ ap (keyOf s (a .key)) (c .before .before .before .before .before .entry .ensures)) (omega (arith, l .inv .1)) (see .result) (see .ensures .1) ∙ c .if1 .taken))
 
@@ -63,10 +60,8 @@ loop-less c = search needs
 
 loop-again : tie.Need-loop-again Inv-loop μ-loop
 loop-again c =
-    let a = c .before .before .before .before .before .before .before .before .before .before .before .args in
-    let s = sheetOf (a .s .now) in
-    let f : ℕ → ℕ = λ i. keyOf s (a .key) (entry s (a .section) (a .k) (a .at) i) in
-    let l = c .before .before .before .before .before .before .before .loop in
+    let a = c .before .before .before .before .before .before .before .before .before .before .before .args in let s = sheetOf (a .s .now) in
+    let f : ℕ → ℕ = λ i. keyOf s (a .key) (entry s (a .section) (a .k) (a .at) i) in let l = c .before .before .before .before .before .before .before .loop in
     let key = c .before .before .before .before .key-of in
     let see = c .before .before .see in (
       search needs,
@@ -80,9 +75,7 @@ loop-again c =
 returns-2 : tie.Need-returns-2 Inv-loop μ-loop
 unfolding keysAlike twoOf
 returns-2 c =
-    let a = c .before .before .before .before .before .args in
-    let s = sheetOf (a .s .now) in
-    let f : ℕ → ℕ = λ i. keyOf s (a .key) (entry s (a .section) (a .k) (a .at) i) in
+    let a = c .before .before .before .before .before .args in let s = sheetOf (a .s .now) in let f : ℕ → ℕ = λ i. keyOf s (a .key) (entry s (a .section) (a .k) (a .at) i) in
     λ right. sym (any-nowhere (λ m. any (λ i. eqb (f i) (f m)) m) (number s (a .section) (a .k) (a .at)) (λ m l. c .before .loop .inv .2 right .1 m (omega (arith, l, c .loop-test .left, c .before .before .number .ensures))))
 
 pub keys-alike-spec : {M : Type 1} → statement M

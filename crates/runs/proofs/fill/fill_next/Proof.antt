@@ -14,9 +14,7 @@ use Rattle.runs.proofs.fill.fill_next.Tie as tie
 
 abbrev Inv-loop : tie.InvT-loop
 Inv-loop s test table₀ x₀ next₀ table x next =
-    let p = referenceTest (sheetOf s) test in
-    let m = count (sheetOf s) references in
-    (x ≤ m) × (length table ≡ length table₀) × Next p m x next × FilledFrom (Next p m) m x table
+    let p = referenceTest (sheetOf s) test in let m = count (sheetOf s) references in (x ≤ m) × (length table ≡ length table₀) × Next p m x next × FilledFrom (Next p m) m x table
 
 abbrev μ-loop : tie.MeasureT-loop
 μ-loop s test table₀ x₀ next₀ table x next = x
@@ -26,9 +24,7 @@ count-requires c κs = search needs
 
 loop-holds : tie.Need-loop-holds Inv-loop μ-loop
 loop-holds c =
-    let a = c .before .before .before .args in
-    let p = referenceTest (sheetOf (a .s .now)) (a .test) in
-    let m = count (sheetOf (a .s .now)) references in
+    let a = c .before .before .before .args in let p = referenceTest (sheetOf (a .s .now)) (a .test) in let m = count (sheetOf (a .s .now)) references in
     rw (c .count .ensures) (omega arith, refl, next-start m p m (omega arith), filled-start (Next p m) m (a .table .now))
 
 sub-y : tie.Need-sub-y Inv-loop μ-loop
@@ -51,15 +47,10 @@ loop-less c = search needs
 
 loop-again : tie.Need-loop-again Inv-loop μ-loop
 loop-again c =
-    let a = c .before .before .before .before .before .before .before .before .before .before .before .args in
-    let p = referenceTest (sheetOf (a .s .now)) (a .test) in
-    let m = count (sheetOf (a .s .now)) references in
-    let l = c .before .before .before .before .before .before .before .loop in
-    let x = l .x - 1 in
-    let here = c .before .before .before .before .here-or in
-    let at = c .before .before .mark-at in
-    let e : suc x ≡ l .x = omega (arith, c .before .before .before .before .before .before .loop-test .taken) in
-    let i : suc x ≤ m = omega (arith, l .inv .0) in
+    let a = c .before .before .before .before .before .before .before .before .before .before .before .args in let p = referenceTest (sheetOf (a .s .now)) (a .test) in
+    let m = count (sheetOf (a .s .now)) references in let l = c .before .before .before .before .before .before .before .loop in let x = l .x - 1 in
+    let here = c .before .before .before .before .here-or in let at = c .before .before .mark-at in
+    let e : suc x ≡ l .x = omega (arith, c .before .before .before .before .before .before .loop-test .taken) in let i : suc x ≤ m = omega (arith, l .inv .0) in
     let n : Next p m x (here .result) = rw (here .ensures, c .before .before .before .before .before .reference-test .ensures) (next-more m x i p (l .next) (rw e (l .inv .2))) in
     (omega (arith, i), at .ensures .0 ∙ l .inv .1, n, filled-more (Next p m) m x (here .result) (l .table) (at .last .0) (at .ensures .0) (rw e (l .inv .3)) n (at .ensures .1))
 

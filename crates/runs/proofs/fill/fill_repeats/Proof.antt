@@ -15,8 +15,7 @@ use Rattle.runs.proofs.fill.fill_repeats.Tie as tie
 
 abbrev Inv-loop : tie.InvT-loop
 Inv-loop s key table₀ later₀ x₀ next₀ table later x next =
-    let f = referenceKey (sheetOf s) key in
-    let m = count (sheetOf s) references in
+    let f = referenceKey (sheetOf s) key in let m = count (sheetOf s) references in
     (x ≤ m)
     × (length table ≡ length table₀)
     × (length later ≡ 65536)
@@ -32,9 +31,7 @@ count-requires c κs = search needs
 
 loop-holds : tie.Need-loop-holds Inv-loop μ-loop
 loop-holds c =
-    let a = c .before .before .before .args in
-    let f = referenceKey (sheetOf (a .s .now)) (a .key) in
-    let m = count (sheetOf (a .s .now)) references in
+    let a = c .before .before .before .args in let f = referenceKey (sheetOf (a .s .now)) (a .key) in let m = count (sheetOf (a .s .now)) references in
     let most : m ≤ 65535 = omega (arith, c .count .ok, c .count .ensures) in
     rw (c .count .ensures) (omega arith, refl, length-replicate {A = ℕ} 65536 65535, (λ z l. rw (getD-replicate {A = ℕ} 65536 z 65535 0 l) (next-start m (λ y. eqb (f y) z) 65535 most)), repeat-start m f 65535 most, filled-start (Repeat f m) m (a .table .now))
 
@@ -64,17 +61,11 @@ loop-less c = search needs
 
 loop-again : tie.Need-loop-again Inv-loop μ-loop
 loop-again c =
-    let a = c .before .before .before .before .before .before .before .before .before .before .before .before .before .before .args in
-    let f = referenceKey (sheetOf (a .s .now)) (a .key) in
-    let m = count (sheetOf (a .s .now)) references in
-    let l = c .before .before .before .before .before .before .before .before .before .before .loop in
-    let x = l .x - 1 in
-    let key = c .before .before .before .before .before .before .before .reference-key in
-    let keep = c .before .before .before .before .before .before .keep in
-    let lower = c .before .before .before .before .lower in
-    let at = c .before .before .mark-at in
-    let e : suc x ≡ l .x = omega (arith, c .before .before .before .before .before .before .before .before .before .loop-test .taken) in
-    let i : suc x ≤ m = omega (arith, l .inv .0) in
+    let a = c .before .before .before .before .before .before .before .before .before .before .before .before .before .before .args in let f = referenceKey (sheetOf (a .s .now)) (a .key) in
+    let m = count (sheetOf (a .s .now)) references in let l = c .before .before .before .before .before .before .before .before .before .before .loop in let x = l .x - 1 in
+    let key = c .before .before .before .before .before .before .before .reference-key in let keep = c .before .before .before .before .before .before .keep in
+    let lower = c .before .before .before .before .lower in let at = c .before .before .mark-at in
+    let e : suc x ≡ l .x = omega (arith, c .before .before .before .before .before .before .before .before .before .loop-test .taken) in let i : suc x ≤ m = omega (arith, l .inv .0) in
     let n : Repeat f m x (lower .result) = rw (lower .ensures, keep .ensures .1, key .ensures) (repeat-more m x i f (getD (l .later) (f x) 0) (l .next) (rw e (l .inv .3 (f x) (omega (arith, key .ok, key .ensures)))) (rw e (l .inv .4))) in (
       omega (arith, i),
       at .ensures .0 ∙ l .inv .1,

@@ -33,10 +33,8 @@ slice-aggregate-count-indices-2 c = search needs
 count-indices-requires : tie.Need-count-indices-requires
 count-indices-requires c κs =
     let pre = c .before .before .before .before .before .before .before .before .before .before .before .pre in
-    let begins = c .before .before .before .before .before .before .before .tally .ensures in
-    let ends = c .before .before .before .before .tally2 .ensures in
-    let long = length-replicate {A = ℕ} 32768 0 in
-    (omega (arith, pre .0, begins .0 ∙ long), omega (arith, pre .0, ends .0 ∙ long), begins .1, ends .1)
+    let begins = c .before .before .before .before .before .before .before .tally .ensures in let ends = c .before .before .before .before .tally2 .ensures in
+    let long = length-replicate {A = ℕ} 32768 0 in (omega (arith, pre .0, begins .0 ∙ long), omega (arith, pre .0, ends .0 ∙ long), begins .1, ends .1)
 
 same-length : tie.Need-same-length
 same-length c = search needs

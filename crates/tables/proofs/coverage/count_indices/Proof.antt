@@ -31,8 +31,7 @@ abbrev μ-loop : tie.MeasureT-loop
 loop-holds : tie.Need-loop-holds Inv-loop μ-loop
 unfolding sum repeat
 loop-holds c =
-    let a = c .before .before .before .before .args in
-    let s = sheetOf (a .s .now) in
+    let a = c .before .before .before .before .args in let s = sheetOf (a .s .now) in
     (search needs, search needs, search needs, sym (below-first (runBegin s (a .kind)) _), sym (below-first (runEnd s (a .kind)) _), (refl, λ x l. refl))
 
 cast-begun : tie.Need-cast-begun Inv-loop μ-loop
@@ -71,10 +70,8 @@ named-at-requires c κs = search needs
 sub-count-times : tie.Need-sub-count-times Inv-loop μ-loop
 sub-count-times c =
     let a = c .before .before .before .before .before .before .before .before .before .before .args in
-    let pre = c .before .before .before .before .before .before .before .before .before .before .pre in
-    let l = c .before .before .before .before .before .loop in
-    let s = sheetOf (a .s .now) in
-    let below : l .y < a .m = c .before .before .before .before .loop-test .taken in
+    let pre = c .before .before .before .before .before .before .before .before .before .before .pre in let l = c .before .before .before .before .before .loop in
+    let s = sheetOf (a .s .now) in let below : l .y < a .m = c .before .before .before .before .loop-test .taken in
     let begun = below-more (runBegin s (a .kind)) (l .y) (namers s (a .kind)) (l .begun) (getD (a .begins .now) (l .y) 0) (l .inv .3) (pre .2 (l .y) (omega (arith, pre .0))) in
     let ended = below-more (runEnd s (a .kind)) (l .y) (namers s (a .kind)) (l .ended) (getD (a .ends .now) (l .y) 0) (l .inv .4) (pre .3 (l .y) (omega (arith, pre .1))) in
     omega (arith, covered s (a .kind) (l .y), begun, ended)
@@ -92,13 +89,11 @@ loop-again : tie.Need-loop-again Inv-loop μ-loop
 loop-again c =
     let a = c .before .before .before .before .before .before .before .before .before .before .before .before .before .args in
     let pre = c .before .before .before .before .before .before .before .before .before .before .before .before .before .pre in
-    let l = c .before .before .before .before .before .before .before .before .loop in
-    let s = sheetOf (a .s .now) in
+    let l = c .before .before .before .before .before .before .before .before .loop in let s = sheetOf (a .s .now) in
     let below : l .y < a .m = c .before .before .before .before .before .before .before .loop-test .taken in
     let begun = below-more (runBegin s (a .kind)) (l .y) (namers s (a .kind)) (l .begun) (getD (a .begins .now) (l .y) 0) (l .inv .3) (pre .2 (l .y) (omega (arith, pre .0))) in
     let ended = below-more (runEnd s (a .kind)) (l .y) (namers s (a .kind)) (l .ended) (getD (a .ends .now) (l .y) 0) (l .inv .4) (pre .3 (l .y) (omega (arith, pre .1))) in
-    let named = c .before .before .before .named-at in
-    let counted = c .before .before .count-times in
+    let named = c .before .before .before .named-at in let counted = c .before .before .count-times in
     let k = (l .begun + getD (a .begins .now) (l .y) 0) - (l .ended + getD (a .ends .now) (l .y) 0) in
     let e : k ≡ cover s (a .kind) (l .y) = omega (arith, covered s (a .kind) (l .y), begun, ended) in (
       search needs,

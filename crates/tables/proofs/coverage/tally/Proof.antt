@@ -32,8 +32,7 @@ edge-requires c κs = search needs
 
 add-at-requires : tie.Need-add-at-requires Inv-loop μ-loop
 add-at-requires c κs = λ m.
-    let a = c .before .before .before .before .before .before .before .args in
-    let l = c .before .before .before .loop in
+    let a = c .before .before .before .before .before .before .before .args in let l = c .before .before .before .loop in
     let f : c .before .before .before .before .namers .result < 65536 = search needs in
     omega (arith, l .inv .1 .1 (c .edge .result) m, howMany-le (λ j. eqb (edge (sheetOf (a .s .now)) (a .kind) (a .last) j) (c .edge .result)) (l .q), c .before .before .loop-test .taken)
 
@@ -45,10 +44,8 @@ loop-less c = search needs
 
 loop-again : tie.Need-loop-again Inv-loop μ-loop
 loop-again c =
-    let a = c .before .before .before .before .before .before .before .before .before .before .args in
-    let l = c .before .before .before .before .before .before .loop in
-    let edge′ = c .before .before .before .edge in
-    let added = c .before .before .add-at in
+    let a = c .before .before .before .before .before .before .before .before .before .before .args in let l = c .before .before .before .before .before .before .loop in
+    let edge′ = c .before .before .before .edge in let added = c .before .before .add-at in
     (search needs, edges-more (λ j. edge (sheetOf (a .s .now)) (a .kind) (a .last) j) (a .table .now) (l .table) (added .last .0) (l .q) (edge′ .result) (edge′ .ensures) (l .inv .1) (added .ensures))
 
 same-length : tie.Need-same-length Inv-loop μ-loop
@@ -57,8 +54,7 @@ same-length c = c .before .loop .inv .1 .0
 returns : tie.Need-returns Inv-loop μ-loop
 returns c =
     let a = c .before .before .before .before .before .args in
-    let e : c .before .loop .q ≡ namers (sheetOf (a .s .now)) (a .kind) = omega (arith, c .before .before .namers .ensures, c .loop-test .left) in
-    rw e at (c .before .loop .inv .1)
+    let e : c .before .loop .q ≡ namers (sheetOf (a .s .now)) (a .kind) = omega (arith, c .before .before .namers .ensures, c .loop-test .left) in rw e at (c .before .loop .inv .1)
 
 pub tally-spec : {M : Type 1} → statement M
 tally-spec =

@@ -36,8 +36,7 @@ loop-less c = search needs
 
 loop-again : tie.Need-loop-again Inv-loop μ-loop
 loop-again c =
-    let a = c .before .before .before .before .before .before .before .before .before .args in
-    let l = c .before .before .before .before .before .loop in
+    let a = c .before .before .before .before .before .before .before .before .before .args in let l = c .before .before .before .before .before .loop in
     let m = c .before .before .mark-items in
     (search needs, namers-more Count (sheetOf (a .s .now)) (a .kind) (a .table .now) (l .table) (m .last .1 .1 .1 .1 .0) (l .q) (l .inv .1) (m .ensures))
 
@@ -48,8 +47,7 @@ returns : tie.Need-returns Inv-loop μ-loop
 unfolding namedBy
 returns c =
     let a = c .before .before .before .before .before .args in
-    let e : c .before .loop .q ≡ namers (sheetOf (a .s .now)) (a .kind) = omega (arith, c .before .before .namers .ensures, c .loop-test .left) in
-    rw e at (c .before .loop .inv .1)
+    let e : c .before .loop .q ≡ namers (sheetOf (a .s .now)) (a .kind) = omega (arith, c .before .before .namers .ensures, c .loop-test .left) in rw e at (c .before .loop .inv .1)
 
 pub count-namings-spec : {M : Type 1} → statement M
 count-namings-spec =

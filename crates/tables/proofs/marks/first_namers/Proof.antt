@@ -23,8 +23,7 @@ namers-requires c κs = search needs
 loop-holds : tie.Need-loop-holds Inv-loop μ-loop
 unfolding firstFrom
 loop-holds c =
-    let a = c .before .before .before .args in
-    let e : namers (sheetOf (a .s .now)) (a .kind) - c .namers .result ≡ 0 = omega (arith, c .namers .ensures) in
+    let a = c .before .before .before .args in let e : namers (sheetOf (a .s .now)) (a .kind) - c .namers .result ≡ 0 = omega (arith, c .namers .ensures) in
     (omega (arith, c .namers .ensures), (refl, rw e (λ x l. refl)))
 
 sub-mark-items : tie.Need-sub-mark-items Inv-loop μ-loop
@@ -41,12 +40,8 @@ loop-less c = search needs
 
 loop-again : tie.Need-loop-again Inv-loop μ-loop
 loop-again c =
-    let a = c .before .before .before .before .before .before .before .before .before .args in
-    let s = sheetOf (a .s .now) in
-    let l = c .before .before .before .before .before .loop in
-    let items = c .before .before .mark-items in
-    let n = namers s (a .kind) - l .q in
-    let e : suc (l .q - 1) ≡ l .q = omega (arith, c .before .before .before .before .loop-test .taken) in
+    let a = c .before .before .before .before .before .before .before .before .before .args in let s = sheetOf (a .s .now) in let l = c .before .before .before .before .before .loop in
+    let items = c .before .before .mark-items in let n = namers s (a .kind) - l .q in let e : suc (l .q - 1) ≡ l .q = omega (arith, c .before .before .before .before .loop-test .taken) in
     let f : namers s (a .kind) - (l .q - 1) ≡ suc n = omega (arith, l .inv .0, c .before .before .before .before .loop-test .taken) in
     (omega (arith, l .inv .0), (items .ensures .0 ∙ l .inv .1 .0, rw f (first-more s (a .kind) (a .table .now) (l .table) (items .last .1 .1 .1 .1 .0) (l .q - 1) n (items .ensures .0) (rw e (l .inv .1 .1)) (rw e (items .ensures .1)))))
 
@@ -56,11 +51,8 @@ same-length c = c .before .loop .inv .1 .0
 returns : tie.Need-returns Inv-loop μ-loop
 unfolding firstBy
 returns c =
-    let a = c .before .before .before .before .before .args in
-    let n = namers (sheetOf (a .s .now)) (a .kind) in
-    let e : c .before .loop .q ≡ 0 = omega (arith, c .loop-test .left) in
-    let f : n - 0 ≡ n = omega arith in
-    rw (e, f) at (c .before .loop .inv .1)
+    let a = c .before .before .before .before .before .args in let n = namers (sheetOf (a .s .now)) (a .kind) in let e : c .before .loop .q ≡ 0 = omega (arith, c .loop-test .left) in
+    let f : n - 0 ≡ n = omega arith in rw (e, f) at (c .before .loop .inv .1)
 
 pub first-namers-spec : {M : Type 1} → statement M
 first-namers-spec =

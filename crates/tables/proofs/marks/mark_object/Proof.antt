@@ -27,8 +27,7 @@ same-length c = search needs
 returns : tie.Need-returns
 unfolding timesBy howMany repeat
 returns c =
-    let a = c .before .before .before .before .before .before .before .args in
-    let at = rw (c .before .before .before .field .ensures) at (c .before .before .mark-at .ensures) in
+    let a = c .before .before .before .before .before .before .before .args in let at = rw (c .before .before .before .field .ensures) at (c .before .before .mark-at .ensures) in
     (at .0, λ x l. at .1 x l ∙ repeat-more (marked (a .mark)) (λ i. eqb (field (sheetOf (a .s .now)) contents (a .q) contentObject) x) 0 (getD (a .table .now) x 0))
 
 pub mark-object-spec : {M : Type 1} → statement M

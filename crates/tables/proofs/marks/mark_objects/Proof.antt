@@ -43,8 +43,7 @@ loop-less c = search needs
 
 loop-again : tie.Need-loop-again Inv-loop μ-loop
 loop-again c =
-    let a = c .before .before .before .before .before .before .before .before .before .before .args in
-    let l = c .before .before .before .before .before .before .loop in
+    let a = c .before .before .before .before .before .before .before .before .before .before .args in let l = c .before .before .before .before .before .before .loop in
     let at = c .before .before .mark-at in
     (search needs, (at .ensures .0 ∙ l .inv .1 .0, items-more (marked (a .mark)) (a .table .now) (l .table) (at .last .0) (at .ensures .0) (item (sheetOf (a .s .now)) Included (a .q)) (l .i) (c .before .before .before .included-object .result) (c .before .before .before .included-object .ensures) (l .inv .1 .1) (at .ensures .1)))
 
@@ -55,8 +54,7 @@ returns : tie.Need-returns Inv-loop μ-loop
 unfolding timesBy
 returns c =
     let a = c .before .before .before .before .before .args in
-    let e : c .before .loop .i ≡ items (sheetOf (a .s .now)) Included (a .q) = omega (arith, c .before .before .number .ensures, c .loop-test .left) in
-    rw e at (c .before .loop .inv .1)
+    let e : c .before .loop .i ≡ items (sheetOf (a .s .now)) Included (a .q) = omega (arith, c .before .before .number .ensures, c .loop-test .left) in rw e at (c .before .loop .inv .1)
 
 pub mark-objects-spec : {M : Type 1} → statement M
 mark-objects-spec =

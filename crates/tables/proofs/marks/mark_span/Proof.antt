@@ -37,9 +37,7 @@ loop-less c = search needs
 
 loop-again : tie.Need-loop-again Inv-loop μ-loop
 loop-again c =
-    let a = c .before .before .before .before .before .before .before .args in
-    let l = c .before .before .before .before .before .loop in
-    let at = c .before .before .mark-at in
+    let a = c .before .before .before .before .before .before .before .args in let l = c .before .before .before .before .before .loop in let at = c .before .before .mark-at in
     (search needs, (at .ensures .0 ∙ l .inv .1 .0, items-more (marked (a .mark)) (a .table .now) (l .table) (at .last .0) (at .ensures .0) (λ j. a .from + j) (l .i) (a .from + l .i) refl (l .inv .1 .1) (at .ensures .1)))
 
 same-length : tie.Need-same-length Inv-loop μ-loop

@@ -49,8 +49,7 @@ loop-again : tie.Need-loop-again Inv-loop μ-loop
 unfolding timesBy entry reference
 loop-again c =
     let a = c .before .before .before .before .before .before .before .before .before .before .before .before .args in
-    let l = c .before .before .before .before .before .before .before .loop in
-    let m = c .before .before .mark-list in
+    let l = c .before .before .before .before .before .before .before .loop in let m = c .before .before .mark-list in
     (search needs, namers-more Count (sheetOf (a .s .now)) ContentLists (a .listed .now) (l .listed) (m .last .1 .1 .1 .1 .1 .0) (l .q) (l .inv .1) (rw (c .before .before .before .before .before .before .before .before .before .offset .ensures, c .before .before .before .before .before .field .ensures, c .before .before .before .before .number .ensures) at (m .ensures)))
 
 same-length : tie.Need-same-length Inv-loop μ-loop

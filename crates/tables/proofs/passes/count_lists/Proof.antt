@@ -63,8 +63,7 @@ loop-again c =
     let a = c .before .before .before .before .before .before .before .before .before .before .before .before .before .before .before .before .before .before .before .before .before .before .before .before .before .before .args in
     let l = c .before .before .before .before .before .before .before .before .before .before .before .before .before .before .before .before .before .before .before .loop in
     let m = c .before .before .before .before .before .before .before .before .before .before .before .before .before .before .before .mark-some in
-    let n = c .before .before .before .before .before .before .before .before .before .before .mark-some2 in
-    let b = c .before .before .before .before .mark-both in
+    let n = c .before .before .before .before .before .before .before .before .before .before .mark-some2 in let b = c .before .before .before .before .mark-both in
     let s = sheetOf (a .s .now) in
     let more = namers-more Count s in (
       omega (arith, c .before .before .before .before .before .before .before .before .before .before .before .before .before .before .before .before .before .before .loop-test .taken),
@@ -92,8 +91,7 @@ unfolding namedBy firstBy
 returns c =
     let l = c .before .loop in
     let e : l .q ≡ count (sheetOf (c .before .before .before .before .before .before .before .before .args .s .now)) objects = omega (arith, c .before .before .count .ensures, c .loop-test .left) in
-    let i = rw e at (l .inv) in
-    (i .1 .0, i .1 .1, i .2 .0, i .2 .1, i .3 .0, i .3 .1, i .4, i .5)
+    let i = rw e at (l .inv) in (i .1 .0, i .1 .1, i .2 .0, i .2 .1, i .3 .0, i .3 .1, i .4, i .5)
 
 pub count-lists-spec : {M : Type 1} → statement M
 count-lists-spec =

@@ -28,8 +28,7 @@ returns c = (c .before .before .before .before .before .before .mark-items .ensu
 returns-2 : tie.Need-returns-2
 unfolding timesBy howMany repeat
 returns-2 c =
-    let start = c .before .before .before .before in
-    let e : start .args .n ≡ 0 = c .if1 .left in
+    let start = c .before .before .before .before in let e : start .args .n ≡ 0 = c .if1 .left in
     ((refl, rw (sym (start .pre .0), e) (λ x l. refl)), (refl, rw (sym (start .pre .0), e) (λ x l. refl)))
 
 pub mark-both-spec : {M : Type 1} → statement M

@@ -17,10 +17,7 @@ returns c = search needs
 
 returns-2 : tie.Need-returns-2
 unfolding timesBy howMany repeat
-returns-2 c =
-    let start = c .before .before .before in
-    let e : start .args .n ≡ 0 = c .if1 .left in
-    (refl, rw (sym (start .pre), e) (λ x l. refl))
+returns-2 c = let start = c .before .before .before in let e : start .args .n ≡ 0 = c .if1 .left in (refl, rw (sym (start .pre), e) (λ x l. refl))
 
 pub mark-some-spec : {M : Type 1} → statement M
 mark-some-spec = tie.close (tie.spec mark-items-requires same-length returns returns-2)
