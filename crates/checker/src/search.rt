@@ -13,8 +13,7 @@ use screen::screening::passes;
 use screen::screening::small_passes;
 use sheet::fields::OBJECTS;
 use sheet::fields::PROGRAMMES;
-use tables::Lists;
-use tables::entry_counts::entries_up_to;
+use tables::entry_counts::fewer_in_section;
 ghost use lib.ListN.{length};
 ghost use mathlib.Core.Path.{_≡_};
 ghost use Rattle.checker.specs.Checked.{checked, ruleVerdict};
@@ -82,7 +81,7 @@ const FEW_ENTRIES: u32 = 8192;
 
 // Whether they have. The verdict is the same either way.
 fn crowded(s: &[u8], section: u8) -> bool {
-    FEW_ENTRIES < entries_up_to(s, Lists::Section(section), FEW_ENTRIES + 1)
+    fewer_in_section(s, section, FEW_ENTRIES + 1) == 0
 }
 
 // With tables over the references, where the section's lists have many entries. No sheet has more references.

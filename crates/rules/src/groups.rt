@@ -1,11 +1,12 @@
 // Rules 19 to 21: complementary groups.
 use crate::GroupTest;
-use crate::ListAt;
 use crate::TabledTest;
 use crate::loops::any_group;
 use crate::loops::any_tabled;
 use sheet::fields::COMPLEMENT_LIST;
 use sheet::fields::OBJECTS;
+use sheet::layout::field;
+use sheet::layout::number;
 ghost use mathlib.Core.Path.{_≡_};
 ghost use Rattle.profile.specs.Rules.{rule19, rule20, rule21};
 ghost use Rattle.sheet.specs.Words.{sheetOf};
@@ -18,11 +19,8 @@ pub fn rule19(s: &[u8], tops: &[u16], complements: &[u16], section: u8, o: u16) 
         s,
         tops,
         complements,
-        ListAt {
-            section: OBJECTS,
-            k: o,
-            at: COMPLEMENT_LIST,
-        },
+        field(s, OBJECTS, o, COMPLEMENT_LIST),
+        number(s, OBJECTS, o, COMPLEMENT_LIST),
         TabledTest::BadComplement,
     )
 }
@@ -36,11 +34,8 @@ pub fn rule20(s: &[u8], section: u8, o: u16) -> bool
         s,
         &none,
         &none,
-        ListAt {
-            section: OBJECTS,
-            k: o,
-            at: COMPLEMENT_LIST,
-        },
+        field(s, OBJECTS, o, COMPLEMENT_LIST),
+        number(s, OBJECTS, o, COMPLEMENT_LIST),
         TabledTest::DiffersFrom(o),
     )
 }

@@ -13,13 +13,6 @@ pub mod sets;
 pub mod totals;
 pub mod words;
 
-// The list at a position of a record.
-pub struct ListAt {
-    section: u8,
-    k: u16,
-    at: u8,
-}
-
 // What two entries of a list are tested for.
 pub enum PairTest {
     // they are the same number

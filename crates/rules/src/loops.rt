@@ -1,6 +1,5 @@
 // The loops of the rules, each over any of its tests.
 use crate::GroupTest;
-use crate::ListAt;
 use crate::PairTest;
 use crate::TabledTest;
 use relations::EntryTest;
@@ -25,9 +24,9 @@ use sheet::fields::SET_SPAN;
 use sheet::fields::TRACK_LIST;
 use sheet::fields::VALUE_SETS;
 use sheet::layout::count;
-use sheet::layout::entry;
 use sheet::layout::field;
 use sheet::layout::number;
+use sheet::layout::reference;
 use sheet::layout::wide_field;
 use tables::reads::included_by;
 use tables::reads::leader_by;
@@ -117,15 +116,14 @@ pub fn tabled_test(s: &[u8], a: &[u16], b: &[u16], test: TabledTest, e: u16) -> 
     }
 }
 
-// Whether some entry of the list at a position of a record passes the test.
-pub fn any_tabled(s: &[u8], a: &[u16], b: &[u16], list: ListAt, test: TabledTest) -> bool
-    ensures { λ r. ⌜ (tabledRight (sheetOf (now (s .entry))) test (now (a .entry)) (now (b .entry)) → r ≡ anyTabled (sheetOf (now (s .entry))) (list .section) (list .k) (list .at) test) ⌝ }
+// Whether one of the n references from one on passes the test.
+pub fn any_tabled(s: &[u8], a: &[u16], b: &[u16], first: u16, n: u16, test: TabledTest) -> bool
+    ensures { λ r. ⌜ (tabledRight (sheetOf (now (s .entry))) test (now (a .entry)) (now (b .entry)) → r ≡ anyTabled (sheetOf (now (s .entry))) first n test) ⌝ }
 {
-    let n = number(s, list.section, list.k, list.at);
     let mut found = false;
     let mut i: u16 = 0;
     while i < n {
-        found = found | tabled_test(s, a, b, test, entry(s, list.section, list.k, list.at, i));
+        found = found | tabled_test(s, a, b, test, reference(s, first as u32 + i as u32));
         i += 1;
     }
     found
@@ -150,18 +148,18 @@ pub fn pair_test(s: &[u8], owners: &[u16], leaders: &[u16], test: PairTest, x: u
     }
 }
 
-// Whether an entry before place j of the list passes the test with the one there.
+// Whether one of the references from one on passes the test with the one j places on, and comes before it.
 fn earlier_entry(
     s: &[u8],
     owners: &[u16],
     leaders: &[u16],
-    list: ListAt,
+    first: u16,
     test: PairTest,
     j: u16,
 ) -> bool
-    ensures { λ r. ⌜ (pairRight (sheetOf (now (s .entry))) test (now (owners .entry)) (now (leaders .entry)) → r ≡ earlierEntry (sheetOf (now (s .entry))) (list .section) (list .k) (list .at) test j) ⌝ }
+    ensures { λ r. ⌜ (pairRight (sheetOf (now (s .entry))) test (now (owners .entry)) (now (leaders .entry)) → r ≡ earlierEntry (sheetOf (now (s .entry))) first test j) ⌝ }
 {
-    let y = entry(s, list.section, list.k, list.at, j);
+    let y = reference(s, first as u32 + j as u32);
     let mut found = false;
     let mut i: u16 = 0;
     while i < j {
@@ -171,7 +169,7 @@ fn earlier_entry(
                 owners,
                 leaders,
                 test,
-                entry(s, list.section, list.k, list.at, i),
+                reference(s, first as u32 + i as u32),
                 y,
             );
         i += 1;
@@ -179,15 +177,21 @@ fn earlier_entry(
     found
 }
 
-// Whether two entries of the list pass the test.
-pub fn two_entries(s: &[u8], owners: &[u16], leaders: &[u16], list: ListAt, test: PairTest) -> bool
-    ensures { λ r. ⌜ (pairRight (sheetOf (now (s .entry))) test (now (owners .entry)) (now (leaders .entry)) → r ≡ twoEntries (sheetOf (now (s .entry))) (list .section) (list .k) (list .at) test) ⌝ }
+// Whether two of the n references from one on pass the test.
+pub fn two_entries(
+    s: &[u8],
+    owners: &[u16],
+    leaders: &[u16],
+    first: u16,
+    n: u16,
+    test: PairTest,
+) -> bool
+    ensures { λ r. ⌜ (pairRight (sheetOf (now (s .entry))) test (now (owners .entry)) (now (leaders .entry)) → r ≡ twoEntries (sheetOf (now (s .entry))) first n test) ⌝ }
 {
-    let n = number(s, list.section, list.k, list.at);
     let mut found = false;
     let mut j: u16 = 0;
     while j < n {
-        found = found | earlier_entry(s, owners, leaders, list, test, j);
+        found = found | earlier_entry(s, owners, leaders, first, test, j);
         j += 1;
     }
     found

@@ -1,6 +1,5 @@
 // Rule 22: the sets that a programme names.
 use crate::GroupTest;
-use crate::ListAt;
 use crate::TabledTest;
 use crate::loops::any_group;
 use crate::loops::any_tabled;
@@ -8,6 +7,8 @@ use crate::repeats::differ_in_group;
 use crate::repeats::one_owner;
 use sheet::fields::PROGRAMMES;
 use sheet::fields::SET_LIST;
+use sheet::layout::field;
+use sheet::layout::number;
 use tables::marks::mark_named_sets;
 ghost use mathlib.Core.Path.{_≡_};
 ghost use Rattle.profile.specs.Rules.{rule22};
@@ -21,11 +22,8 @@ pub fn rule22(s: &[u8], owners: &[u16], leaders: &[u16], marks: &[u16], section:
         s,
         owners,
         marks,
-        ListAt {
-            section: PROGRAMMES,
-            k: p,
-            at: SET_LIST,
-        },
+        field(s, PROGRAMMES, p, SET_LIST),
+        number(s, PROGRAMMES, p, SET_LIST),
         TabledTest::NotIncluded(p),
     ) {
         return true;

@@ -59,6 +59,12 @@ any-sum p m (suc n) =
     both zero b = ap (λ (n : ℕ). not (eqb n 0)) (sym (zero-add b))
     both (suc a) b = rw (ne-eqb (suc a) 0 (λ q. let z : suc a ≡ 0 = q in omega arith), ne-eqb (suc a + b) 0 (λ q. let z : suc a + b ≡ 0 = q in omega arith)) refl
 
+-- a sum grows
+pub sum-below : (f : ℕ → ℕ) (m n : ℕ) → m ≤ n → sum f m ≤ sum f n
+unfolding sum
+sum-below f m zero l = let e : m ≡ 0 = omega arith in rw e (omega arith)
+sum-below f m (suc n) l = ⊎-elim (λ q. rw q (omega arith)) (λ k. omega (arith, sum-below f m n (omega arith))) (eq-or-lt-of-le l)
+
 -- a run names each of its numbers once
 pub run-times : (f v n : ℕ) → howMany (λ i. eqb (f + i) v) n ≡ cond (leb f v && ltb v (f + n)) 1 0
 unfolding howMany

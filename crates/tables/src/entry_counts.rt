@@ -1,8 +1,6 @@
-// How many entries lists have together, as far as a number: where many records share long lists, counting on takes too long. Nothing rests
-// on what is counted here but time.
-use crate::Lists;
-use crate::namings::items;
-use crate::namings::namers;
+// By how many the entries of lists are fewer than a number. Where many records share long lists they are more than the sheet has words, so
+// that the count stops at the number. Nothing rests on it but time.
+use crate::Naming;
 use sheet::fields::CHILD_LIST;
 use sheet::fields::COMPLEMENT_LIST;
 use sheet::fields::CONTENT_LABELS;
@@ -16,69 +14,61 @@ use sheet::fields::SET_SPAN;
 use sheet::fields::TRACK_LIST;
 use sheet::layout::count;
 use sheet::layout::number;
-ghost use Prim.Native.Nat.{_≤_};
+ghost use Prim.Native.Nat.{_-_, _≤_};
+ghost use mathlib.Core.Path.{_≡_};
+ghost use Rattle.profile.specs.Counting.{sum};
+ghost use Rattle.sheet.specs.Layout.{count, number};
+ghost use Rattle.sheet.specs.Words.{sheetOf};
 
-// How many records have the lists.
-fn holders(s: &[u8], lists: Lists) -> u16 {
-    match lists {
-        Lists::Section(section) => count(s, section),
-        Lists::SectionAndSpans(section) => count(s, section),
-        Lists::Namings(kind) => namers(s, kind),
-    }
-}
-
-// How many entries the lists of a record have.
-fn record_entries(s: &[u8], section: u8, k: u16) -> u32
-    ensures { λ r. ⌜ r ≤ 196605 ⌝ }
+// By how many the entries of the lists at a position of a section's records are fewer than `most`: 0 where they are as many or more.
+fn fewer_entries(s: &[u8], section: u8, at: u8, most: u32) -> u32
+    ensures { λ r. ⌜ r ≡ most - sum (λ k. number (sheetOf (now (s .entry))) section k at) (count (sheetOf (now (s .entry))) section) ⌝ }
 {
-    match section {
-        1 => number(s, PROGRAMMES, k, CONTENT_LIST) as u32
-            + number(s, PROGRAMMES, k, SET_LIST) as u32
-            + number(s, PROGRAMMES, k, PROGRAMME_LABELS) as u32,
-        2 => number(s, CONTENTS, k, CONTENT_LABELS) as u32,
-        3 => {
-            number(s, OBJECTS, k, TRACK_LIST) as u32
-                + number(s, OBJECTS, k, CHILD_LIST) as u32
-                + number(s, OBJECTS, k, COMPLEMENT_LIST) as u32
-        }
-        _ => 0,
-    }
-}
-
-// How many value sets its span has.
-fn span_sets(s: &[u8], section: u8, k: u16) -> u32
-    ensures { λ r. ⌜ r ≤ 65535 ⌝ }
-{
-    if section == OBJECTS {
-        number(s, OBJECTS, k, SET_SPAN) as u32
-    } else {
-        0
-    }
-}
-
-// How many entries one record has.
-fn entries_of(s: &[u8], lists: Lists, k: u16) -> u32 {
-    match lists {
-        Lists::Section(section) => record_entries(s, section, k),
-        Lists::SectionAndSpans(section) => record_entries(s, section, k) + span_sets(s, section, k),
-        Lists::Namings(kind) => items(s, kind, k) as u32,
-    }
-}
-
-// How many entries the lists have together, or `most` where they have as many or more.
-pub fn entries_up_to(s: &[u8], lists: Lists, most: u32) -> u32
-    ensures { λ r. ⌜ r ≤ most ⌝ }
-{
-    let n = holders(s, lists);
+    let n = count(s, section);
     let mut left = most;
     let mut k: u16 = 0;
     while k < n {
-        let e = entries_of(s, lists, k);
+        let e = number(s, section, k, at) as u32;
         if left <= e {
-            return most;
+            return 0;
         }
         left -= e;
         k += 1;
     }
-    most - left
+    left
+}
+
+// The same for all lists of a section's records.
+pub fn fewer_in_section(s: &[u8], section: u8, most: u32) -> u32
+    ensures { λ r. ⌜ r ≤ most ⌝ }
+{
+    match section {
+        1 => {
+            let left = fewer_entries(s, PROGRAMMES, CONTENT_LIST, most);
+            let fewer = fewer_entries(s, PROGRAMMES, SET_LIST, left);
+            fewer_entries(s, PROGRAMMES, PROGRAMME_LABELS, fewer)
+        }
+        2 => fewer_entries(s, CONTENTS, CONTENT_LABELS, most),
+        3 => {
+            let left = fewer_entries(s, OBJECTS, TRACK_LIST, most);
+            let fewer = fewer_entries(s, OBJECTS, CHILD_LIST, left);
+            fewer_entries(s, OBJECTS, COMPLEMENT_LIST, fewer)
+        }
+        _ => most,
+    }
+}
+
+// The same for the lists or spans by which records name others in one way. Of contents, which have no such list, none are counted.
+pub fn fewer_namings(s: &[u8], kind: Naming, most: u32) -> u32
+    ensures { λ r. ⌜ r ≤ most ⌝ }
+{
+    match kind {
+        Naming::ContentObjects => most,
+        Naming::Children => fewer_entries(s, OBJECTS, CHILD_LIST, most),
+        Naming::Complements => fewer_entries(s, OBJECTS, COMPLEMENT_LIST, most),
+        Naming::ContentLists => fewer_entries(s, PROGRAMMES, CONTENT_LIST, most),
+        Naming::Included => fewer_entries(s, PROGRAMMES, CONTENT_LIST, most),
+        Naming::SetLists => fewer_entries(s, PROGRAMMES, SET_LIST, most),
+        Naming::SetSpans => fewer_entries(s, OBJECTS, SET_SPAN, most),
+    }
 }

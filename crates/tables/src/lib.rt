@@ -26,16 +26,6 @@ pub enum Naming {
     SetSpans,
 }
 
-// Lists whose entries are counted together.
-pub enum Lists {
-    // the lists of a section's records
-    Section(u8),
-    // those, and the spans of value sets
-    SectionAndSpans(u8),
-    // those by which records name others in one way
-    Namings(Naming),
-}
-
 // What is done with the place of a record that is named.
 pub enum Mark {
     // it is counted: 0, 1, and 2 for twice or more

@@ -4,8 +4,8 @@ use mathlib.Core.Bool.{Bool, not, cond, _&&_}
 use mathlib.Core.List.{List}
 use lib.Dec.{eqb}
 use Rattle.sheet.specs.Words.{Sheet}
-use Rattle.sheet.specs.Layout.{count, field, first, number, entry}
-use Rattle.sheet.specs.Fields.{programmes, contents, objects, tracks, valueSets, trackList, setSpan, trackOrdinal, setOwn}
+use Rattle.sheet.specs.Layout.{count, field, first, number, entry, reference}
+use Rattle.sheet.specs.Fields.{programmes, contents, objects, tracks, valueSets, trackList, setList, setSpan, trackOrdinal, setOwn}
 use Rattle.profile.specs.Counting.{any, howMany, sum, twoOf}
 use Rattle.profile.specs.Relations.{times, leader, leaderOf, members, includes, included, whollyIncluded, owner, channels, trackAt}
 use Rattle.profile.specs.Rules.{badComplement, differs, setsNamed, setsDiffer}
@@ -34,13 +34,17 @@ pairTest s Same a b = eqb a b
 pairTest s OneOwner a b = eqb (owner s a) (owner s b)
 pairTest s DifferInGroup a b = eqb (leaderOf s (owner s a)) (leaderOf s (owner s b)) && setsDiffer s a b
 
--- an entry before place j of the list passes it with the one there
-unfoldable pub earlierEntry : Sheet → ℕ → ℕ → ℕ → PairTest → ℕ → Bool
-earlierEntry s section k at test j = any (λ i. pairTest s test (entry s section k at i) (entry s section k at j)) j
+-- of the references from a on, one before place j passes it with the one there
+unfoldable pub earlierEntry : Sheet → ℕ → PairTest → ℕ → Bool
+earlierEntry s a test j = any (λ i. pairTest s test (reference s (a + i)) (reference s (a + j))) j
 
--- two entries of the list pass it
-unfoldable pub twoEntries : Sheet → ℕ → ℕ → ℕ → PairTest → Bool
-twoEntries s section k at test = twoOf (λ i j. pairTest s test (entry s section k at i) (entry s section k at j)) (number s section k at)
+-- two of the n references from a on pass it
+unfoldable pub twoEntries : Sheet → ℕ → ℕ → PairTest → Bool
+twoEntries s a n test = twoOf (λ i j. pairTest s test (reference s (a + i)) (reference s (a + j))) n
+
+-- two sets that a programme names differ within a group
+abbrev pub setsDifferInGroup : Sheet → ℕ → Bool
+setsDifferInGroup s p = twoEntries s (first s programmes p setList) (number s programmes p setList) DifferInGroup
 
 -- what is compared of an entry
 abbrev pub keyOf : Sheet → Key → ℕ → ℕ
@@ -76,9 +80,9 @@ tabledRight s BadComplement tops complements = Tops s tops × Complemented s com
 tabledRight s (DiffersFrom l) a b = Unit {0}
 tabledRight s (NotIncluded p) owners marks = Owners s owners × Included s p marks
 
--- some entry of the list passes it
-unfoldable pub anyTabled : Sheet → ℕ → ℕ → ℕ → TabledTest → Bool
-anyTabled s section k at test = any (λ i. tabledTest s test (entry s section k at i)) (number s section k at)
+-- one of the n references from a on passes it
+unfoldable pub anyTabled : Sheet → ℕ → ℕ → TabledTest → Bool
+anyTabled s a n test = any (λ i. tabledTest s test (reference s (a + i))) n
 
 -- a leader passes the test, for a programme
 abbrev pub groupTest : Sheet → ℕ → GroupTest → ℕ → Bool

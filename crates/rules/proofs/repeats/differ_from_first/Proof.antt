@@ -8,7 +8,7 @@ use Rattle.profile.specs.Counting.{any, twoOf}
 use Rattle.profile.specs.Relations.{leaderOf, owner, namedSet}
 use Rattle.profile.specs.Rules.{setsDiffer}
 use Rattle.profile.proofs.SumLaws.{any-one, any-nowhere}
-use Rattle.sheet.specs.Layout.{number}
+use Rattle.sheet.specs.Layout.{number, entry}
 use Rattle.sheet.specs.Fields.{programmes, setList}
 use Rattle.sheet.specs.Words.{sheetOf}
 use Rattle.tables.specs.steps.Right.{Owners, Leaders}
@@ -63,7 +63,7 @@ sets-differ-requires : tie.Need-sets-differ-requires Inv-loop μ-loop
 sets-differ-requires c κs = search needs
 
 returns-2 : tie.Need-returns-2 Inv-loop μ-loop
-unfolding twoEntries twoOf namedSet
+unfolding twoEntries twoOf namedSet entry
 returns-2 c =
     let a = c .before .before .before .before .before .before .before .before .before .before .before .before .before .before .before .before .args in let s = sheetOf (a .s .now) in
     let e = namedSet s (a .p) in let g : ℕ → ℕ = λ i. leaderOf s (owner s (e i)) in let l = c .before .before .before .before .before .before .before .before .before .before .before .loop in
@@ -91,7 +91,7 @@ loop-again c =
     (search needs, place .ensures .0, λ owners leaders. firsts-next s e g (l .first) (l .j) (lead .result) (place .result) (l .inv .2 owners leaders .0) (lead .ensures leaders ∙ ap (leaderOf s) (c .before .before .before .before .before .before .before .before .owner-by .ensures owners ∙ ap (owner s) set)) inside (place .ensures .1) (l .inv .2 owners leaders .1) (test ∙ c .if2 .left) (place .last .0) (place .ensures .0 ∙ sym (l .inv .1)) (place .ensures .2))
 
 returns-3 : tie.Need-returns-3 Inv-loop μ-loop
-unfolding twoEntries twoOf namedSet
+unfolding twoEntries twoOf namedSet entry
 returns-3 c =
     let a = c .before .before .before .before .before .before .args in let s = sheetOf (a .s .now) in let e = namedSet s (a .p) in let g : ℕ → ℕ = λ i. leaderOf s (owner s (e i)) in
     λ owners leaders. sym (any-nowhere (λ m. any (λ i. differ s e g i m) m) (number s programmes (a .p) setList) (λ m l. c .before .loop .inv .2 owners leaders .1 m (omega (arith, l, c .loop-test .left, c .before .before .number .ensures))))

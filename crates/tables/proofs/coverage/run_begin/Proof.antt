@@ -3,48 +3,6 @@ use borrow.Author.Needs.{needs}
 use Rattle.tables.proofs.coverage.run_begin.Statement.{statement}
 use Rattle.tables.proofs.coverage.run_begin.Tie as tie
 
-enum-told : tie.Need-enum-told
-enum-told c = search needs
-
-field-requires : tie.Need-field-requires
-field-requires c κs = search needs
-
-enum-told-2 : tie.Need-enum-told-2
-enum-told-2 c = search needs
-
-field-requires-2 : tie.Need-field-requires-2
-field-requires-2 c κs = search needs
-
-enum-told-3 : tie.Need-enum-told-3
-enum-told-3 c = search needs
-
-field-requires-3 : tie.Need-field-requires-3
-field-requires-3 c κs = search needs
-
-enum-told-4 : tie.Need-enum-told-4
-enum-told-4 c = search needs
-
-field-requires-4 : tie.Need-field-requires-4
-field-requires-4 c κs = search needs
-
-enum-told-5 : tie.Need-enum-told-5
-enum-told-5 c = search needs
-
-field-requires-5 : tie.Need-field-requires-5
-field-requires-5 c κs = search needs
-
-enum-told-6 : tie.Need-enum-told-6
-enum-told-6 c = search needs
-
-field-requires-6 : tie.Need-field-requires-6
-field-requires-6 c κs = search needs
-
-enum-told-7 : tie.Need-enum-told-7
-enum-told-7 c = search needs
-
-field-requires-7 : tie.Need-field-requires-7
-field-requires-7 c κs = search needs
-
 returns : tie.Need-returns
 returns c = simp (c .before .enum-told .given .1, c .field .ensures)
 
@@ -70,20 +28,20 @@ pub run-begin-spec : {M : Type 1} → statement M
 run-begin-spec =
     tie.close
     (tie.spec
-    enum-told
-    field-requires
-    enum-told-2
-    field-requires-2
-    enum-told-3
-    field-requires-3
-    enum-told-4
-    field-requires-4
-    enum-told-5
-    field-requires-5
-    enum-told-6
-    field-requires-6
-    enum-told-7
-    field-requires-7
+    (λ c. search needs)
+    (λ c κs. search needs)
+    (λ c. search needs)
+    (λ c κs. search needs)
+    (λ c. search needs)
+    (λ c κs. search needs)
+    (λ c. search needs)
+    (λ c κs. search needs)
+    (λ c. search needs)
+    (λ c κs. search needs)
+    (λ c. search needs)
+    (λ c κs. search needs)
+    (λ c. search needs)
+    (λ c κs. search needs)
     returns
     returns-2
     returns-3
