@@ -1,7 +1,6 @@
 // Rules 21 and 22 for large sheets: how many programmes from the first on can be seen to keep them, in passes over the programmes.
 use grouping::alike::fill_alike;
 use grouping::programmes::kept_from;
-use screen::records::all_once;
 use sheet::fields::COMPLEMENT_LIST;
 use sheet::fields::OBJECTS;
 use sheet::fields::PROGRAMMES;
@@ -11,6 +10,7 @@ use sheet::layout::number;
 use tables::Naming;
 use tables::marks::count_namings;
 use tables::marks::first_namers;
+use tables::reads::all_once;
 ghost use Prim.Native.Nat.{ℕ, _<_, _≤_};
 ghost use mathlib.Core.Bool.{false, true};
 ghost use mathlib.Core.Path.{_≡_};

@@ -13,19 +13,9 @@ use profile::Verdict;
 use profile::places::place_at;
 use screen::screening::passes;
 use screen::screening::small_passes;
-use sheet::fields::CHILD_LIST;
-use sheet::fields::COMPLEMENT_LIST;
-use sheet::fields::CONTENT_LABELS;
-use sheet::fields::CONTENT_LIST;
-use sheet::fields::CONTENTS;
 use sheet::fields::OBJECTS;
-use sheet::fields::PROGRAMME_LABELS;
 use sheet::fields::PROGRAMMES;
-use sheet::fields::SET_LIST;
-use sheet::fields::TRACK_LIST;
-use sheet::layout::count;
-use sheet::layout::number;
-ghost use Prim.Native.Nat.{_≤_};
+use tables::entry_counts::fewer_in_section;
 ghost use lib.ListN.{length};
 ghost use mathlib.Core.Path.{_≡_};
 ghost use Rattle.checker.specs.Checked.{checked};
@@ -89,38 +79,12 @@ fn by_tables(s: &[u8], rule: u8, section: u8, from: u16, n: u16) -> u16
     broken_below(s, &first, &second, &mut marks, rule, section, from, n)
 }
 
-// How many entries the lists of a record have.
-fn entries(s: &[u8], section: u8, k: u16) -> u32
-    ensures { λ r. ⌜ r ≤ 196605 ⌝ }
-{
-    match section {
-        1 => number(s, PROGRAMMES, k, CONTENT_LIST) as u32
-            + number(s, PROGRAMMES, k, SET_LIST) as u32
-            + number(s, PROGRAMMES, k, PROGRAMME_LABELS) as u32,
-        2 => number(s, CONTENTS, k, CONTENT_LABELS) as u32,
-        3 => {
-            number(s, OBJECTS, k, TRACK_LIST) as u32
-                + number(s, OBJECTS, k, CHILD_LIST) as u32
-                + number(s, OBJECTS, k, COMPLEMENT_LIST) as u32
-        }
-        _ => 0,
-    }
-}
+// A table over the references is worth its filling where the lists of a section's records have more entries together.
+const FEW_ENTRIES: u32 = 8192;
 
-// Whether the lists of a section's records have so many entries that a table over the references is worth its filling. The verdict
-// is the same either way.
+// Whether they have. The verdict is the same either way.
 fn crowded(s: &[u8], section: u8) -> bool {
-    let n = count(s, section);
-    let mut total: u32 = 0;
-    let mut k: u16 = 0;
-    while k < n {
-        total += entries(s, section, k);
-        if 8192 < total {
-            return true;
-        }
-        k += 1;
-    }
-    false
+    fewer_in_section(s, section, FEW_ENTRIES + 1) == 0
 }
 
 // With tables over the references, where the section's lists have many entries. No sheet has more references.

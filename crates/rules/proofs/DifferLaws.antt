@@ -8,7 +8,7 @@ use native.Mathlib.Omega.{arith}
 use native.Mathlib.Numerals.{add-one}
 use native.Mathlib.Nat.{eq-or-lt-of-le, eq-zero-or-pos}
 use borrow.Author.Count.{below-more}
-use borrow.Author.Tests.{ltb-true, ltb-false, eqb-true, eqb-false, eq-eqb, ne-eqb, not-false}
+use borrow.Author.Tests.{ltb-true, ltb-false, eqb-true, eq-eqb, ne-eqb, not-false}
 use lib.Dec.{eqb, ltb}
 use lib.ListN.{length, getD, set, replicate, length-set}
 use Rattle.sheet.specs.Words.{Sheet}
@@ -88,7 +88,7 @@ module _ (s : Sheet) (e g : ℕ → ℕ) where
         told-place : (c i : ℕ) → c ≡ suc i → told j c ≡ i
         told-place c i h = rw h (rw (ne-eqb (suc i) 0 (λ q. let z : suc i ≡ 0 = q in omega arith)) (omega arith))
 
-    pub firsts-more : (t′ : List ℕ) → length t′ ≡ length t → Standing (λ z. cond (eqb y z) (suc r) (getD t z 0)) t′ → Firsts t′ (j + 1)
+    firsts-more : (t′ : List ℕ) → length t′ ≡ length t → Standing (λ z. cond (eqb y z) (suc r) (getD t z 0)) t′ → Firsts t′ (j + 1)
     firsts-more t′ long now x l =
         (elim (eqb y x) as (λ b. eqb y x ≡ b → ((getD t′ x 0 ≡ 0) × ((i : ℕ) → i < j + 1 → eqb (g i) x ≡ false)) ⊎ ((i : ℕ) × (getD t′ x 0 ≡ suc i) × (i < j + 1) × (g i ≡ x))) [
           | true ↦ λ h. inr (r, now x l ∙ ap (λ (b : Bool). cond b (suc r) (getD t x 0)) h, ⊎-elim (λ a. omega (arith, a .0)) (λ a. omega (arith, a .0)) place, ⊎-elim (λ a. ap g (a .0)) (λ a. a .1) place ∙ sym key ∙ eqb-true y x h)
@@ -101,7 +101,7 @@ module _ (s : Sheet) (e g : ℕ → ℕ) where
         ]) refl
 
     module _ (agree : Agree j) where
-      pub agree-next : setsDiffer s (e r) (e j) ≡ false → any (λ i. differ i j) j ≡ false
+      agree-next : setsDiffer s (e r) (e j) ≡ false → any (λ i. differ i j) j ≡ false
       agree-next d =
           ⊎-elim
           (λ none. any-nowhere (λ i. differ i j) j (λ i l. ap (λ (b : Bool). b && setsDiffer s (e i) (e j)) (none .1 i l)))
@@ -125,6 +125,10 @@ module _ (s : Sheet) (e g : ℕ → ℕ) where
                     ]) refl
                 | false ↦ λ h. refl
               ]) refl
+
+      pub firsts-next : setsDiffer s (e r) (e j) ≡ false → (t′ : List ℕ) → length t′ ≡ length t → Standing (λ z. cond (eqb y z) (suc r) (getD t z 0)) t′
+          → Firsts t′ (j + 1) × Agree (j + 1)
+      firsts-next d t′ long now = (firsts-more t′ long now, below-more (λ m. any (λ i. differ i m) m ≡ false) j agree (agree-next d))
 
       pub found-next : setsDiffer s (e r) (e j) ≡ true → any (λ i. differ i j) j ≡ true
       found-next d =

@@ -19,6 +19,10 @@ see-standing t y x l = set-standing t y 1 (λ z. cond (eqb y z) 1 (getD t z 0)) 
 abbrev pub Seen : (ℕ → ℕ) → List ℕ → ℕ → Type 0
 Seen f t j = Standing (λ x. cond (any (λ i. eqb (f i) x) j) 1 0) t
 
+-- no two of the first j are alike
+abbrev pub Unlike : (ℕ → ℕ) → ℕ → Type 0
+Unlike f j = (m : ℕ) → m < j → any (λ i. eqb (f i) (f m)) m ≡ false
+
 pub seen-none : (f : ℕ → ℕ) (n : ℕ) → Seen f (replicate n 0) 0
 unfolding any
 seen-none f n x l = nought n x
@@ -40,8 +44,5 @@ module _ (f : ℕ → ℕ) (t : List ℕ) (j y : ℕ) (seen : Seen f t j) (e : y
       either false false = refl
 
   -- whether the next was seen
-  pub seen-next : y < length t → not (eqb (getD t y 0) 0) ≡ any (λ i. eqb (f i) (f j)) j
-  seen-next l =
-      ap (λ (c : ℕ). not (eqb c 0)) (seen y l)
-      ∙ flag (any (λ i. eqb (f i) y) j)
-      ∙ ap (λ (w : ℕ). any (λ i. eqb (f i) w) j) e
+  pub seen-next : y < length t → (r : Bool) → r ≡ not (eqb (getD t y 0) 0) → any (λ i. eqb (f i) (f j)) j ≡ r
+  seen-next l r read = sym (read ∙ ap (λ (c : ℕ). not (eqb c 0)) (seen y l) ∙ flag (any (λ i. eqb (f i) y) j) ∙ ap (λ (w : ℕ). any (λ i. eqb (f i) w) j) e)

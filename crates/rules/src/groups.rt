@@ -1,10 +1,12 @@
 // Rules 19 to 21: complementary groups.
 use crate::GroupTest;
-use crate::ListedTest;
+use crate::TabledTest;
 use crate::loops::any_group;
-use crate::loops::any_listed;
+use crate::loops::any_tabled;
 use sheet::fields::COMPLEMENT_LIST;
 use sheet::fields::OBJECTS;
+use sheet::layout::field;
+use sheet::layout::number;
 ghost use mathlib.Core.Path.{_≡_};
 ghost use Rattle.profile.specs.Rules.{rule19, rule20, rule21};
 ghost use Rattle.sheet.specs.Words.{sheetOf};
@@ -13,14 +15,13 @@ ghost use Rattle.tables.specs.steps.Right.{Complemented, Included, Tops};
 pub fn rule19(s: &[u8], tops: &[u16], complements: &[u16], section: u8, o: u16) -> bool
     ensures { λ r. ⌜ (Tops (sheetOf (now (s .entry))) (now (tops .entry)) → Complemented (sheetOf (now (s .entry))) (now (complements .entry)) → r ≡ rule19 (sheetOf (now (s .entry))) section o) ⌝ }
 {
-    any_listed(
+    any_tabled(
         s,
         tops,
         complements,
-        OBJECTS,
-        o,
-        COMPLEMENT_LIST,
-        ListedTest::BadComplement,
+        field(s, OBJECTS, o, COMPLEMENT_LIST),
+        number(s, OBJECTS, o, COMPLEMENT_LIST),
+        TabledTest::BadComplement,
     )
 }
 
@@ -29,14 +30,13 @@ pub fn rule20(s: &[u8], section: u8, o: u16) -> bool
     ensures { λ r. ⌜ r ≡ rule20 (sheetOf (now (s .entry))) section o ⌝ }
 {
     let none: [u16; 1] = [0];
-    any_listed(
+    any_tabled(
         s,
         &none,
         &none,
-        OBJECTS,
-        o,
-        COMPLEMENT_LIST,
-        ListedTest::DiffersFrom(o),
+        field(s, OBJECTS, o, COMPLEMENT_LIST),
+        number(s, OBJECTS, o, COMPLEMENT_LIST),
+        TabledTest::DiffersFrom(o),
     )
 }
 

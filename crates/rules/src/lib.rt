@@ -33,8 +33,8 @@ pub enum Key {
     Ordinal,
 }
 
-// What an entry of a list is tested for, where the test looks into other lists.
-pub enum ListedTest {
+// What an entry of a list is tested for by tables.
+pub enum TabledTest {
     // a complement that rule 19 refuses
     BadComplement,
     // an object that differs from this leader

@@ -1,7 +1,7 @@
 // The loops of the rules, each over any of its tests.
 use crate::GroupTest;
-use crate::ListedTest;
 use crate::PairTest;
+use crate::TabledTest;
 use relations::EntryTest;
 use relations::MemberTest;
 use relations::entries::how_many_entries;
@@ -24,9 +24,9 @@ use sheet::fields::SET_SPAN;
 use sheet::fields::TRACK_LIST;
 use sheet::fields::VALUE_SETS;
 use sheet::layout::count;
-use sheet::layout::entry;
 use sheet::layout::field;
 use sheet::layout::number;
+use sheet::layout::reference;
 use sheet::layout::wide_field;
 use tables::reads::included_by;
 use tables::reads::leader_by;
@@ -39,7 +39,7 @@ ghost use mathlib.Core.Path.{_≡_};
 ghost use Rattle.profile.specs.Relations.{channels};
 ghost use Rattle.profile.specs.Rules.{badComplement, differs, setsDiffer};
 ghost use Rattle.relations.specs.steps.Tests.{howManyMembers, memberTest};
-ghost use Rattle.rules.specs.steps.Loops.{anyGroup, anyListed, badChannel, earlierEntry, fieldsDiffer, groupRight, groupTest, listedRight, listedTest, memberRight, ownSet, pairRight, pairTest, totalTimes, twoEntries};
+ghost use Rattle.rules.specs.steps.Loops.{anyGroup, anyTabled, badChannel, earlierEntry, fieldsDiffer, groupRight, groupTest, tabledRight, tabledTest, memberRight, ownSet, pairRight, pairTest, totalTimes, twoEntries};
 ghost use Rattle.sheet.specs.Fields.{complementList};
 ghost use Rattle.sheet.specs.Words.{sheetOf};
 ghost use Rattle.tables.specs.steps.Right.{Complemented, Included, Tops};
@@ -106,33 +106,24 @@ pub fn bad_complement(s: &[u8], tops: &[u16], complements: &[u16], q: u16) -> bo
 }
 
 // Whether an entry passes the test, with the two tables that the test reads.
-pub fn listed_test(s: &[u8], a: &[u16], b: &[u16], test: ListedTest, e: u16) -> bool
-    ensures { λ r. ⌜ (listedRight (sheetOf (now (s .entry))) test (now (a .entry)) (now (b .entry)) → r ≡ listedTest (sheetOf (now (s .entry))) test e) ⌝ }
+pub fn tabled_test(s: &[u8], a: &[u16], b: &[u16], test: TabledTest, e: u16) -> bool
+    ensures { λ r. ⌜ (tabledRight (sheetOf (now (s .entry))) test (now (a .entry)) (now (b .entry)) → r ≡ tabledTest (sheetOf (now (s .entry))) test e) ⌝ }
 {
     match test {
-        ListedTest::BadComplement => bad_complement(s, a, b, e),
-        ListedTest::DiffersFrom(l) => differs(s, l, e),
-        ListedTest::NotIncluded(p) => !included_by(s, p, b, owner_by(s, a, e)),
+        TabledTest::BadComplement => bad_complement(s, a, b, e),
+        TabledTest::DiffersFrom(l) => differs(s, l, e),
+        TabledTest::NotIncluded(p) => !included_by(s, p, b, owner_by(s, a, e)),
     }
 }
 
-// Whether some entry of the list at a position of a record passes the test.
-pub fn any_listed(
-    s: &[u8],
-    a: &[u16],
-    b: &[u16],
-    section: u8,
-    k: u16,
-    at: u8,
-    test: ListedTest,
-) -> bool
-    ensures { λ r. ⌜ (listedRight (sheetOf (now (s .entry))) test (now (a .entry)) (now (b .entry)) → r ≡ anyListed (sheetOf (now (s .entry))) section k at test) ⌝ }
+// Whether one of the n references from one on passes the test.
+pub fn any_tabled(s: &[u8], a: &[u16], b: &[u16], first: u16, n: u16, test: TabledTest) -> bool
+    ensures { λ r. ⌜ (tabledRight (sheetOf (now (s .entry))) test (now (a .entry)) (now (b .entry)) → r ≡ anyTabled (sheetOf (now (s .entry))) first n test) ⌝ }
 {
-    let n = number(s, section, k, at);
     let mut found = false;
     let mut i: u16 = 0;
     while i < n {
-        found = found | listed_test(s, a, b, test, entry(s, section, k, at, i));
+        found = found | tabled_test(s, a, b, test, reference(s, first as u32 + i as u32));
         i += 1;
     }
     found
@@ -157,46 +148,50 @@ pub fn pair_test(s: &[u8], owners: &[u16], leaders: &[u16], test: PairTest, x: u
     }
 }
 
-// Whether an entry before place j of the list passes the test with the one there.
+// Whether one of the references from one on passes the test with the one j places on, and comes before it.
 fn earlier_entry(
     s: &[u8],
     owners: &[u16],
     leaders: &[u16],
-    section: u8,
-    k: u16,
-    at: u8,
+    first: u16,
     test: PairTest,
     j: u16,
 ) -> bool
-    ensures { λ r. ⌜ (pairRight (sheetOf (now (s .entry))) test (now (owners .entry)) (now (leaders .entry)) → r ≡ earlierEntry (sheetOf (now (s .entry))) section k at test j) ⌝ }
+    ensures { λ r. ⌜ (pairRight (sheetOf (now (s .entry))) test (now (owners .entry)) (now (leaders .entry)) → r ≡ earlierEntry (sheetOf (now (s .entry))) first test j) ⌝ }
 {
-    let y = entry(s, section, k, at, j);
+    let y = reference(s, first as u32 + j as u32);
     let mut found = false;
     let mut i: u16 = 0;
     while i < j {
-        found = found | pair_test(s, owners, leaders, test, entry(s, section, k, at, i), y);
+        found = found
+            | pair_test(
+                s,
+                owners,
+                leaders,
+                test,
+                reference(s, first as u32 + i as u32),
+                y,
+            );
         i += 1;
     }
     found
 }
 
-// Whether two entries of the list pass the test.
+// Whether two of the n references from one on pass the test.
 pub fn two_entries(
     s: &[u8],
     owners: &[u16],
     leaders: &[u16],
-    section: u8,
-    k: u16,
-    at: u8,
+    first: u16,
+    n: u16,
     test: PairTest,
 ) -> bool
-    ensures { λ r. ⌜ (pairRight (sheetOf (now (s .entry))) test (now (owners .entry)) (now (leaders .entry)) → r ≡ twoEntries (sheetOf (now (s .entry))) section k at test) ⌝ }
+    ensures { λ r. ⌜ (pairRight (sheetOf (now (s .entry))) test (now (owners .entry)) (now (leaders .entry)) → r ≡ twoEntries (sheetOf (now (s .entry))) first n test) ⌝ }
 {
-    let n = number(s, section, k, at);
     let mut found = false;
     let mut j: u16 = 0;
     while j < n {
-        found = found | earlier_entry(s, owners, leaders, section, k, at, test, j);
+        found = found | earlier_entry(s, owners, leaders, first, test, j);
         j += 1;
     }
     found

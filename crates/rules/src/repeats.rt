@@ -28,14 +28,13 @@ ghost use mathlib.Core.Path.{_≡_};
 ghost use Rattle.profile.specs.Relations.{channels};
 ghost use Rattle.profile.specs.Rules.{repeats};
 ghost use Rattle.runs.specs.steps.Runs.{RepeatRight};
-ghost use Rattle.rules.specs.steps.Loops.{badChannel, keyOf, keyRight, keysAlike, twoEntries};
+ghost use Rattle.rules.specs.steps.Loops.{badChannel, keyOf, keyRight, keysAlike, setsDifferInGroup};
 ghost use Rattle.sheet.specs.Words.{sheetOf};
 ghost use Rattle.sheet.specs.Fields.{objects, programmes, setList, trackList};
 ghost use Rattle.sheet.specs.Layout.{number};
 ghost use Rattle.tables.specs.steps.Marks.{Standing};
 ghost use Rattle.tables.specs.steps.Right.{Leaders, Owners, told};
 ghost use Rattle.rules.specs.declared.Key.the-variants.{Owner};
-ghost use Rattle.rules.specs.declared.PairTest.the-variants.{DifferInGroup};
 
 // What is compared of an entry.
 fn key_of(s: &[u8], owners: &[u16], key: Key, e: u16) -> u16
@@ -84,8 +83,9 @@ pub fn repeats(s: &[u8], section: u8, k: u16, at: u8) -> bool
     ensures { λ r. ⌜ r ≡ repeats (sheetOf (now (s .entry))) section k at ⌝ }
 {
     let none: [u16; 1] = [0];
-    if number(s, section, k, at) <= SHORT {
-        two_entries(s, &none, &none, section, k, at, PairTest::Same)
+    let n = number(s, section, k, at);
+    if n <= SHORT {
+        two_entries(s, &none, &none, field(s, section, k, at), n, PairTest::Same)
     } else {
         keys_alike(s, &none, section, k, at, Key::Entry)
     }
@@ -111,14 +111,14 @@ pub fn repeats_by(s: &[u8], next: &[u16], section: u8, k: u16, at: u8) -> bool
 pub fn one_owner(s: &[u8], owners: &[u16], p: u16) -> bool
     ensures { λ r. ⌜ (Owners (sheetOf (now (s .entry))) (now (owners .entry)) → r ≡ keysAlike (sheetOf (now (s .entry))) programmes p setList Owner) ⌝ }
 {
-    if number(s, PROGRAMMES, p, SET_LIST) <= SHORT {
+    let n = number(s, PROGRAMMES, p, SET_LIST);
+    if n <= SHORT {
         two_entries(
             s,
             owners,
             owners,
-            PROGRAMMES,
-            p,
-            SET_LIST,
+            field(s, PROGRAMMES, p, SET_LIST),
+            n,
             PairTest::OneOwner,
         )
     } else {
@@ -156,15 +156,14 @@ fn first_of(first: &mut [u16], l: u16, j: u16) -> u16
 
 // Whether the sets that a programme names differ within a group, pair by pair.
 fn group_pairs_differ(s: &[u8], owners: &[u16], leaders: &[u16], p: u16) -> bool
-    ensures { λ r. ⌜ (Owners (sheetOf (now (s .entry))) (now (owners .entry)) → Leaders (sheetOf (now (s .entry))) (now (leaders .entry)) → r ≡ twoEntries (sheetOf (now (s .entry))) programmes p setList DifferInGroup) ⌝ }
+    ensures { λ r. ⌜ (Owners (sheetOf (now (s .entry))) (now (owners .entry)) → Leaders (sheetOf (now (s .entry))) (now (leaders .entry)) → r ≡ setsDifferInGroup (sheetOf (now (s .entry))) p) ⌝ }
 {
     two_entries(
         s,
         owners,
         leaders,
-        PROGRAMMES,
-        p,
-        SET_LIST,
+        field(s, PROGRAMMES, p, SET_LIST),
+        number(s, PROGRAMMES, p, SET_LIST),
         PairTest::DifferInGroup,
     )
 }
@@ -172,7 +171,7 @@ fn group_pairs_differ(s: &[u8], owners: &[u16], leaders: &[u16], p: u16) -> bool
 // The same for a long list: each is compared with the first of its group. No sheet has more than 2,046 objects; a larger number would
 // be past the table.
 fn differ_from_first(s: &[u8], owners: &[u16], leaders: &[u16], p: u16) -> bool
-    ensures { λ r. ⌜ (Owners (sheetOf (now (s .entry))) (now (owners .entry)) → Leaders (sheetOf (now (s .entry))) (now (leaders .entry)) → r ≡ twoEntries (sheetOf (now (s .entry))) programmes p setList DifferInGroup) ⌝ }
+    ensures { λ r. ⌜ (Owners (sheetOf (now (s .entry))) (now (owners .entry)) → Leaders (sheetOf (now (s .entry))) (now (leaders .entry)) → r ≡ setsDifferInGroup (sheetOf (now (s .entry))) p) ⌝ }
 {
     let n = number(s, PROGRAMMES, p, SET_LIST);
     let mut first: [u16; 2048] = [0; 2048];
@@ -194,7 +193,7 @@ fn differ_from_first(s: &[u8], owners: &[u16], leaders: &[u16], p: u16) -> bool
 
 // A short list by its pairs, a long one by a table.
 pub fn differ_in_group(s: &[u8], owners: &[u16], leaders: &[u16], p: u16) -> bool
-    ensures { λ r. ⌜ (Owners (sheetOf (now (s .entry))) (now (owners .entry)) → Leaders (sheetOf (now (s .entry))) (now (leaders .entry)) → r ≡ twoEntries (sheetOf (now (s .entry))) programmes p setList DifferInGroup) ⌝ }
+    ensures { λ r. ⌜ (Owners (sheetOf (now (s .entry))) (now (owners .entry)) → Leaders (sheetOf (now (s .entry))) (now (leaders .entry)) → r ≡ setsDifferInGroup (sheetOf (now (s .entry))) p) ⌝ }
 {
     if number(s, PROGRAMMES, p, SET_LIST) <= SHORT {
         group_pairs_differ(s, owners, leaders, p)

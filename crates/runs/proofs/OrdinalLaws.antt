@@ -1,11 +1,11 @@
 -- n numbers are 0 to n - 1, each once, where none is n or more and no two are the same. Assumes nothing.
 use Prim.Native.Nat.{ℕ, zero, suc, _+_, _<_, _≤_}
 use mathlib.Core.Path.{_≡_, refl, sym, ap, _∙_}
-use mathlib.Core.Bool.{Bool, true, false, cond, not, _||_, true≢false}
+use mathlib.Core.Bool.{Bool, true, false, cond, not, _||_}
 use native.Mathlib.Omega.{arith}
 use mathlib.Core.Logic.{⊎-elim}
 use native.Mathlib.Nat.{eq-or-lt-of-le, le-of-suc-le-suc}
-use borrow.Author.Tests.{eqb-true, eq-eqb, lt-ltb, le-ltb, ltb-true, ltb-false, leb-false, lt-leb, not-true, not-false}
+use borrow.Author.Tests.{eqb-true, eq-eqb, lt-ltb, ltb-true, ltb-false, leb-false, lt-leb, not-false}
 use lib.Dec.{eqb, leb, ltb}
 use Rattle.profile.specs.Counting.{any, howMany, sum, twoOf}
 use Rattle.profile.proofs.BoolLaws.{or-none}

@@ -129,14 +129,14 @@ module _ (m : ℕ) where
             (λ j k. any-below (λ i. eqb (f (suc x + i)) (f (suc x + j))) (λ i. eqb (f (x + suc i)) (f (x + suc j))) j (λ i q. ap₂ (λ (a b : ℕ). eqb a b) (at i) (at j)))
 
 -- what stands from x on has P
-abbrev pub Filled : (ℕ → ℕ → Type 0) → ℕ → ℕ → List ℕ → Type 0
-Filled P m x t = (z : ℕ) → x ≤ z → z < length t → z < m → P z (getD t z 0)
+abbrev pub FilledFrom : (ℕ → ℕ → Type 0) → ℕ → ℕ → List ℕ → Type 0
+FilledFrom P m x t = (z : ℕ) → x ≤ z → z < length t → z < m → P z (getD t z 0)
 
-pub filled-start : (P : ℕ → ℕ → Type 0) (m : ℕ) (t : List ℕ) → Filled P m m t
+pub filled-start : (P : ℕ → ℕ → Type 0) (m : ℕ) (t : List ℕ) → FilledFrom P m m t
 filled-start P m t z a b d = absurd (omega arith)
 
-pub filled-more : (P : ℕ → ℕ → Type 0) (m x v : ℕ) (t t′ : List ℕ) → length t′ ≡ length t → Filled P m (suc x) t → P x v
-    → Standing (λ z. cond (eqb x z) v (getD t z 0)) t′ → Filled P m x t′
+pub filled-more : (P : ℕ → ℕ → Type 0) (m x v : ℕ) (t t′ : List ℕ) → length t′ ≡ length t → FilledFrom P m (suc x) t → P x v
+    → Standing (λ z. cond (eqb x z) v (getD t z 0)) t′ → FilledFrom P m x t′
 filled-more P m x v t t′ long before here now z a b d =
     (elim (eqb x z) as (λ q. eqb x z ≡ q → P z (getD t′ z 0)) [
       | true ↦ λ e.

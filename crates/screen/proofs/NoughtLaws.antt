@@ -1,5 +1,5 @@
 -- What a pass leaves in a table of noughts. Assumes nothing.
-use Prim.Native.Nat.{ℕ, _+_, _<_}
+use Prim.Native.Nat.{ℕ, _<_}
 use mathlib.Core.Path.{_≡_, refl, sym, ap, _∙_}
 use native.Mathlib.Omega.{arith}
 use mathlib.Core.List.{List}
@@ -13,7 +13,7 @@ use Rattle.tables.specs.steps.Right.{counted, Named, Listed, Spanned}
 use Rattle.tables.proofs.TableLaws.{namings-added, span-namings, counted-one, listed-counted}
 use mathlib.Core.Bool.{true, false, not, _&&_, _||_}
 use lib.Dec.{eqb}
-use borrow.Author.Tests.{eq-eqb, eqb-true, eqb-false}
+use borrow.Author.Tests.{eq-eqb}
 use Rattle.sheet.specs.Layout.{count}
 use Rattle.sheet.specs.Fields.{programmes, contents, objects, valueSets, contentList}
 use Rattle.profile.specs.Counting.{any, howMany}
@@ -42,17 +42,6 @@ unfolding rule11
 spanned-once s t v right l e =
     let one : eqb (howMany (λ o. hasSet s o v) (count s objects)) 1 ≡ true = sym (counted-one (howMany (λ o. hasSet s o v) (count s objects))) ∙ eq-eqb (counted (howMany (λ o. hasSet s o v) (count s objects))) 1 (sym (right v l) ∙ e) in
     simp one
-
--- places that have 1, one after the other
-pub once-none : (t : List ℕ) (x : ℕ) → x < 0 → getD t x 0 ≡ 1
-once-none t x l = absurd (omega arith)
-
-pub once-more : (t : List ℕ) (i : ℕ) → ((x : ℕ) → x < i → getD t x 0 ≡ 1) → getD t i 0 ≡ 1 → (x : ℕ) → x < i + 1 → getD t x 0 ≡ 1
-once-more t i h e x l =
-    (elim (eqb x i) as (λ b. eqb x i ≡ b → getD t x 0 ≡ 1) [
-      | true ↦ λ q. ap (λ (y : ℕ). getD t y 0) (eqb-true x i q) ∙ e
-      | false ↦ λ q. h x (omega (arith, l, eqb-false x i q))
-    ]) refl
 
 -- an object that the table has once is named once
 pub named-once : (s : Sheet) (t : List ℕ) (o : ℕ) → Named s t → o < length t → getD t o 0 ≡ 1 → rule11 s objects o ≡ false

@@ -20,7 +20,7 @@ use sheet::layout::field;
 use sheet::layout::start;
 use sheet::words::word;
 use sheet::words::word_count;
-ghost use Prim.Native.Nat.{ℕ, _<_};
+ghost use Prim.Native.Nat.{_<_};
 ghost use lib.Dec.{eqb};
 ghost use lib.ListN.{getD, length};
 ghost use mathlib.Core.Bool.{false, true, _||_};
@@ -182,20 +182,4 @@ pub fn records_pass(
         return false;
     }
     tracks_keep(s)
-}
-
-// Whether the first n places of a table have 1.
-pub fn all_once(table: &[u16], n: u16) -> bool
-    ensures { λ r. ⌜ (r ≡ true → (x : ℕ) → x < n → (x < length (now (table .entry))) × (getD (now (table .entry)) x 0 ≡ 1)) ⌝ }
-{
-    if table.len() < n as usize {
-        return false;
-    }
-    let mut once = true;
-    let mut i: u16 = 0;
-    while i < n {
-        once = once & (table[i as usize] == 1);
-        i += 1;
-    }
-    once
 }

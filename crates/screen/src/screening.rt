@@ -1,5 +1,4 @@
 // The screening: a sheet that passes it is accepted. One that doesn't may be accepted too.
-use crate::records::all_once;
 use crate::records::header_breaks;
 use crate::records::records_pass;
 use crate::totals::totals_break;
@@ -21,6 +20,7 @@ use sheet::layout::number;
 use tables::passes::count_contents;
 use tables::passes::count_lists;
 use tables::passes::count_tops;
+use tables::reads::all_once;
 ghost use Prim.Native.Nat.{_≤_};
 ghost use mathlib.Core.Bool.{true};
 ghost use mathlib.Core.Path.{_≡_};

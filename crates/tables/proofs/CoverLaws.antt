@@ -9,17 +9,18 @@ use native.Mathlib.Nat.{add-zero, eq-or-lt-of-le}
 use native.Mathlib.Numerals.{add-one}
 use borrow.Author.Tests.{eq-eqb, ne-eqb, lt-ltb, le-ltb, ltb-true, ltb-false, leb-true, leb-false}
 use lib.Dec.{eqb, leb, ltb}
-use lib.ListN.{length, getD}
+use lib.ListN.{getD}
 use Rattle.sheet.specs.Words.{Sheet}
 use Rattle.sheet.specs.Layout.{entry}
 use Rattle.profile.specs.Counting.{howMany, sum}
 use Rattle.profile.proofs.SumLaws.{sum-eq, sum-zero, sum-swap, sum-at, howMany-sum, howMany-eq}
 use Rattle.tables.specs.declared.Naming.{Naming}
 use Rattle.tables.specs.declared.Naming.the-variants.{ContentObjects, Children, Complements, ContentLists, Included, SetLists, SetSpans}
+use Rattle.tables.specs.declared.Mark.{Mark}
 use Rattle.tables.specs.declared.Mark.the-variants.{Count}
 use Rattle.tables.specs.steps.Namings.{namers, items, item}
-use Rattle.tables.specs.steps.Marks.{Standing, marked, repeat, timesBy, namedBy}
-use Rattle.tables.specs.steps.Coverage.{begin, namedAt, behind, Reaching, cover}
+use Rattle.tables.specs.steps.Marks.{Filled, MarkedTimes, marked, repeat, timesBy, namedBy}
+use Rattle.tables.specs.steps.Coverage.{runBegin, namedAt, runEnd, Reaching, cover}
 use Rattle.tables.proofs.MarkLaws.{repeat-add}
 use Rattle.tables.proofs.TableLaws.{run-times}
 
@@ -66,8 +67,8 @@ howMany-split p q r zero h = refl
 howMany-split p q r (suc n) h = omega (arith, howMany-split p q r n h, h n)
 
 -- those before y, and those at y
-pub below-more : (a : ℕ → ℕ) (y n : ℕ) → howMany (λ q. ltb (a q) y) n + howMany (λ q. eqb (a q) y) n ≡ howMany (λ q. ltb (a q) (y + 1)) n
-below-more a y n = howMany-split (λ q. ltb (a q) y) (λ q. eqb (a q) y) (λ q. ltb (a q) (y + 1)) n (λ q. one (a q))
+pub below-more : (a : ℕ → ℕ) (y n k b : ℕ) → k ≡ howMany (λ q. ltb (a q) y) n → b ≡ howMany (λ q. eqb (a q) y) n → k + b ≡ howMany (λ q. ltb (a q) (y + 1)) n
+below-more a y n k b ek eb = ap₂ (λ (u v : ℕ). u + v) ek eb ∙ howMany-split (λ q. ltb (a q) y) (λ q. eqb (a q) y) (λ q. ltb (a q) (y + 1)) n (λ q. one (a q))
   where
     one : (x : ℕ) → cond (ltb x y) 1 0 + cond (eqb x y) 1 0 ≡ cond (ltb x (y + 1)) 1 0
     one x =
@@ -112,31 +113,35 @@ count-twice zero c =
 count-twice (suc n) c = rw (count-twice n c)
 
 -- one index more
-pub indices-more : (f : ℕ → ℕ) (t₀ t t′ : List ℕ) → length t′ ≡ length t → (g c : ℕ → ℕ) (y w k : ℕ) → w ≡ g y → k ≡ c y
-    → Standing (λ x. repeat f (sum (λ j. cond (eqb (g j) x) (c j) 0) y) (getD t₀ x 0)) t
-    → Standing (λ z. cond (eqb w z) (repeat f k (getD t z 0)) (getD t z 0)) t′
-    → Standing (λ x. repeat f (sum (λ j. cond (eqb (g j) x) (c j) 0) (y + 1)) (getD t₀ x 0)) t′
+pub indices-more : (mark : Mark) (t₀ t t′ : List ℕ) (g c : ℕ → ℕ) (y w k : ℕ) → w ≡ g y → k ≡ c y → MarkedTimes mark (λ x. sum (λ j. cond (eqb (g j) x) (c j) 0) y) t₀ t
+    → Filled (λ z. cond (eqb w z) (repeat (marked mark) k (getD t z 0)) (getD t z 0)) t t′ → MarkedTimes mark (λ x. sum (λ j. cond (eqb (g j) x) (c j) 0) (y + 1)) t₀ t′
 unfolding sum repeat
-indices-more f t₀ t t′ long g c y w k ew ek before now x l =
-    now x l
-    ∙ ap₂ (λ (v n : ℕ). cond (eqb v x) (repeat f n (getD t x 0)) (getD t x 0)) ew ek
-    ∙ ap (λ (d : ℕ). cond (eqb (g y) x) (repeat f (c y) d) d) (before x (rw long at l))
-    ∙ step (eqb (g y) x) (sum (λ j. cond (eqb (g j) x) (c j) 0) y) (getD t₀ x 0)
-    ∙ ap (λ (n : ℕ). repeat f (sum (λ j. cond (eqb (g j) x) (c j) 0) n) (getD t₀ x 0)) (sym (add-one y))
+indices-more mark t₀ t t′ g c y w k ew ek before now = (
+  now .0 ∙ before .0,
+  λ x l.
+      now .1 x l
+      ∙ ap₂ (λ (v n : ℕ). cond (eqb v x) (repeat (marked mark) n (getD t x 0)) (getD t x 0)) ew ek
+      ∙ ap (λ (d : ℕ). cond (eqb (g y) x) (repeat (marked mark) (c y) d) d) (before .1 x (rw (now .0) at l))
+      ∙ step (eqb (g y) x) (sum (λ j. cond (eqb (g j) x) (c j) 0) y) (getD t₀ x 0)
+      ∙ ap (λ (n : ℕ). repeat (marked mark) (sum (λ j. cond (eqb (g j) x) (c j) 0) n) (getD t₀ x 0)) (sym (add-one y)),
+)
   where
-    step : (b : Bool) (n d : ℕ) → cond b (repeat f (c y) (repeat f n d)) (repeat f n d) ≡ repeat f (n + cond b (c y) 0) d
-    step true n d = sym (repeat-add f n (c y) d)
-    step false n d = ap (λ (k : ℕ). repeat f k d) (sym (add-zero n))
+    step : (b : Bool) (n d : ℕ) → cond b (repeat (marked mark) (c y) (repeat (marked mark) n d)) (repeat (marked mark) n d) ≡ repeat (marked mark) (n + cond b (c y) 0) d
+    step true n d = sym (repeat-add (marked mark) n (c y) d)
+    step false n d = ap (λ (k : ℕ). repeat (marked mark) k d) (sym (add-zero n))
 
 -- one edge more
-pub edges-more : (e : ℕ → ℕ) (t t′ : List ℕ) → length t′ ≡ length t → (q w : ℕ) → w ≡ e q → Standing (λ y. howMany (λ j. eqb (e j) y) q) t
-    → Standing (λ z. cond (eqb w z) (getD t z 0 + 1) (getD t z 0)) t′ → Standing (λ y. howMany (λ j. eqb (e j) y) (q + 1)) t′
+pub edges-more : (e : ℕ → ℕ) (t₀ t t′ : List ℕ) (q w : ℕ) → w ≡ e q → Filled (λ y. howMany (λ j. eqb (e j) y) q) t₀ t
+    → Filled (λ z. cond (eqb w z) (getD t z 0 + 1) (getD t z 0)) t t′ → Filled (λ y. howMany (λ j. eqb (e j) y) (q + 1)) t₀ t′
 unfolding howMany
-edges-more e t t′ long q w ew before now x l =
-    now x l
-    ∙ ap₂ (λ (n v : ℕ). cond (eqb v x) (n + 1) n) (before x (rw long at l)) ew
-    ∙ step (eqb (e q) x) (howMany (λ j. eqb (e j) x) q)
-    ∙ ap (howMany (λ j. eqb (e j) x)) (sym (add-one q))
+edges-more e t₀ t t′ q w ew before now = (
+  now .0 ∙ before .0,
+  λ x l.
+      now .1 x l
+      ∙ ap₂ (λ (n v : ℕ). cond (eqb v x) (n + 1) n) (before .1 x (rw (now .0) at l)) ew
+      ∙ step (eqb (e q) x) (howMany (λ j. eqb (e j) x) q)
+      ∙ ap (howMany (λ j. eqb (e j) x)) (sym (add-one q)),
+)
   where
     step : (b : Bool) (n : ℕ) → cond b (n + 1) n ≡ n + cond b 1 0
     step true n = refl
@@ -144,7 +149,7 @@ edges-more e t t′ long q w ew before now x l =
 
 module _ (s : Sheet) where
   -- what a record names is what the indices of its run name
-  item-index : (kind : Naming) (q i : ℕ) → i < items s kind q → namedAt s kind (begin s kind q + i) ≡ item s kind q i
+  item-index : (kind : Naming) (q i : ℕ) → i < items s kind q → namedAt s kind (runBegin s kind q + i) ≡ item s kind q i
   item-index ContentObjects q i l = let e : i ≡ 0 = omega arith in rw (e, add-zero)
   item-index Children q i l = unfold entry in refl
   item-index Complements q i l = unfold entry in refl
@@ -156,27 +161,15 @@ module _ (s : Sheet) where
   -- how often a record is named, by the cover
   pub named-cover : (kind : Naming) (m : ℕ) → Reaching s kind m
       → (x : ℕ) → sum (λ y. cond (eqb (namedAt s kind y) x) (cover s kind y) 0) m ≡ namedBy s kind x
-  unfolding cover behind namedBy timesBy
+  unfolding cover runEnd namedBy timesBy
   named-cover kind m h x =
-      cover-sum (λ y. eqb (namedAt s kind y) x) (begin s kind) (items s kind) m (namers s kind) h
-      ∙ sum-eq (λ q. howMany (λ i. eqb (namedAt s kind (begin s kind q + i)) x) (items s kind q)) (λ q. howMany (λ i. eqb (item s kind q i) x) (items s kind q)) (namers s kind)
-      (λ q l. howMany-eq (λ i. eqb (namedAt s kind (begin s kind q + i)) x) (λ i. eqb (item s kind q i) x) (items s kind q)
+      cover-sum (λ y. eqb (namedAt s kind y) x) (runBegin s kind) (items s kind) m (namers s kind) h
+      ∙ sum-eq (λ q. howMany (λ i. eqb (namedAt s kind (runBegin s kind q + i)) x) (items s kind q)) (λ q. howMany (λ i. eqb (item s kind q i) x) (items s kind q)) (namers s kind)
+      (λ q l. howMany-eq (λ i. eqb (namedAt s kind (runBegin s kind q + i)) x) (λ i. eqb (item s kind q i) x) (items s kind q)
       (λ i h. ap (λ (z : ℕ). eqb z x) (item-index kind q i h)))
 
--- those that began and ended before an index are known; those that begin and end there come in
-module _ (s : Sheet) (kind : Naming) (y begun ended b e : ℕ) (hb : begun ≡ howMany (λ q. ltb (begin s kind q) y) (namers s kind))
-    (he : ended ≡ howMany (λ q. ltb (behind s kind q) y) (namers s kind)) (mb : b ≡ howMany (λ q. eqb (begin s kind q) y) (namers s kind))
-    (me : e ≡ howMany (λ q. eqb (behind s kind q) y) (namers s kind)) where
-  pub begun-more : begun + b ≡ howMany (λ q. ltb (begin s kind q) (y + 1)) (namers s kind)
-  begun-more = ap₂ (λ (m n : ℕ). m + n) hb mb ∙ below-more (begin s kind) y (namers s kind)
-
-  pub ended-more : ended + e ≡ howMany (λ q. ltb (behind s kind q) (y + 1)) (namers s kind)
-  ended-more = ap₂ (λ (m n : ℕ). m + n) he me ∙ below-more (behind s kind) y (namers s kind)
-
-  -- those that have it are the others
-  pub covered : cover s kind y + (ended + e) ≡ begun + b
+  -- the runs that have an index, and those that ended by then, are those that began by then
+  pub covered : (kind : Naming) (y : ℕ)
+      → cover s kind y + howMany (λ q. ltb (runEnd s kind q) (y + 1)) (namers s kind) ≡ howMany (λ q. ltb (runBegin s kind q) (y + 1)) (namers s kind)
   unfolding cover
-  covered =
-      ap (λ (n : ℕ). cover s kind y + n) ended-more
-      ∙ cover-edges (begin s kind) (behind s kind) y (namers s kind) (λ q. unfold behind in omega arith)
-      ∙ sym begun-more
+  covered kind y = cover-edges (runBegin s kind) (runEnd s kind) y (namers s kind) (λ q. unfold runEnd in omega arith)

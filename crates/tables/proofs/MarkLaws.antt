@@ -1,22 +1,23 @@
 -- What a pass over namings keeps of a table. Assumes nothing.
 use Prim.Native.Nat.{ℕ, zero, suc, _+_, _<_, _≤_}
 use mathlib.Core.Path.{_≡_, refl, sym, ap, _∙_}
-use mathlib.Core.Bool.{Bool, true, false, cond, not, _||_}
+use mathlib.Core.Bool.{Bool, true, false, cond, not}
 use mathlib.Core.List.{List}
 use native.Mathlib.Omega.{arith}
 use native.Mathlib.Nat.{add-zero}
 use native.Mathlib.Numerals.{add-one}
-use borrow.Author.Tests.{eqb-true, eq-eqb, ne-eqb, eqb-false}
-use lib.Dec.{eqb, ltb}
+use borrow.Author.Tests.{eqb-true, ne-eqb, eqb-false}
+use lib.Dec.{eqb}
 use lib.ListN.{length, getD, set, replicate, length-set}
 use lib.Seq.{getD-set-same, getD-set-other}
 use Rattle.sheet.specs.Words.{Sheet}
-use Rattle.profile.specs.Counting.{any, howMany, sum}
+use Rattle.profile.specs.Counting.{howMany, sum}
 use Rattle.profile.proofs.CountingLaws.{any-howMany}
 use Rattle.tables.specs.declared.Naming.{Naming}
-use Rattle.tables.specs.declared.Mark.the-variants.{Count, Store, First}
+use Rattle.tables.specs.declared.Mark.{Mark}
+use Rattle.tables.specs.declared.Mark.the-variants.{Store, First}
 use Rattle.tables.specs.steps.Namings.{items, item}
-use Rattle.tables.specs.steps.Marks.{Standing, marked, repeat, timesBy, namesBy, firstFrom}
+use Rattle.tables.specs.steps.Marks.{Standing, MarkedTimes, marked, repeat, timesBy, namedBefore, namesBy, firstFrom}
 
 -- so many times, and so many again
 pub repeat-add : (f : ℕ → ℕ) (a b c : ℕ) → repeat f (a + b) c ≡ repeat f b (repeat f a c)
@@ -79,15 +80,18 @@ module _ (f : ℕ → ℕ) (t₀ t t′ : List ℕ) (long : length t′ ≡ leng
       ∙ ap (λ (w : ℕ). cond (eqb w x) (f (repeat f (howMany (λ j. eqb (g j) x) i) (getD t₀ x 0))) (repeat f (howMany (λ j. eqb (g j) x) i) (getD t₀ x 0))) e
       ∙ repeat-more f (λ j. eqb (g j) x) i (getD t₀ x 0)
 
-  -- one record more
-  pub namers-more : (times : ℕ → ℕ → ℕ) (q : ℕ) → Standing (λ x. repeat f (sum (λ j. times j x) q) (getD t₀ x 0)) t
-      → Standing (λ x. repeat f (times q x) (getD t x 0)) t′ → Standing (λ x. repeat f (sum (λ j. times j x) (q + 1)) (getD t₀ x 0)) t′
-  unfolding sum
-  namers-more times q before now x l =
-      now x l
-      ∙ ap (repeat f (times q x)) (before x (rw long at l))
-      ∙ sym (repeat-add f (sum (λ j. times j x) q) (times q x) (getD t₀ x 0))
-      ∙ ap (λ (n : ℕ). repeat f (sum (λ j. times j x) n) (getD t₀ x 0)) (sym (add-one q))
+-- one record more
+pub namers-more : (mark : Mark) (s : Sheet) (kind : Naming) (t₀ t t′ : List ℕ) (q : ℕ) → MarkedTimes mark (namedBefore s kind q) t₀ t → MarkedTimes mark (timesBy s kind q) t t′
+    → MarkedTimes mark (namedBefore s kind (q + 1)) t₀ t′
+unfolding sum
+namers-more mark s kind t₀ t t′ q before now = (
+  now .0 ∙ before .0,
+  λ x l.
+      now .1 x l
+      ∙ ap (repeat (marked mark) (timesBy s kind q x)) (before .1 x (rw (now .0) at l))
+      ∙ sym (repeat-add (marked mark) (namedBefore s kind q x) (timesBy s kind q x) (getD t₀ x 0))
+      ∙ ap (λ (n : ℕ). repeat (marked mark) (namedBefore s kind n x) (getD t₀ x 0)) (sym (add-one q)),
+)
 
 -- the records from q on, and the one before them
 pub first-more : (s : Sheet) (kind : Naming) (t₀ t t′ : List ℕ) (q n : ℕ) → length t′ ≡ length t

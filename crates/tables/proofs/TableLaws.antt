@@ -5,22 +5,20 @@ use mathlib.Core.Logic.{⊎-elim}
 use mathlib.Core.Bool.{Bool, true, false, cond, not, _&&_, _||_}
 use native.Mathlib.Omega.{arith}
 use native.Mathlib.Nat.{zero-add, add-zero, eq-or-lt-of-le}
-use borrow.Author.Tests.{eq-eqb, ne-eqb, lt-ltb, le-ltb, le-leb, lt-leb, ltb-true, ltb-false, leb-true, eqb-true, eqb-false}
+use borrow.Author.Tests.{eq-eqb, ne-eqb, lt-ltb, le-ltb, le-leb, ltb-true, ltb-false, leb-true, eqb-true, eqb-false}
 use mathlib.Core.List.{List}
 use lib.Dec.{eqb, leb, ltb}
 use lib.ListN.{length, getD}
 use Rattle.sheet.specs.Words.{Sheet}
 use Rattle.sheet.specs.Layout.{count, field, first, number, entry}
-use Rattle.sheet.specs.Fields.{programmes, contents, objects, contentList, setList, contentObject, childList, complementList, setSpan}
+use Rattle.sheet.specs.Fields.{programmes, contents, objects, contentList, setList, contentObject, complementList, setSpan}
 use Rattle.profile.specs.Counting.{any, howMany, sum, lowest, lowestFrom}
 use Rattle.profile.specs.Relations.{lists, times, top, complement, leaderOf, includes, hasSet, owner, namedSet, namesSet, namings}
 use Rattle.profile.proofs.CountingLaws.{any-howMany, any-none, found, nothing, lowest-le}
 use Rattle.profile.proofs.SumLaws.{sum-eq, sum-swap, howMany-sum, any-nowhere}
-use Rattle.tables.specs.declared.Naming.{Naming}
 use Rattle.tables.specs.declared.Naming.the-variants.{ContentObjects, Children, Complements, ContentLists, Included, SetLists, SetSpans}
 use Rattle.tables.specs.declared.Mark.the-variants.{Count, Store}
-use Rattle.tables.specs.steps.Namings.{namers, items, item}
-use Rattle.tables.specs.steps.Marks.{Standing, marked, repeat, timesBy, namedBy, namesBy, firstFrom, firstBy}
+use Rattle.tables.specs.steps.Marks.{marked, repeat, timesBy, namedBy, namesBy, firstFrom, firstBy}
 use Rattle.tables.specs.steps.Right.{counted, told, NamedSets}
 use Rattle.tables.proofs.MarkLaws.{repeat-add, repeat-store}
 
@@ -60,6 +58,12 @@ any-sum p m (suc n) =
     both : (a b : ℕ) → (not (eqb a 0) || not (eqb b 0)) ≡ not (eqb (a + b) 0)
     both zero b = ap (λ (n : ℕ). not (eqb n 0)) (sym (zero-add b))
     both (suc a) b = rw (ne-eqb (suc a) 0 (λ q. let z : suc a ≡ 0 = q in omega arith), ne-eqb (suc a + b) 0 (λ q. let z : suc a + b ≡ 0 = q in omega arith)) refl
+
+-- a sum grows
+pub sum-below : (f : ℕ → ℕ) (m n : ℕ) → m ≤ n → sum f m ≤ sum f n
+unfolding sum
+sum-below f m zero l = let e : m ≡ 0 = omega arith in rw e (omega arith)
+sum-below f m (suc n) l = ⊎-elim (λ q. rw q (omega arith)) (λ k. omega (arith, sum-below f m n (omega arith))) (eq-or-lt-of-le l)
 
 -- a run names each of its numbers once
 pub run-times : (f v n : ℕ) → howMany (λ i. eqb (f + i) v) n ≡ cond (leb f v && ltb v (f + n)) 1 0

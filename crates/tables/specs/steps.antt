@@ -2,5 +2,6 @@
 -- not read these. Assumes nothing.
 pub mod Namings
 pub mod Marks
+pub mod Passes
 pub mod Right
 pub mod Coverage

@@ -2,6 +2,7 @@
 // many records share one long list. Each list or span is a run of indices.
 use crate::Mark;
 use crate::Naming;
+use crate::entry_counts::fewer_namings;
 use crate::marks::after;
 use crate::marks::count_namings;
 use crate::namings::items;
@@ -20,18 +21,17 @@ use sheet::layout::reference;
 ghost use Prim.Native.Nat.{_+_, _<_, _≤_};
 ghost use lib.Dec.{eqb};
 ghost use lib.ListN.{getD, length};
-ghost use mathlib.Core.Bool.{cond};
+ghost use mathlib.Core.Bool.{cond, false, true};
 ghost use mathlib.Core.Path.{_≡_};
-ghost use Rattle.profile.specs.Counting.{howMany, sum};
+ghost use Rattle.profile.specs.Counting.{sum};
 ghost use Rattle.sheet.specs.Words.{sheetOf};
-ghost use Rattle.tables.specs.steps.Coverage.{Reaching, begin, behind, cover, edge, namedAt};
-ghost use Rattle.tables.specs.steps.Marks.{Standing, marked, namedBy, repeat};
-ghost use Rattle.tables.specs.steps.Namings.{namers};
+ghost use Rattle.tables.specs.steps.Coverage.{Reaching, Tallied, cover, edge, namedAt, runBegin, runEnd};
+ghost use Rattle.tables.specs.steps.Marks.{Filled, MarkedTimes, NamingsCounted, Standing, marked, repeat};
 ghost use Rattle.tables.specs.declared.Mark.the-variants.{Count};
 
 // The index at which a record's run begins.
-fn begin(s: &[u8], kind: Naming, q: u16) -> u16
-    ensures { λ r. ⌜ r ≡ begin (sheetOf (now (s .entry))) kind q ⌝ }
+fn run_begin(s: &[u8], kind: Naming, q: u16) -> u16
+    ensures { λ r. ⌜ r ≡ runBegin (sheetOf (now (s .entry))) kind q ⌝ }
 {
     match kind {
         Naming::ContentObjects => field(s, CONTENTS, q, CONTENT_OBJECT),
@@ -44,11 +44,11 @@ fn begin(s: &[u8], kind: Naming, q: u16) -> u16
     }
 }
 
-// The index behind it.
-fn behind(s: &[u8], kind: Naming, q: u16) -> u32
-    ensures { λ r. ⌜ r ≡ behind (sheetOf (now (s .entry))) kind q ⌝ }
+// The index after its last.
+fn run_end(s: &[u8], kind: Naming, q: u16) -> u32
+    ensures { λ r. ⌜ r ≡ runEnd (sheetOf (now (s .entry))) kind q ⌝ }
 {
-    begin(s, kind, q) as u32 + items(s, kind, q) as u32
+    run_begin(s, kind, q) as u32 + items(s, kind, q) as u32
 }
 
 // The record that an index names: itself, or the entry of section 6.
@@ -66,20 +66,8 @@ fn named_at(s: &[u8], kind: Naming, y: u16) -> u16
     }
 }
 
-// Whether the runs have so many indices together that the cover is worth its tables. What is counted is the same either way.
-fn crowded(s: &[u8], kind: Naming) -> bool {
-    let n = namers(s, kind);
-    let mut total: u32 = 0;
-    let mut q: u16 = 0;
-    while q < n {
-        total += items(s, kind, q) as u32;
-        if 8192 < total {
-            return true;
-        }
-        q += 1;
-    }
-    false
-}
+// The cover is worth its tables where the runs have more indices together. What is counted is the same either way.
+const FEW_INDICES: u32 = 8192;
 
 // The larger one.
 fn larger(a: u32, b: u32) -> u32
@@ -88,7 +76,7 @@ fn larger(a: u32, b: u32) -> u32
     if a < b { b } else { a }
 }
 
-// The index behind all runs.
+// The index after the last of all runs.
 fn reach(s: &[u8], kind: Naming) -> u32
     ensures { λ r. ⌜ Reaching (sheetOf (now (s .entry))) kind r ⌝ }
 {
@@ -96,27 +84,27 @@ fn reach(s: &[u8], kind: Naming) -> u32
     let mut most: u32 = 0;
     let mut q: u16 = 0;
     while q < n {
-        most = larger(most, behind(s, kind, q));
+        most = larger(most, run_end(s, kind, q));
         q += 1;
     }
     most
 }
 
-// One edge of a record's run: where it begins, or the index behind it.
+// One edge of a record's run: where it begins, or the index after its last.
 fn edge(s: &[u8], kind: Naming, last: bool, q: u16) -> u32
     ensures { λ r. ⌜ r ≡ edge (sheetOf (now (s .entry))) kind last q ⌝ }
 {
     if last {
-        behind(s, kind, q)
+        run_end(s, kind, q)
     } else {
-        begin(s, kind, q) as u32
+        run_begin(s, kind, q) as u32
     }
 }
 
 // Adds 1 at an index, where there is such a one.
 fn add_at(table: &mut [u16], x: u32)
     requires { ⌜ (x < length (now table) → getD (now table) x 0 < 65535) ⌝ }
-    ensures { λ r. ⌜ (length (now (table .exit)) ≡ length (now (table .entry))) × Standing (λ z. cond (eqb x z) (getD (now (table .entry)) z 0 + 1) (getD (now (table .entry)) z 0)) (now (table .exit)) ⌝ }
+    ensures { λ r. ⌜ Filled (λ z. cond (eqb x z) (getD (now (table .entry)) z 0 + 1) (getD (now (table .entry)) z 0)) (now (table .entry)) (now (table .exit)) ⌝ }
 {
     let i = x as usize;
     if i < table.len() {
@@ -127,7 +115,7 @@ fn add_at(table: &mut [u16], x: u32)
 // Counts for each index how many runs begin there, or end before it, in a table of noughts.
 fn tally(s: &[u8], kind: Naming, last: bool, table: &mut [u16])
     requires { ⌜ Standing (λ x. 0) (now table) ⌝ }
-    ensures { λ r. ⌜ (length (now (table .exit)) ≡ length (now (table .entry))) × Standing (λ y. howMany (λ q. eqb (edge (sheetOf (now (s .entry))) kind last q) y) (namers (sheetOf (now (s .entry))) kind)) (now (table .exit)) ⌝ }
+    ensures { λ r. ⌜ (length (now (table .exit)) ≡ length (now (table .entry))) × Tallied (sheetOf (now (s .entry))) kind last (now (table .exit)) ⌝ }
 {
     let n = namers(s, kind);
     let mut q: u16 = 0;
@@ -152,7 +140,7 @@ fn counted_on(c: u16, times: u32) -> u16
 
 // Counts a record so many times.
 fn count_times(table: &mut [u16], x: u16, times: u32)
-    ensures { λ r. ⌜ (length (now (table .exit)) ≡ length (now (table .entry))) × Standing (λ z. cond (eqb x z) (repeat (marked Count) times (getD (now (table .entry)) z 0)) (getD (now (table .entry)) z 0)) (now (table .exit)) ⌝ }
+    ensures { λ r. ⌜ Filled (λ z. cond (eqb x z) (repeat (marked Count) times (getD (now (table .entry)) z 0)) (getD (now (table .entry)) z 0)) (now (table .entry)) (now (table .exit)) ⌝ }
 {
     let i = x as usize;
     if i < table.len() {
@@ -162,8 +150,8 @@ fn count_times(table: &mut [u16], x: u16, times: u32)
 
 // Counts what the indices below m name, each as often as runs cover it: those that began and have not ended.
 fn count_indices(s: &[u8], kind: Naming, m: u16, begins: &[u16], ends: &[u16], table: &mut [u16])
-    requires { ⌜ (m ≤ length (now begins)) × (m ≤ length (now ends)) × Standing (λ y. howMany (λ q. eqb (begin (sheetOf (now s)) kind q) y) (namers (sheetOf (now s)) kind)) (now begins) × Standing (λ y. howMany (λ q. eqb (behind (sheetOf (now s)) kind q) y) (namers (sheetOf (now s)) kind)) (now ends) ⌝ }
-    ensures { λ r. ⌜ (length (now (table .exit)) ≡ length (now (table .entry))) × Standing (λ x. repeat (marked Count) (sum (λ y. cond (eqb (namedAt (sheetOf (now (s .entry))) kind y) x) (cover (sheetOf (now (s .entry))) kind y) 0) m) (getD (now (table .entry)) x 0)) (now (table .exit)) ⌝ }
+    requires { ⌜ (m ≤ length (now begins)) × (m ≤ length (now ends)) × Tallied (sheetOf (now s)) kind false (now begins) × Tallied (sheetOf (now s)) kind true (now ends) ⌝ }
+    ensures { λ r. ⌜ MarkedTimes Count (λ x. sum (λ y. cond (eqb (namedAt (sheetOf (now (s .entry))) kind y) x) (cover (sheetOf (now (s .entry))) kind y) 0) m) (now (table .entry)) (now (table .exit)) ⌝ }
 {
     let mut begun: u32 = 0;
     let mut ended: u32 = 0;
@@ -179,7 +167,7 @@ fn count_indices(s: &[u8], kind: Naming, m: u16, begins: &[u16], ends: &[u16], t
 // Counts by the cover of the indices below m.
 fn count_cover(s: &[u8], kind: Naming, m: u16, table: &mut [u16])
     requires { ⌜ (m ≤ 32768) × Reaching (sheetOf (now s)) kind m ⌝ }
-    ensures { λ r. ⌜ (length (now (table .exit)) ≡ length (now (table .entry))) × Standing (λ x. repeat (marked Count) (namedBy (sheetOf (now (s .entry))) kind x) (getD (now (table .entry)) x 0)) (now (table .exit)) ⌝ }
+    ensures { λ r. ⌜ NamingsCounted (sheetOf (now (s .entry))) kind (now (table .entry)) (now (table .exit)) ⌝ }
 {
     let mut begins: [u16; 32768] = [0; 32768];
     tally(s, kind, false, &mut begins);
@@ -190,9 +178,9 @@ fn count_cover(s: &[u8], kind: Naming, m: u16, table: &mut [u16])
 
 // Counts how often each record is named. No list of a sheet that keeps rule 4 reaches further than the tables.
 pub fn count_covered(s: &[u8], kind: Naming, table: &mut [u16])
-    ensures { λ r. ⌜ (length (now (table .exit)) ≡ length (now (table .entry))) × Standing (λ x. repeat (marked Count) (namedBy (sheetOf (now (s .entry))) kind x) (getD (now (table .entry)) x 0)) (now (table .exit)) ⌝ }
+    ensures { λ r. ⌜ NamingsCounted (sheetOf (now (s .entry))) kind (now (table .entry)) (now (table .exit)) ⌝ }
 {
-    if crowded(s, kind) {
+    if fewer_namings(s, kind, FEW_INDICES + 1) == 0 {
         let m = reach(s, kind);
         if m <= 32768 {
             count_cover(s, kind, m as u16, table);

@@ -1,8 +1,6 @@
 // Passes that mark a table. A record past the table's end is passed over.
 use crate::Mark;
 use crate::Naming;
-use crate::namings::item;
-use crate::namings::items;
 use crate::namings::namers;
 use sheet::fields::CHILD_LIST;
 use sheet::fields::COMPLEMENT_LIST;
@@ -14,6 +12,7 @@ use sheet::fields::PROGRAMMES;
 use sheet::fields::REFERENCES;
 use sheet::fields::SET_LIST;
 use sheet::fields::SET_SPAN;
+use sheet::layout::entry;
 use sheet::layout::field;
 use sheet::layout::number;
 use sheet::layout::offset;
@@ -26,10 +25,10 @@ ghost use mathlib.Core.Path.{_≡_};
 ghost use Rattle.profile.specs.Counting.{howMany};
 ghost use Rattle.profile.specs.Relations.{times};
 ghost use Rattle.sheet.specs.Words.{sheetOf, word};
-ghost use Rattle.tables.specs.steps.Marks.{Standing, firstBy, marked, namedBy, repeat, timesBy};
+ghost use Rattle.tables.specs.steps.Marks.{Filled, MarkedTimes, NamingsCounted, Standing, firstBy, marked, timesBy};
+ghost use Rattle.tables.specs.steps.Namings.{item};
 ghost use Rattle.tables.specs.steps.Right.{Included, NamedSets};
-ghost use Rattle.tables.specs.declared.Mark.the-variants.{Count};
-ghost use Rattle.tables.specs.declared.Naming.the-variants.{Included as IncludedObjects};
+ghost use Rattle.tables.specs.declared.Naming.the-variants.{ContentObjects, Included as IncludedObjects};
 
 // What a place has after a mark.
 pub fn after(mark: Mark, c: u16) -> u16
@@ -44,7 +43,7 @@ pub fn after(mark: Mark, c: u16) -> u16
 
 // Marks one place.
 pub fn mark_at(table: &mut [u16], x: u32, mark: Mark)
-    ensures { λ r. ⌜ (length (now (table .exit)) ≡ length (now (table .entry))) × Standing (λ z. cond (eqb x z) (marked mark (getD (now (table .entry)) z 0)) (getD (now (table .entry)) z 0)) (now (table .exit)) ⌝ }
+    ensures { λ r. ⌜ Filled (λ z. cond (eqb x z) (marked mark (getD (now (table .entry)) z 0)) (getD (now (table .entry)) z 0)) (now (table .entry)) (now (table .exit)) ⌝ }
 {
     let i = x as usize;
     if i < table.len() {
@@ -54,7 +53,7 @@ pub fn mark_at(table: &mut [u16], x: u32, mark: Mark)
 
 // Marks n places from one on.
 fn mark_span(from: u16, n: u16, mark: Mark, table: &mut [u16])
-    ensures { λ r. ⌜ (length (now (table .exit)) ≡ length (now (table .entry))) × Standing (λ x. repeat (marked mark) (howMany (λ j. eqb (from + j) x) n) (getD (now (table .entry)) x 0)) (now (table .exit)) ⌝ }
+    ensures { λ r. ⌜ MarkedTimes mark (λ x. howMany (λ j. eqb (from + j) x) n) (now (table .entry)) (now (table .exit)) ⌝ }
 {
     let mut i: u16 = 0;
     while i < n {
@@ -65,7 +64,7 @@ fn mark_span(from: u16, n: u16, mark: Mark, table: &mut [u16])
 
 // Marks the entries of a list: n entries of section 6, whose offset is `base`, from `first` on.
 pub fn mark_list(s: &[u8], base: u16, first: u16, n: u16, mark: Mark, table: &mut [u16])
-    ensures { λ r. ⌜ (length (now (table .exit)) ≡ length (now (table .entry))) × Standing (λ x. repeat (marked mark) (howMany (λ j. eqb (word (sheetOf (now (s .entry))) (base + (first + j))) x) n) (getD (now (table .entry)) x 0)) (now (table .exit)) ⌝ }
+    ensures { λ r. ⌜ MarkedTimes mark (λ x. howMany (λ j. eqb (word (sheetOf (now (s .entry))) (base + (first + j))) x) n) (now (table .entry)) (now (table .exit)) ⌝ }
 {
     let mut i: u16 = 0;
     while i < n {
@@ -78,21 +77,40 @@ pub fn mark_list(s: &[u8], base: u16, first: u16, n: u16, mark: Mark, table: &mu
     }
 }
 
+// Marks the object that a content names.
+pub fn mark_object(s: &[u8], q: u16, mark: Mark, table: &mut [u16])
+    ensures { λ r. ⌜ MarkedTimes mark (timesBy (sheetOf (now (s .entry))) ContentObjects q) (now (table .entry)) (now (table .exit)) ⌝ }
+{
+    mark_at(table, field(s, CONTENTS, q, CONTENT_OBJECT) as u32, mark);
+}
+
+// The object of the content at a place of a programme's list.
+fn included_object(s: &[u8], q: u16, i: u16) -> u16
+    ensures { λ r. ⌜ r ≡ item (sheetOf (now (s .entry))) IncludedObjects q i ⌝ }
+{
+    field(
+        s,
+        CONTENTS,
+        entry(s, PROGRAMMES, q, CONTENT_LIST, i),
+        CONTENT_OBJECT,
+    )
+}
+
 // Marks the objects that a programme includes.
 fn mark_objects(s: &[u8], q: u16, mark: Mark, table: &mut [u16])
-    ensures { λ r. ⌜ (length (now (table .exit)) ≡ length (now (table .entry))) × Standing (λ x. repeat (marked mark) (timesBy (sheetOf (now (s .entry))) IncludedObjects q x) (getD (now (table .entry)) x 0)) (now (table .exit)) ⌝ }
+    ensures { λ r. ⌜ MarkedTimes mark (timesBy (sheetOf (now (s .entry))) IncludedObjects q) (now (table .entry)) (now (table .exit)) ⌝ }
 {
-    let n = items(s, Naming::Included, q);
+    let n = number(s, PROGRAMMES, q, CONTENT_LIST);
     let mut i: u16 = 0;
     while i < n {
-        mark_at(table, item(s, Naming::Included, q, i), mark);
+        mark_at(table, included_object(s, q, i) as u32, mark);
         i += 1;
     }
 }
 
 // Marks the entries of the list at a position of a record.
-fn mark_listed(s: &[u8], section: u8, q: u16, at: u8, mark: Mark, table: &mut [u16])
-    ensures { λ r. ⌜ (length (now (table .exit)) ≡ length (now (table .entry))) × Standing (λ x. repeat (marked mark) (times (sheetOf (now (s .entry))) section q at x) (getD (now (table .entry)) x 0)) (now (table .exit)) ⌝ }
+fn mark_entries(s: &[u8], section: u8, q: u16, at: u8, mark: Mark, table: &mut [u16])
+    ensures { λ r. ⌜ MarkedTimes mark (times (sheetOf (now (s .entry))) section q at) (now (table .entry)) (now (table .exit)) ⌝ }
 {
     mark_list(
         s,
@@ -106,19 +124,15 @@ fn mark_listed(s: &[u8], section: u8, q: u16, at: u8, mark: Mark, table: &mut [u
 
 // Marks all that a record names.
 pub fn mark_items(s: &[u8], kind: Naming, q: u16, mark: Mark, table: &mut [u16])
-    ensures { λ r. ⌜ (length (now (table .exit)) ≡ length (now (table .entry))) × Standing (λ x. repeat (marked mark) (timesBy (sheetOf (now (s .entry))) kind q x) (getD (now (table .entry)) x 0)) (now (table .exit)) ⌝ }
+    ensures { λ r. ⌜ MarkedTimes mark (timesBy (sheetOf (now (s .entry))) kind q) (now (table .entry)) (now (table .exit)) ⌝ }
 {
     match kind {
-        Naming::ContentObjects => mark_at(
-            table,
-            field(s, CONTENTS, q, CONTENT_OBJECT) as u32,
-            mark,
-        ),
-        Naming::Children => mark_listed(s, OBJECTS, q, CHILD_LIST, mark, table),
-        Naming::Complements => mark_listed(s, OBJECTS, q, COMPLEMENT_LIST, mark, table),
-        Naming::ContentLists => mark_listed(s, PROGRAMMES, q, CONTENT_LIST, mark, table),
+        Naming::ContentObjects => mark_object(s, q, mark, table),
+        Naming::Children => mark_entries(s, OBJECTS, q, CHILD_LIST, mark, table),
+        Naming::Complements => mark_entries(s, OBJECTS, q, COMPLEMENT_LIST, mark, table),
+        Naming::ContentLists => mark_entries(s, PROGRAMMES, q, CONTENT_LIST, mark, table),
         Naming::Included => mark_objects(s, q, mark, table),
-        Naming::SetLists => mark_listed(s, PROGRAMMES, q, SET_LIST, mark, table),
+        Naming::SetLists => mark_entries(s, PROGRAMMES, q, SET_LIST, mark, table),
         Naming::SetSpans => mark_span(
             field(s, OBJECTS, q, SET_SPAN),
             number(s, OBJECTS, q, SET_SPAN),
@@ -130,7 +144,7 @@ pub fn mark_items(s: &[u8], kind: Naming, q: u16, mark: Mark, table: &mut [u16])
 
 // Counts how often each record is named.
 pub fn count_namings(s: &[u8], kind: Naming, table: &mut [u16])
-    ensures { λ r. ⌜ (length (now (table .exit)) ≡ length (now (table .entry))) × Standing (λ x. repeat (marked Count) (namedBy (sheetOf (now (s .entry))) kind x) (getD (now (table .entry)) x 0)) (now (table .exit)) ⌝ }
+    ensures { λ r. ⌜ NamingsCounted (sheetOf (now (s .entry))) kind (now (table .entry)) (now (table .exit)) ⌝ }
 {
     let n = namers(s, kind);
     let mut q: u16 = 0;
@@ -142,7 +156,7 @@ pub fn count_namings(s: &[u8], kind: Naming, table: &mut [u16])
 
 // Writes for each record one more than the number of the first that names it; where none does, what stood there stays.
 pub fn first_namers(s: &[u8], kind: Naming, table: &mut [u16])
-    ensures { λ r. ⌜ (length (now (table .exit)) ≡ length (now (table .entry))) × Standing (λ x. firstBy (sheetOf (now (s .entry))) kind x (getD (now (table .entry)) x 0)) (now (table .exit)) ⌝ }
+    ensures { λ r. ⌜ Filled (λ x. firstBy (sheetOf (now (s .entry))) kind x (getD (now (table .entry)) x 0)) (now (table .entry)) (now (table .exit)) ⌝ }
 {
     let mut q: u16 = namers(s, kind);
     while 0 < q {
@@ -153,7 +167,7 @@ pub fn first_namers(s: &[u8], kind: Naming, table: &mut [u16])
 
 // Writes 0 everywhere.
 pub fn clear(table: &mut [u16])
-    ensures { λ r. ⌜ (length (now (table .exit)) ≡ length (now (table .entry))) × Standing (λ x. 0) (now (table .exit)) ⌝ }
+    ensures { λ r. ⌜ Filled (λ x. 0) (now (table .entry)) (now (table .exit)) ⌝ }
 {
     let mut i: usize = 0;
     while i < table.len() {

@@ -3,19 +3,16 @@ use crate::Naming;
 use sheet::fields::CHILD_LIST;
 use sheet::fields::COMPLEMENT_LIST;
 use sheet::fields::CONTENT_LIST;
-use sheet::fields::CONTENT_OBJECT;
 use sheet::fields::CONTENTS;
 use sheet::fields::OBJECTS;
 use sheet::fields::PROGRAMMES;
 use sheet::fields::SET_LIST;
 use sheet::fields::SET_SPAN;
 use sheet::layout::count;
-use sheet::layout::entry;
-use sheet::layout::field;
 use sheet::layout::number;
 ghost use mathlib.Core.Path.{_≡_};
 ghost use Rattle.sheet.specs.Words.{sheetOf};
-ghost use Rattle.tables.specs.steps.Namings.{item, items, namers};
+ghost use Rattle.tables.specs.steps.Namings.{items, namers};
 
 // How many records name others in that way.
 pub fn namers(s: &[u8], kind: Naming) -> u16
@@ -44,27 +41,5 @@ pub fn items(s: &[u8], kind: Naming, q: u16) -> u16
         Naming::Included => number(s, PROGRAMMES, q, CONTENT_LIST),
         Naming::SetLists => number(s, PROGRAMMES, q, SET_LIST),
         Naming::SetSpans => number(s, OBJECTS, q, SET_SPAN),
-    }
-}
-
-// The one it names at a place.
-pub fn item(s: &[u8], kind: Naming, q: u16, i: u16) -> u32
-    ensures { λ r. ⌜ r ≡ item (sheetOf (now (s .entry))) kind q i ⌝ }
-{
-    match kind {
-        Naming::ContentObjects => field(s, CONTENTS, q, CONTENT_OBJECT) as u32,
-        Naming::Children => entry(s, OBJECTS, q, CHILD_LIST, i) as u32,
-        Naming::Complements => entry(s, OBJECTS, q, COMPLEMENT_LIST, i) as u32,
-        Naming::ContentLists => entry(s, PROGRAMMES, q, CONTENT_LIST, i) as u32,
-        Naming::Included => {
-            field(
-                s,
-                CONTENTS,
-                entry(s, PROGRAMMES, q, CONTENT_LIST, i),
-                CONTENT_OBJECT,
-            ) as u32
-        }
-        Naming::SetLists => entry(s, PROGRAMMES, q, SET_LIST, i) as u32,
-        Naming::SetSpans => field(s, OBJECTS, q, SET_SPAN) as u32 + i as u32,
     }
 }

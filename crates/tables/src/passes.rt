@@ -1,13 +1,12 @@
-// The passes of the screening: each fills its tables, some several at once.
+// Passes over all records of a section that count what they name, some in several tables at once.
 use crate::Mark;
 use crate::Naming;
-use crate::marks::mark_at;
 use crate::marks::mark_items;
 use crate::marks::mark_list;
+use crate::marks::mark_object;
 use sheet::fields::CHILD_LIST;
 use sheet::fields::COMPLEMENT_LIST;
 use sheet::fields::CONTENT_LIST;
-use sheet::fields::CONTENT_OBJECT;
 use sheet::fields::CONTENTS;
 use sheet::fields::OBJECTS;
 use sheet::fields::PROGRAMMES;
@@ -18,29 +17,18 @@ use sheet::layout::field;
 use sheet::layout::number;
 use sheet::layout::offset;
 ghost use Prim.Native.Nat.{suc, _<_};
-ghost use lib.ListN.{getD, length};
 ghost use mathlib.Core.Path.{_≡_};
 ghost use Rattle.sheet.specs.Words.{sheetOf};
 ghost use Rattle.tables.specs.steps.Namings.{items};
-ghost use Rattle.tables.specs.steps.Marks.{Standing, firstBy, marked, namedBy, repeat, timesBy};
+ghost use Rattle.tables.specs.steps.Marks.{MarkedTimes, NamingsCounted, timesBy};
+ghost use Rattle.tables.specs.steps.Passes.{ListsCounted, TopsCounted};
 ghost use Rattle.tables.specs.declared.Mark.the-variants.{Count, First};
-ghost use Rattle.tables.specs.declared.Naming.the-variants.{Children, Complements, ContentLists, ContentObjects, SetSpans};
-
-// Counts the object that a content names.
-fn count_object(s: &[u8], q: u16, table: &mut [u16])
-    ensures { λ r. ⌜ (length (now (table .exit)) ≡ length (now (table .entry))) × Standing (λ x. repeat (marked Count) (timesBy (sheetOf (now (s .entry))) ContentObjects q x) (getD (now (table .entry)) x 0)) (now (table .exit)) ⌝ }
-{
-    mark_at(
-        table,
-        field(s, CONTENTS, q, CONTENT_OBJECT) as u32,
-        Mark::Count,
-    );
-}
+ghost use Rattle.tables.specs.declared.Naming.the-variants.{ContentLists, ContentObjects};
 
 // Marks the n records that a record names, mostly none.
 fn mark_some(s: &[u8], kind: Naming, q: u16, n: u16, mark: Mark, table: &mut [u16])
     requires { ⌜ n ≡ items (sheetOf (now s)) kind q ⌝ }
-    ensures { λ r. ⌜ (length (now (table .exit)) ≡ length (now (table .entry))) × Standing (λ x. repeat (marked mark) (timesBy (sheetOf (now (s .entry))) kind q x) (getD (now (table .entry)) x 0)) (now (table .exit)) ⌝ }
+    ensures { λ r. ⌜ MarkedTimes mark (timesBy (sheetOf (now (s .entry))) kind q) (now (table .entry)) (now (table .exit)) ⌝ }
 {
     if n != 0 {
         mark_items(s, kind, q, mark, table);
@@ -49,20 +37,20 @@ fn mark_some(s: &[u8], kind: Naming, q: u16, n: u16, mark: Mark, table: &mut [u1
 
 // Counts how often contents name each object, in two tables.
 pub fn count_tops(s: &[u8], tops: &mut [u16], named: &mut [u16])
-    ensures { λ r. ⌜ (length (now (tops .exit)) ≡ length (now (tops .entry))) × Standing (λ x. repeat (marked Count) (namedBy (sheetOf (now (s .entry))) ContentObjects x) (getD (now (tops .entry)) x 0)) (now (tops .exit)) × (length (now (named .exit)) ≡ length (now (named .entry))) × Standing (λ x. repeat (marked Count) (namedBy (sheetOf (now (s .entry))) ContentObjects x) (getD (now (named .entry)) x 0)) (now (named .exit)) ⌝ }
+    ensures { λ r. ⌜ TopsCounted (sheetOf (now (s .entry))) (now (tops .entry)) (now (named .entry)) (now (tops .exit)) (now (named .exit)) ⌝ }
 {
     let n = count(s, CONTENTS);
     let mut q: u16 = 0;
     while q < n {
-        count_object(s, q, tops);
-        count_object(s, q, named);
+        mark_object(s, q, Mark::Count, tops);
+        mark_object(s, q, Mark::Count, named);
         q += 1;
     }
 }
 
 // Counts how often content lists name each content.
 pub fn count_contents(s: &[u8], listed: &mut [u16])
-    ensures { λ r. ⌜ (length (now (listed .exit)) ≡ length (now (listed .entry))) × Standing (λ x. repeat (marked Count) (namedBy (sheetOf (now (s .entry))) ContentLists x) (getD (now (listed .entry)) x 0)) (now (listed .exit)) ⌝ }
+    ensures { λ r. ⌜ NamingsCounted (sheetOf (now (s .entry))) ContentLists (now (listed .entry)) (now (listed .exit)) ⌝ }
 {
     let base = offset(s, REFERENCES);
     let n = count(s, PROGRAMMES);
@@ -83,7 +71,7 @@ pub fn count_contents(s: &[u8], listed: &mut [u16])
 // Counts the n records that a record names, mostly none, and keeps its own number, one more, where it is the first to name one.
 fn mark_both(s: &[u8], kind: Naming, q: u16, n: u16, counts: &mut [u16], firsts: &mut [u16])
     requires { ⌜ (n ≡ items (sheetOf (now s)) kind q) × (q < 65535) ⌝ }
-    ensures { λ r. ⌜ (length (now (counts .exit)) ≡ length (now (counts .entry))) × Standing (λ x. repeat (marked Count) (timesBy (sheetOf (now (s .entry))) kind q x) (getD (now (counts .entry)) x 0)) (now (counts .exit)) × (length (now (firsts .exit)) ≡ length (now (firsts .entry))) × Standing (λ x. repeat (marked (First (suc q))) (timesBy (sheetOf (now (s .entry))) kind q x) (getD (now (firsts .entry)) x 0)) (now (firsts .exit)) ⌝ }
+    ensures { λ r. ⌜ MarkedTimes Count (timesBy (sheetOf (now (s .entry))) kind q) (now (counts .entry)) (now (counts .exit)) × MarkedTimes (First (suc q)) (timesBy (sheetOf (now (s .entry))) kind q) (now (firsts .entry)) (now (firsts .exit)) ⌝ }
 {
     if n != 0 {
         mark_items(s, kind, q, Mark::Count, counts);
@@ -100,7 +88,7 @@ pub fn count_lists(
     spanned: &mut [u16],
     owners: &mut [u16],
 )
-    ensures { λ r. ⌜ (length (now (named .exit)) ≡ length (now (named .entry))) × Standing (λ x. repeat (marked Count) (namedBy (sheetOf (now (s .entry))) Children x) (getD (now (named .entry)) x 0)) (now (named .exit)) × (length (now (complements .exit)) ≡ length (now (complements .entry))) × Standing (λ x. repeat (marked Count) (namedBy (sheetOf (now (s .entry))) Complements x) (getD (now (complements .entry)) x 0)) (now (complements .exit)) × (length (now (spanned .exit)) ≡ length (now (spanned .entry))) × Standing (λ x. repeat (marked Count) (namedBy (sheetOf (now (s .entry))) SetSpans x) (getD (now (spanned .entry)) x 0)) (now (spanned .exit)) × (length (now (owners .exit)) ≡ length (now (owners .entry))) × (Standing (λ x. 0) (now (owners .entry)) → Standing (λ x. firstBy (sheetOf (now (s .entry))) SetSpans x 0) (now (owners .exit))) ⌝ }
+    ensures { λ r. ⌜ ListsCounted (sheetOf (now (s .entry))) (now (named .entry)) (now (complements .entry)) (now (spanned .entry)) (now (owners .entry)) (now (named .exit)) (now (complements .exit)) (now (spanned .exit)) (now (owners .exit)) ⌝ }
 {
     let n = count(s, OBJECTS);
     let mut q: u16 = 0;

@@ -11,10 +11,10 @@ use sheet::fields::SET_SPAN;
 use sheet::layout::count;
 use sheet::layout::field;
 use sheet::layout::number;
-ghost use Prim.Native.Nat.{_+_, _≤_};
+ghost use Prim.Native.Nat.{ℕ, _+_, _<_, _≤_};
 ghost use lib.Dec.{eqb};
 ghost use lib.ListN.{getD, length};
-ghost use mathlib.Core.Bool.{not};
+ghost use mathlib.Core.Bool.{not, true};
 ghost use mathlib.Core.Path.{_≡_};
 ghost use Rattle.profile.specs.Counting.{any};
 ghost use Rattle.profile.specs.Relations.{complement, includes, leaderOf, lone, namesSet, owner, top};
@@ -120,4 +120,20 @@ pub fn names_set_by(s: &[u8], p: u16, sets: &[u16], o: u16) -> bool
     } else {
         names_set(s, p, o)
     }
+}
+
+// Whether the first n places of a table have 1.
+pub fn all_once(table: &[u16], n: u16) -> bool
+    ensures { λ r. ⌜ (r ≡ true → (x : ℕ) → x < n → (x < length (now (table .entry))) × (getD (now (table .entry)) x 0 ≡ 1)) ⌝ }
+{
+    if table.len() < n as usize {
+        return false;
+    }
+    let mut once = true;
+    let mut i: u16 = 0;
+    while i < n {
+        once = once & (table[i as usize] == 1);
+        i += 1;
+    }
+    once
 }

@@ -1,11 +1,11 @@
--- What each loop of the rules computes, over any of its tests. Assumes nothing.
+-- What each loop of the rules computes, over any of its tests, and for which tables; the sections that lists name records of. Assumes nothing.
 use Prim.Native.Nat.{ℕ, _+_}
 use mathlib.Core.Bool.{Bool, not, cond, _&&_}
 use mathlib.Core.List.{List}
 use lib.Dec.{eqb}
 use Rattle.sheet.specs.Words.{Sheet}
-use Rattle.sheet.specs.Layout.{count, field, first, number, entry}
-use Rattle.sheet.specs.Fields.{programmes, contents, objects, tracks, valueSets, trackList, setSpan, trackOrdinal, setOwn}
+use Rattle.sheet.specs.Layout.{count, field, first, number, entry, reference}
+use Rattle.sheet.specs.Fields.{programmes, contents, objects, tracks, valueSets, trackList, setList, setSpan, trackOrdinal, setOwn}
 use Rattle.profile.specs.Counting.{any, howMany, sum, twoOf}
 use Rattle.profile.specs.Relations.{times, leader, leaderOf, members, includes, included, whollyIncluded, owner, channels, trackAt}
 use Rattle.profile.specs.Rules.{badComplement, differs, setsNamed, setsDiffer}
@@ -16,8 +16,8 @@ use Rattle.rules.specs.declared.Key.{Key}
 use Rattle.rules.specs.declared.Key.the-variants.{Entry, Owner, Ordinal}
 use Rattle.rules.specs.declared.PairTest.{PairTest}
 use Rattle.rules.specs.declared.PairTest.the-variants.{Same, OneOwner, DifferInGroup}
-use Rattle.rules.specs.declared.ListedTest.{ListedTest}
-use Rattle.rules.specs.declared.ListedTest.the-variants.{BadComplement, DiffersFrom, NotIncluded}
+use Rattle.rules.specs.declared.TabledTest.{TabledTest}
+use Rattle.rules.specs.declared.TabledTest.the-variants.{BadComplement, DiffersFrom, NotIncluded}
 use Rattle.rules.specs.declared.GroupTest.{GroupTest}
 use Rattle.rules.specs.declared.GroupTest.the-variants.{Split, PartlySet}
 
@@ -34,13 +34,17 @@ pairTest s Same a b = eqb a b
 pairTest s OneOwner a b = eqb (owner s a) (owner s b)
 pairTest s DifferInGroup a b = eqb (leaderOf s (owner s a)) (leaderOf s (owner s b)) && setsDiffer s a b
 
--- an entry before place j of the list passes it with the one there
-unfoldable pub earlierEntry : Sheet → ℕ → ℕ → ℕ → PairTest → ℕ → Bool
-earlierEntry s section k at test j = any (λ i. pairTest s test (entry s section k at i) (entry s section k at j)) j
+-- of the references from a on, one before place j passes it with the one there
+unfoldable pub earlierEntry : Sheet → ℕ → PairTest → ℕ → Bool
+earlierEntry s a test j = any (λ i. pairTest s test (reference s (a + i)) (reference s (a + j))) j
 
--- two entries of the list pass it
-unfoldable pub twoEntries : Sheet → ℕ → ℕ → ℕ → PairTest → Bool
-twoEntries s section k at test = twoOf (λ i j. pairTest s test (entry s section k at i) (entry s section k at j)) (number s section k at)
+-- two of the n references from a on pass it
+unfoldable pub twoEntries : Sheet → ℕ → ℕ → PairTest → Bool
+twoEntries s a n test = twoOf (λ i j. pairTest s test (reference s (a + i)) (reference s (a + j))) n
+
+-- two sets that a programme names differ within a group
+abbrev pub setsDifferInGroup : Sheet → ℕ → Bool
+setsDifferInGroup s p = twoEntries s (first s programmes p setList) (number s programmes p setList) DifferInGroup
 
 -- what is compared of an entry
 abbrev pub keyOf : Sheet → Key → ℕ → ℕ
@@ -65,20 +69,20 @@ pairRight s OneOwner owners leaders = Owners s owners
 pairRight s DifferInGroup owners leaders = Owners s owners × Leaders s leaders
 
 -- an entry passes the test
-abbrev pub listedTest : Sheet → ListedTest → ℕ → Bool
-listedTest s BadComplement e = badComplement s e
-listedTest s (DiffersFrom l) e = differs s l e
-listedTest s (NotIncluded p) e = not (includes s p (owner s e))
+abbrev pub tabledTest : Sheet → TabledTest → ℕ → Bool
+tabledTest s BadComplement e = badComplement s e
+tabledTest s (DiffersFrom l) e = differs s l e
+tabledTest s (NotIncluded p) e = not (includes s p (owner s e))
 
 -- the tables that the test reads are right
-abbrev pub listedRight : Sheet → ListedTest → List ℕ → List ℕ → Type 0
-listedRight s BadComplement tops complements = Tops s tops × Complemented s complements
-listedRight s (DiffersFrom l) a b = Unit {0}
-listedRight s (NotIncluded p) owners marks = Owners s owners × Included s p marks
+abbrev pub tabledRight : Sheet → TabledTest → List ℕ → List ℕ → Type 0
+tabledRight s BadComplement tops complements = Tops s tops × Complemented s complements
+tabledRight s (DiffersFrom l) a b = Unit {0}
+tabledRight s (NotIncluded p) owners marks = Owners s owners × Included s p marks
 
--- some entry of the list passes it
-unfoldable pub anyListed : Sheet → ℕ → ℕ → ℕ → ListedTest → Bool
-anyListed s section k at test = any (λ i. listedTest s test (entry s section k at i)) (number s section k at)
+-- one of the n references from a on passes it
+unfoldable pub anyTabled : Sheet → ℕ → ℕ → TabledTest → Bool
+anyTabled s a n test = any (λ i. tabledTest s test (reference s (a + i))) n
 
 -- a leader passes the test, for a programme
 abbrev pub groupTest : Sheet → ℕ → GroupTest → ℕ → Bool

@@ -2,7 +2,8 @@
 -- of its span. How many runs cover an index. Assumes nothing.
 use Prim.Native.Nat.{ℕ, _+_, _<_, _≤_}
 use mathlib.Core.Bool.{Bool, cond, _&&_}
-use lib.Dec.{leb, ltb}
+use mathlib.Core.List.{List}
+use lib.Dec.{eqb, leb, ltb}
 use Rattle.sheet.specs.Words.{Sheet}
 use Rattle.sheet.specs.Layout.{field, first, reference}
 use Rattle.sheet.specs.Fields.{programmes, contents, objects, contentList, setList, contentObject, childList, complementList, setSpan}
@@ -10,16 +11,17 @@ use Rattle.profile.specs.Counting.{howMany}
 use Rattle.tables.specs.declared.Naming.{Naming}
 use Rattle.tables.specs.declared.Naming.the-variants.{ContentObjects, Children, Complements, ContentLists, Included, SetLists, SetSpans}
 use Rattle.tables.specs.steps.Namings.{namers, items}
+use Rattle.tables.specs.steps.Marks.{Standing}
 
 -- the index at which a record's run begins
-abbrev pub begin : Sheet → Naming → ℕ → ℕ
-begin s ContentObjects q = field s contents q contentObject
-begin s Children q = first s objects q childList
-begin s Complements q = first s objects q complementList
-begin s ContentLists q = first s programmes q contentList
-begin s Included q = first s programmes q contentList
-begin s SetLists q = first s programmes q setList
-begin s SetSpans q = first s objects q setSpan
+abbrev pub runBegin : Sheet → Naming → ℕ → ℕ
+runBegin s ContentObjects q = field s contents q contentObject
+runBegin s Children q = first s objects q childList
+runBegin s Complements q = first s objects q complementList
+runBegin s ContentLists q = first s programmes q contentList
+runBegin s Included q = first s programmes q contentList
+runBegin s SetLists q = first s programmes q setList
+runBegin s SetSpans q = first s objects q setSpan
 
 -- the record that an index names
 abbrev pub namedAt : Sheet → Naming → ℕ → ℕ
@@ -31,18 +33,22 @@ namedAt s Included y = field s contents (reference s y) contentObject
 namedAt s SetLists y = reference s y
 namedAt s SetSpans y = y
 
--- the index behind a record's run
-unfoldable pub behind : Sheet → Naming → ℕ → ℕ
-behind s kind q = begin s kind q + items s kind q
+-- the index after the last of a record's run
+unfoldable pub runEnd : Sheet → Naming → ℕ → ℕ
+runEnd s kind q = runBegin s kind q + items s kind q
 
 -- one edge of the run
 abbrev pub edge : Sheet → Naming → Bool → ℕ → ℕ
-edge s kind last q = cond last (behind s kind q) (begin s kind q)
+edge s kind last q = cond last (runEnd s kind q) (runBegin s kind q)
+
+-- the table has for each index how many runs have it as that edge
+abbrev pub Tallied : Sheet → Naming → Bool → List ℕ → Type 0
+Tallied s kind last t = Standing (λ y. howMany (λ q. eqb (edge s kind last q) y) (namers s kind)) t
 
 -- all runs end at m or before
 abbrev pub Reaching : Sheet → Naming → ℕ → Type 0
-Reaching s kind m = (q : ℕ) → q < namers s kind → behind s kind q ≤ m
+Reaching s kind m = (q : ℕ) → q < namers s kind → runEnd s kind q ≤ m
 
 -- how many runs have an index
 unfoldable pub cover : Sheet → Naming → ℕ → ℕ
-cover s kind y = howMany (λ q. leb (begin s kind q) y && ltb y (behind s kind q)) (namers s kind)
+cover s kind y = howMany (λ q. leb (runBegin s kind q) y && ltb y (runEnd s kind q)) (namers s kind)

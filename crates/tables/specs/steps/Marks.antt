@@ -27,13 +27,29 @@ unfoldable pub repeat : (ℕ → ℕ) → ℕ → ℕ → ℕ
 repeat f zero c = c
 repeat f (suc n) c = f (repeat f n c)
 
+-- the table has kept its length, and has g at each index
+abbrev pub Filled : (ℕ → ℕ) → List ℕ → List ℕ → Type 0
+Filled g t t′ = (length t′ ≡ length t) × Standing g t′
+
+-- what x has in the table after marks, as many as n says of it
+abbrev pub afterMarks : Mark → (ℕ → ℕ) → List ℕ → ℕ → ℕ
+afterMarks mark n t x = repeat (marked mark) (n x) (getD t x 0)
+
+-- each place was marked so many times
+abbrev pub MarkedTimes : Mark → (ℕ → ℕ) → List ℕ → List ℕ → Type 0
+MarkedTimes mark n t t′ = Filled (afterMarks mark n t) t t′
+
 -- how often record q names x
 unfoldable pub timesBy : Sheet → Naming → ℕ → ℕ → ℕ
 timesBy s kind q x = howMany (λ i. eqb (item s kind q i) x) (items s kind q)
 
+-- how often the records before q name x
+abbrev pub namedBefore : Sheet → Naming → ℕ → ℕ → ℕ
+namedBefore s kind q x = sum (λ j. timesBy s kind j x) q
+
 -- how often x is named
 unfoldable pub namedBy : Sheet → Naming → ℕ → ℕ
-namedBy s kind x = sum (λ q. timesBy s kind q x) (namers s kind)
+namedBy s kind x = namedBefore s kind (namers s kind) x
 
 -- record q names x
 unfoldable pub namesBy : Sheet → Naming → ℕ → ℕ → Bool
@@ -47,3 +63,7 @@ firstFrom p d i (suc n) = let rest = firstFrom p d (suc i) n in cond (p i) (suc 
 -- one more than the number of the first record that names x, else d
 unfoldable pub firstBy : Sheet → Naming → ℕ → ℕ → ℕ
 firstBy s kind x d = firstFrom (λ q. namesBy s kind q x) d 0 (namers s kind)
+
+-- each naming was counted
+abbrev pub NamingsCounted : Sheet → Naming → List ℕ → List ℕ → Type 0
+NamingsCounted s kind = MarkedTimes Count (namedBy s kind)

@@ -49,7 +49,9 @@ lacks-requires-3 c κs = search needs
 
 returns : tie.Need-returns
 unfolding rule5 firstTarget secondTarget
-returns c = λ first second. let f : NextRight (sheetOf (c .before .before .before .before .before .before .args .s .now)) (Lacks contents) (c .before .before .before .before .before .before .args .first .now) = rw (c .before .before .match .keys1) at first in let g : NextRight (sheetOf (c .before .before .before .before .before .before .args .s .now)) (Lacks valueSets) (c .before .before .before .before .before .before .args .second .now) = rw (c .before .before .match .keys1) at second in simp (c .list-lacks2 .ensures g, c .before .list-lacks .ensures f, c .before .before .match .keys1, or-false)
+returns c =
+    let a = c .before .before .before .before .before .before .args in let match = c .before .before .match in let s = sheetOf (a .s .now) in
+    λ first second. let f : NextRight s (Lacks contents) (a .first .now) = rw (match .keys1) at first in let g : NextRight s (Lacks valueSets) (a .second .now) = rw (match .keys1) at second in simp (c .list-lacks2 .ensures g, c .before .list-lacks .ensures f, match .keys1, or-false)
 
 returns-2 : tie.Need-returns-2
 unfolding rule5
@@ -57,7 +59,11 @@ returns-2 c = λ first second. simp (c .lacks .ensures, c .before .field .ensure
 
 returns-3 : tie.Need-returns-3
 unfolding rule5 firstTarget secondTarget
-returns-3 c = λ first second. let f : NextRight (sheetOf (c .before .before .before .before .before .before .before .before .before .before .args .s .now)) (Lacks tracks) (c .before .before .before .before .before .before .before .before .before .before .args .first .now) = rw (c .before .before .before .before .before .before .match .keys3) at first in let g : NextRight (sheetOf (c .before .before .before .before .before .before .before .before .before .before .args .s .now)) (Lacks objects) (c .before .before .before .before .before .before .before .before .before .before .args .second .now) = rw (c .before .before .before .before .before .before .match .keys3) at second in simp (c .list-lacks5 .ensures g, c .before .list-lacks4 .ensures g, c .before .before .list-lacks3 .ensures f, c .before .before .before .lacks2 .ensures, c .before .before .before .before .pack-of .ensures, c .before .before .before .before .before .has-pack .ensures, c .before .before .before .before .before .before .match .keys3, or-false)
+returns-3 c =
+    let a = c .before .before .before .before .before .before .before .before .before .before .args in
+    let match = c .before .before .before .before .before .before .match in let has-pack = c .before .before .before .before .before .has-pack in
+    let pack-of = c .before .before .before .before .pack-of in let s = sheetOf (a .s .now) in
+    λ first second. let f : NextRight s (Lacks tracks) (a .first .now) = rw (match .keys3) at first in let g : NextRight s (Lacks objects) (a .second .now) = rw (match .keys3) at second in simp (c .list-lacks5 .ensures g, c .before .list-lacks4 .ensures g, c .before .before .list-lacks3 .ensures f, c .before .before .before .lacks2 .ensures, pack-of .ensures, has-pack .ensures, match .keys3, or-false)
 
 returns-4 : tie.Need-returns-4
 unfolding rule5

@@ -1,9 +1,8 @@
 -- Found so far is what the words passed have. Assumes nothing.
-use Prim.Native.Nat.{_-_, _≤_}
+use Prim.Native.Nat.{_-_, _≤_, _+_}
 use mathlib.Core.Path.{_≡_, refl, ap, _∙_}
 use native.Mathlib.Omega.{arith}
 use native.Mathlib.Numerals.{add-one}
-use Prim.Native.Nat.{_+_}
 use mathlib.Core.Bool.{not}
 use lib.Dec.{eqb}
 use Rattle.profile.specs.Counting.{any}
@@ -48,9 +47,7 @@ loop-again c = (search needs, rw (add-one, c .field2 .ensures, c .before .field 
 
 returns : tie.Need-returns Inv-loop μ-loop
 unfolding fieldsDiffer
-returns c =
-    let e : c .before .loop .f ≡ 7 = omega arith in
-    c .before .loop .inv .1 ∙ ap (any _) e
+returns c = let e : c .before .loop .f ≡ 7 = omega arith in c .before .loop .inv .1 ∙ ap (any _) e
 
 pub fields-differ-spec : {M : Type 1} → statement M
 fields-differ-spec =

@@ -1,5 +1,5 @@
 -- Each test by its definition. Assumes nothing.
-use mathlib.Core.Path.{_≡_, sym, _∙_}
+use mathlib.Core.Path.{sym, _∙_}
 use borrow.Author.Tests.{eq-eqb, ne-eqb, not-true, not-false}
 use Rattle.profile.specs.Relations.{included, whollyIncluded}
 use Rattle.profile.specs.Rules.{setsNamed}
@@ -38,7 +38,12 @@ returns-2 c = λ marks sets. simp (c .enum-told .given .1, c .before .before .be
 
 returns-3 : tie.Need-returns-3
 unfolding whollyIncluded included setsNamed howManyMembers
-returns-3 c = λ marks sets. let named : NamedSets (sheetOf (c .before .before .before .before .before .before .before .before .before .before .before .args .s .now)) (c .before .before .before .before .before .before .before .before .before .before .before .args .p) (c .before .before .before .before .before .before .before .before .before .before .before .args .sets .now) = rw (c .before .before .enum-told2 .given .1) at sets in simp (c .before .before .enum-told2 .given .1, c .members-passing2 .ensures named, eq-eqb _ _ (sym (c .before .before .before .before .before .members-passing .ensures marks) ∙ c .before .if2 .taken ∙ c .before .before .before .before .members .ensures .0), c .before .before .before .before .members .ensures .0, sym (c .before .before .before .before .before .before .before .leader .ensures) ∙ not-false _ (c .before .before .before .before .before .before .if1 .left))
+returns-3 c =
+    let a = c .before .before .before .before .before .before .before .before .before .before .before .args in
+    let leader = c .before .before .before .before .before .before .before .leader in let if1 = c .before .before .before .before .before .before .if1 in
+    let members-passing = c .before .before .before .before .before .members-passing in let members = c .before .before .before .before .members in
+    let enum-told2 = c .before .before .enum-told2 in
+    λ marks sets. let named : NamedSets (sheetOf (a .s .now)) (a .p) (a .sets .now) = rw (enum-told2 .given .1) at sets in simp (enum-told2 .given .1, c .members-passing2 .ensures named, eq-eqb _ _ (sym (members-passing .ensures marks) ∙ c .before .if2 .taken ∙ members .ensures .0), members .ensures .0, sym (leader .ensures) ∙ not-false _ (if1 .left))
 
 returns-4 : tie.Need-returns-4
 unfolding whollyIncluded included setsNamed howManyMembers

@@ -1,9 +1,8 @@
 -- Found so far is what the sets passed have. Assumes nothing.
-use Prim.Native.Nat.{_-_, _≤_}
+use Prim.Native.Nat.{_-_, _≤_, _+_}
 use mathlib.Core.Path.{_≡_, refl, ap, _∙_}
 use native.Mathlib.Omega.{arith}
 use native.Mathlib.Numerals.{add-one}
-use Prim.Native.Nat.{_+_}
 use lib.Dec.{eqb}
 use Rattle.profile.specs.Counting.{any}
 use Rattle.sheet.specs.Layout.{field, first, number}
@@ -54,9 +53,7 @@ loop-again c = (search needs, rw (add-one, c .wide-field .ensures, c .before .be
 
 returns : tie.Need-returns Inv-loop μ-loop
 unfolding ownSet
-returns c =
-    let e : c .before .loop .i ≡ c .before .before .number .result = omega arith in
-    c .before .loop .inv .1 ∙ ap (any _) (e ∙ c .before .before .number .ensures)
+returns c = let e : c .before .loop .i ≡ c .before .before .number .result = omega arith in c .before .loop .inv .1 ∙ ap (any _) (e ∙ c .before .before .number .ensures)
 
 pub own-set-spec : {M : Type 1} → statement M
 own-set-spec =

@@ -45,10 +45,18 @@ returns-2 : tie.Need-returns-2
 returns-2 c = λ right. let r : Owners (sheetOf (c .before .before .before .before .before .before .before .args .s .now)) (c .before .before .before .before .before .before .before .args .owners .now) = rw (c .before .before .enum-told2 .given .1) at right in simp (c .owner-by2 .ensures r, c .before .owner-by .ensures r, c .before .before .enum-told2 .given .1)
 
 returns-3 : tie.Need-returns-3
-returns-3 c = λ right. let r : Owners (sheetOf (c .before .before .before .before .before .before .before .before .before .before .before .args .s .now)) (c .before .before .before .before .before .before .before .before .before .before .before .args .owners .now) × Leaders (sheetOf (c .before .before .before .before .before .before .before .before .before .before .before .args .s .now)) (c .before .before .before .before .before .before .before .before .before .before .before .args .leaders .now) = rw (c .before .before .before .before .before .before .enum-told3 .given .1) at right in let x : c .before .before .before .before .leader-by .result ≡ leaderOf (sheetOf (c .before .before .before .before .before .before .before .before .before .before .before .args .s .now)) (owner (sheetOf (c .before .before .before .before .before .before .before .before .before .before .before .args .s .now)) (c .before .before .before .before .before .before .before .before .before .before .before .args .x)) = c .before .before .before .before .leader-by .ensures (r .1) ∙ ap (leaderOf (sheetOf (c .before .before .before .before .before .before .before .before .before .before .before .args .s .now))) (c .before .before .before .before .before .owner-by3 .ensures (r .0)) in let y : c .before .before .leader-by2 .result ≡ leaderOf (sheetOf (c .before .before .before .before .before .before .before .before .before .before .before .args .s .now)) (owner (sheetOf (c .before .before .before .before .before .before .before .before .before .before .before .args .s .now)) (c .before .before .before .before .before .before .before .before .before .before .before .args .y)) = c .before .before .leader-by2 .ensures (r .1) ∙ ap (leaderOf (sheetOf (c .before .before .before .before .before .before .before .before .before .before .before .args .s .now))) (c .before .before .before .owner-by4 .ensures (r .0)) in simp (c .sets-differ .ensures, eq-eqb _ _ (sym x ∙ c .before .if1 .taken ∙ y), c .before .before .before .before .before .before .enum-told3 .given .1)
+returns-3 c =
+    let a = c .before .before .before .before .before .before .before .before .before .before .before .args in
+    let enum-told3 = c .before .before .before .before .before .before .enum-told3 in let owner-by3 = c .before .before .before .before .before .owner-by3 in
+    let leader-by = c .before .before .before .before .leader-by in let leader-by2 = c .before .before .leader-by2 in let s = sheetOf (a .s .now) in
+    λ right. let r : Owners s (a .owners .now) × Leaders s (a .leaders .now) = rw (enum-told3 .given .1) at right in let x : leader-by .result ≡ leaderOf s (owner s (a .x)) = leader-by .ensures (r .1) ∙ ap (leaderOf s) (owner-by3 .ensures (r .0)) in let y : leader-by2 .result ≡ leaderOf s (owner s (a .y)) = leader-by2 .ensures (r .1) ∙ ap (leaderOf s) (c .before .before .before .owner-by4 .ensures (r .0)) in simp (c .sets-differ .ensures, eq-eqb _ _ (sym x ∙ c .before .if1 .taken ∙ y), enum-told3 .given .1)
 
 returns-4 : tie.Need-returns-4
-returns-4 c = λ right. let r : Owners (sheetOf (c .before .before .before .before .before .before .before .before .before .before .args .s .now)) (c .before .before .before .before .before .before .before .before .before .before .args .owners .now) × Leaders (sheetOf (c .before .before .before .before .before .before .before .before .before .before .args .s .now)) (c .before .before .before .before .before .before .before .before .before .before .args .leaders .now) = rw (c .before .before .before .before .before .enum-told3 .given .1) at right in let x : c .before .before .before .leader-by .result ≡ leaderOf (sheetOf (c .before .before .before .before .before .before .before .before .before .before .args .s .now)) (owner (sheetOf (c .before .before .before .before .before .before .before .before .before .before .args .s .now)) (c .before .before .before .before .before .before .before .before .before .before .args .x)) = c .before .before .before .leader-by .ensures (r .1) ∙ ap (leaderOf (sheetOf (c .before .before .before .before .before .before .before .before .before .before .args .s .now))) (c .before .before .before .before .owner-by3 .ensures (r .0)) in let y : c .before .leader-by2 .result ≡ leaderOf (sheetOf (c .before .before .before .before .before .before .before .before .before .before .args .s .now)) (owner (sheetOf (c .before .before .before .before .before .before .before .before .before .before .args .s .now)) (c .before .before .before .before .before .before .before .before .before .before .args .y)) = c .before .leader-by2 .ensures (r .1) ∙ ap (leaderOf (sheetOf (c .before .before .before .before .before .before .before .before .before .before .args .s .now))) (c .before .before .owner-by4 .ensures (r .0)) in simp (ne-eqb _ _ (λ q. c .if1 .left (x ∙ q ∙ sym y)), c .before .before .before .before .before .enum-told3 .given .1)
+returns-4 c =
+    let a = c .before .before .before .before .before .before .before .before .before .before .args in
+    let enum-told3 = c .before .before .before .before .before .enum-told3 in let owner-by3 = c .before .before .before .before .owner-by3 in
+    let leader-by = c .before .before .before .leader-by in let s = sheetOf (a .s .now) in
+    λ right. let r : Owners s (a .owners .now) × Leaders s (a .leaders .now) = rw (enum-told3 .given .1) at right in let x : leader-by .result ≡ leaderOf s (owner s (a .x)) = leader-by .ensures (r .1) ∙ ap (leaderOf s) (owner-by3 .ensures (r .0)) in let y : c .before .leader-by2 .result ≡ leaderOf s (owner s (a .y)) = c .before .leader-by2 .ensures (r .1) ∙ ap (leaderOf s) (c .before .before .owner-by4 .ensures (r .0)) in simp (ne-eqb _ _ (λ q. c .if1 .left (x ∙ q ∙ sym y)), enum-told3 .given .1)
 
 pub pair-test-spec : {M : Type 1} → statement M
 pair-test-spec =

@@ -11,13 +11,10 @@ use Rattle.rules.proofs.loops.two_entries.Tie as tie
 use borrow.Author.Needs.{needs}
 
 abbrev Inv-loop : tie.InvT-loop
-Inv-loop s owners leaders section k at test n found₀ j₀ found j = (j ≤ n) × (pairRight (sheetOf s) test owners leaders → found ≡ any (earlierEntry (sheetOf s) section k at test) j)
+Inv-loop s owners leaders first n test found₀ j₀ found j = (j ≤ n) × (pairRight (sheetOf s) test owners leaders → found ≡ any (earlierEntry (sheetOf s) first test) j)
 
 abbrev μ-loop : tie.MeasureT-loop
-μ-loop s owners leaders section k at test n found₀ j₀ found j = n - j
-
-number-requires : tie.Need-number-requires Inv-loop μ-loop
-number-requires c κs = search needs
+μ-loop s owners leaders first n test found₀ j₀ found j = n - j
 
 loop-holds : tie.Need-loop-holds Inv-loop μ-loop
 unfolding any
@@ -38,7 +35,7 @@ loop-again c = (search needs, λ right. rw (add-one, c .earlier-entry .ensures r
 
 returns : tie.Need-returns Inv-loop μ-loop
 unfolding twoEntries twoOf earlierEntry
-returns c = let e : c .before .loop .j ≡ c .before .before .number .result = omega arith in λ right. c .before .loop .inv .1 right ∙ ap (any _) (e ∙ c .before .before .number .ensures)
+returns c = let e : c .before .loop .j ≡ c .before .before .before .before .before .args .n = omega arith in λ right. c .before .loop .inv .1 right ∙ ap (any _) e
 
 pub two-entries-spec : {M : Type 1} → statement M
 two-entries-spec =
@@ -46,7 +43,6 @@ two-entries-spec =
     (tie.spec
     Inv-loop
     μ-loop
-    number-requires
     loop-holds
     earlier-entry-requires
     add-j

@@ -1,6 +1,6 @@
 -- As many as its channels, of its pack, each ordinal once. Assumes nothing.
-use Prim.Native.Nat.{ℕ, zero, suc, _+_, _<_}
-use mathlib.Core.Path.{_≡_, refl, sym, ap, ap₂, _∙_}
+use Prim.Native.Nat.{ℕ, _+_, _<_}
+use mathlib.Core.Path.{_≡_, sym, ap, ap₂, _∙_}
 use mathlib.Core.Bool.{Bool, true, false, cond, not, _||_}
 use native.Mathlib.Omega.{arith}
 use borrow.Author.Tests.{eq-eqb, ne-eqb, ltb-true, leb-true}
@@ -51,14 +51,19 @@ odd-tracks-requires c κs = search needs
 
 returns-2 : tie.Need-returns-2
 unfolding rule14 oddTracks trackAt entry channels
-returns-2 c = λ next again.
-    let t = all-three _ _ _ (c .before .before .if2 .taken) in
-    let f = all-three _ _ _ (sym (c .before .before .before .before .inside .ensures) ∙ t .1) in
-    let g = all-three _ _ _ (sym (c .before .before .before .inside2 .ensures) ∙ t .2) in
-    let e : (number (sheetOf (c .before .before .before .before .before .before .before .before .before .before .before .before .args .s .now)) objects (c .before .before .before .before .before .before .before .before .before .before .before .before .args .o) trackList) ≡ channels (sheetOf (c .before .before .before .before .before .before .before .before .before .before .before .before .args .s .now)) (c .before .before .before .before .before .before .before .before .before .before .before .before .args .o) = (sym (c .before .before .before .before .before .before .before .before .number .ensures) ∙ c .before .before .before .before .before .before .if1 .left ∙ c .before .before .before .before .before .before .before .channels .ensures) in
-    let full : field (sheetOf (c .before .before .before .before .before .before .before .before .before .before .before .before .args .s .now)) packs (c .before .pack-of .result) packChannels ≡ c .before .before .before .before .before .before .before .before .number .result = ap (λ (p : ℕ). field (sheetOf (c .before .before .before .before .before .before .before .before .before .before .before .before .args .s .now)) packs p packChannels) (c .before .pack-of .ensures) ∙ with-pack (hasChildren (sheetOf (c .before .before .before .before .before .before .before .before .before .before .before .before .args .s .now)) (c .before .before .before .before .before .before .before .before .before .before .before .before .args .o)) (c .before .before .before .before .before .before .before .before .number .result) (field (sheetOf (c .before .before .before .before .before .before .before .before .before .before .before .before .args .s .now)) packs (packOf (sheetOf (c .before .before .before .before .before .before .before .before .before .before .before .before .args .s .now)) (c .before .before .before .before .before .before .before .before .before .before .before .before .args .o)) packChannels) (c .before .before .before .before .before .before .before .before .number .ensures ∙ e) (ltb-true _ _ (t .0)) in
-    let r = c .odd-tracks .ensures next again (ltb-true _ _ (f .0)) (ltb-true _ _ (g .0)) (leb-true _ _ (f .2)) full in
-    rw (eq-eqb _ _ e) (r ∙ ap₂ (λ (a n : ℕ). oddTracks (sheetOf (c .before .before .before .before .before .before .before .before .before .before .before .before .args .s .now)) a n (c .before .pack-of .result)) (c .before .before .before .before .before .field .ensures) (c .before .before .before .before .before .before .before .before .number .ensures) ∙ ap (oddTracks (sheetOf (c .before .before .before .before .before .before .before .before .before .before .before .before .args .s .now)) (field (sheetOf (c .before .before .before .before .before .before .before .before .before .before .before .before .args .s .now)) objects (c .before .before .before .before .before .before .before .before .before .before .before .before .args .o) trackList) (number (sheetOf (c .before .before .before .before .before .before .before .before .before .before .before .before .args .s .now)) objects (c .before .before .before .before .before .before .before .before .before .before .before .before .args .o) trackList)) (c .before .pack-of .ensures) ∙ ap (λ (m : ℕ). any (λ i. not (eqb (packAt (sheetOf (c .before .before .before .before .before .before .before .before .before .before .before .before .args .s .now)) ((field (sheetOf (c .before .before .before .before .before .before .before .before .before .before .before .before .args .s .now)) objects (c .before .before .before .before .before .before .before .before .before .before .before .before .args .o) trackList) + i)) (packOf (sheetOf (c .before .before .before .before .before .before .before .before .before .before .before .before .args .s .now)) (c .before .before .before .before .before .before .before .before .before .before .before .before .args .o)))) (number (sheetOf (c .before .before .before .before .before .before .before .before .before .before .before .before .args .s .now)) objects (c .before .before .before .before .before .before .before .before .before .before .before .before .args .o) trackList) || any (λ k. not (eqb (howMany (λ i. eqb (ordinalAt (sheetOf (c .before .before .before .before .before .before .before .before .before .before .before .before .args .s .now)) ((field (sheetOf (c .before .before .before .before .before .before .before .before .before .before .before .before .args .s .now)) objects (c .before .before .before .before .before .before .before .before .before .before .before .before .args .o) trackList) + i)) k) (number (sheetOf (c .before .before .before .before .before .before .before .before .before .before .before .before .args .s .now)) objects (c .before .before .before .before .before .before .before .before .before .before .before .before .args .o) trackList)) 1)) m) e)
+returns-2 c =
+    let a = c .before .before .before .before .before .before .before .before .before .before .before .before .args in let s = sheetOf (a .s .now) in
+    let first = field s objects (a .o) trackList in let n = number s objects (a .o) trackList in let number′ = c .before .before .before .before .before .before .before .before .number in
+    let pack = c .before .pack-of in let tested = all-three _ _ _ (c .before .before .if2 .taken) in
+    let in-next = all-three _ _ _ (sym (c .before .before .before .before .inside .ensures) ∙ tested .1) in
+    let in-again = all-three _ _ _ (sym (c .before .before .before .inside2 .ensures) ∙ tested .2) in
+    let e : n ≡ channels s (a .o) = sym (number′ .ensures) ∙ c .before .before .before .before .before .before .if1 .left ∙ c .before .before .before .before .before .before .before .channels .ensures in
+    let full = ap (λ (p : ℕ). field s packs p packChannels) (pack .ensures) ∙ with-pack (hasChildren s (a .o)) (number′ .result) (field s packs (packOf s (a .o)) packChannels) (number′ .ensures ∙ e) (ltb-true _ _ (tested .0)) in
+    λ next again. rw (eq-eqb _ _ e)
+    (c .odd-tracks .ensures next again (ltb-true _ _ (in-next .0)) (ltb-true _ _ (in-again .0)) (leb-true _ _ (in-next .2)) full
+    ∙ ap₂ (λ (i m : ℕ). oddTracks s i m (pack .result)) (c .before .before .before .before .before .field .ensures) (number′ .ensures)
+    ∙ ap (oddTracks s first n) (pack .ensures)
+    ∙ ap (λ (m : ℕ). any (λ i. not (eqb (packAt s (first + i)) (packOf s (a .o)))) n || any (λ k. not (eqb (howMany (λ i. eqb (ordinalAt s (first + i)) k) n) 1)) m) e)
 
 pack-of-requires-2 : tie.Need-pack-of-requires-2
 pack-of-requires-2 c κs = search needs
@@ -71,7 +76,10 @@ bad-ordinals-requires c κs = search needs
 
 returns-3 : tie.Need-returns-3
 unfolding rule14 anyEntry badChannel trackAt
-returns-3 c = λ next again. let e = (sym (c .before .before .before .before .before .before .before .before .before .number .ensures) ∙ c .before .before .before .before .before .before .before .if1 .left ∙ c .before .before .before .before .before .before .before .before .channels .ensures) in simp (eq-eqb _ _ e, c .before .any-entry .ensures, c .before .before .pack-of2 .ensures, c .bad-ordinals .ensures e)
+returns-3 c =
+    let number′ = c .before .before .before .before .before .before .before .before .before .number in
+    let channels′ = c .before .before .before .before .before .before .before .before .channels in let if1 = c .before .before .before .before .before .before .before .if1 in
+    λ next again. let e = (sym (number′ .ensures) ∙ if1 .left ∙ channels′ .ensures) in simp (eq-eqb _ _ e, c .before .any-entry .ensures, c .before .before .pack-of2 .ensures, c .bad-ordinals .ensures e)
 
 pub rule14-spec : {M : Type 1} → statement M
 rule14-spec =

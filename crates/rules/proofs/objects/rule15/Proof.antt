@@ -36,7 +36,12 @@ object-range-requires-2 c κs = search needs
 
 returns : tie.Need-returns
 unfolding rule15
-returns c = λ tops. simp (c .object-range2 .ensures, c .before .object-range .ensures, c .before .before .is-absent2 .ensures, c .before .before .before .field3 .ensures, c .before .before .before .before .is-absent .ensures, c .before .before .before .before .before .field2 .ensures, c .before .before .before .before .before .before .number .ensures, c .before .before .before .before .before .before .before .field .ensures, c .before .before .before .before .before .before .before .before .leader .ensures, c .before .before .before .before .before .before .before .before .before .top-by .ensures tops)
+returns c =
+    let top-by = c .before .before .before .before .before .before .before .before .before .top-by in
+    let leader = c .before .before .before .before .before .before .before .before .leader in
+    let field = c .before .before .before .before .before .before .before .field in let number = c .before .before .before .before .before .before .number in
+    let field2 = c .before .before .before .before .before .field2 in let is-absent = c .before .before .before .before .is-absent in
+    λ tops. simp (c .object-range2 .ensures, c .before .object-range .ensures, c .before .before .is-absent2 .ensures, c .before .before .before .field3 .ensures, is-absent .ensures, field2 .ensures, number .ensures, field .ensures, leader .ensures, top-by .ensures tops)
 
 pub rule15-spec : {M : Type 1} → statement M
 rule15-spec =

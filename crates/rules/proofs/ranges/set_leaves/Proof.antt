@@ -42,7 +42,15 @@ leaves-requires-2 c κs = search needs
 
 returns : tie.Need-returns
 unfolding setLeaves
-returns c = simp (c .leaves2 .ensures, c .before .field3 .ensures, c .before .before .object-maximum .ensures, c .before .before .before .field2 .ensures, c .before .before .before .before .object-minimum .ensures, c .before .before .before .before .before .is-absent .ensures, c .before .before .before .before .before .before .leaves .ensures, c .before .before .before .before .before .before .before .effective-maximum .ensures, c .before .before .before .before .before .before .before .before .effective-minimum .ensures, c .before .before .before .before .before .before .before .before .before .effective-value .ensures, c .before .before .before .before .before .before .before .before .before .before .field .ensures, c .before .before .before .before .before .before .before .before .before .before .before .set-value .ensures)
+returns c =
+    let set-value = c .before .before .before .before .before .before .before .before .before .before .before .set-value in
+    let field = c .before .before .before .before .before .before .before .before .before .before .field in
+    let effective-value = c .before .before .before .before .before .before .before .before .before .effective-value in
+    let effective-minimum = c .before .before .before .before .before .before .before .before .effective-minimum in
+    let effective-maximum = c .before .before .before .before .before .before .before .effective-maximum in
+    let leaves = c .before .before .before .before .before .before .leaves in let is-absent = c .before .before .before .before .before .is-absent in
+    let object-minimum = c .before .before .before .before .object-minimum in
+    simp (c .leaves2 .ensures, c .before .field3 .ensures, c .before .before .object-maximum .ensures, c .before .before .before .field2 .ensures, object-minimum .ensures, is-absent .ensures, leaves .ensures, effective-maximum .ensures, effective-minimum .ensures, effective-value .ensures, field .ensures, set-value .ensures)
 
 pub set-leaves-spec : {M : Type 1} → statement M
 set-leaves-spec =

@@ -1,9 +1,9 @@
 -- By the channels, or by ordinals that are too high or alike. Assumes nothing.
 use Prim.Native.Nat.{ℕ}
-use mathlib.Core.Path.{_≡_, sym, ap, ap₂, _∙_}
+use mathlib.Core.Path.{sym, ap, ap₂, _∙_}
 use mathlib.Core.Bool.{Bool, not, _||_}
 use lib.Dec.{eqb, leb}
-use Rattle.profile.specs.Counting.{any, howMany, twoOf}
+use Rattle.profile.specs.Counting.{any, howMany}
 use Rattle.profile.specs.Relations.{trackAt}
 use Rattle.relations.specs.steps.Tests.{anyEntry}
 use Rattle.sheet.specs.Fields.{objects, tracks, trackList, trackOrdinal}
@@ -35,7 +35,11 @@ keys-alike-requires c κs = search needs
 
 returns-2 : tie.Need-returns-2
 unfolding badChannel keysAlike anyEntry trackAt
-returns-2 c = λ e. let past : c .before .before .any-entry .result ≡ any (λ i. leb (number (sheetOf (c .before .before .before .before .before .before .args .s .now)) objects (c .before .before .before .before .before .before .args .o) trackList) (field (sheetOf (c .before .before .before .before .before .before .args .s .now)) tracks (trackAt (sheetOf (c .before .before .before .before .before .before .args .s .now)) (c .before .before .before .before .before .before .args .o) i) trackOrdinal)) (number (sheetOf (c .before .before .before .before .before .before .args .s .now)) objects (c .before .before .before .before .before .before .args .o) trackList) = c .before .before .any-entry .ensures ∙ ap (λ (m : ℕ). any (λ i. leb m (field (sheetOf (c .before .before .before .before .before .before .args .s .now)) tracks (trackAt (sheetOf (c .before .before .before .before .before .before .args .s .now)) (c .before .before .before .before .before .before .args .o) i) trackOrdinal)) (number (sheetOf (c .before .before .before .before .before .before .args .s .now)) objects (c .before .before .before .before .before .before .args .o) trackList)) (c .before .before .before .before .number .ensures) in ap₂ (λ (a b : Bool). a || b) past (c .keys-alike .ensures tt) ∙ sym (once-each (λ i. field (sheetOf (c .before .before .before .before .before .before .args .s .now)) tracks (trackAt (sheetOf (c .before .before .before .before .before .before .args .s .now)) (c .before .before .before .before .before .before .args .o) i) trackOrdinal) (number (sheetOf (c .before .before .before .before .before .before .args .s .now)) objects (c .before .before .before .before .before .before .args .o) trackList)) ∙ ap (any (λ h. not (eqb (howMany (λ i. eqb (field (sheetOf (c .before .before .before .before .before .before .args .s .now)) tracks (trackAt (sheetOf (c .before .before .before .before .before .before .args .s .now)) (c .before .before .before .before .before .before .args .o) i) trackOrdinal) h) (number (sheetOf (c .before .before .before .before .before .before .args .s .now)) objects (c .before .before .before .before .before .before .args .o) trackList)) 1))) e
+returns-2 c =
+    let a = c .before .before .before .before .before .before .args in let s = sheetOf (a .s .now) in let n = number s objects (a .o) trackList in
+    let f : ℕ → ℕ = λ i. field s tracks (trackAt s (a .o) i) trackOrdinal in
+    let past = c .before .before .any-entry .ensures ∙ ap (λ (m : ℕ). any (λ i. leb m (f i)) n) (c .before .before .before .before .number .ensures) in
+    λ e. ap₂ (λ (a b : Bool). a || b) past (c .keys-alike .ensures tt) ∙ sym (once-each f n) ∙ ap (any (λ h. not (eqb (howMany (λ i. eqb (f i) h) n) 1))) e
 
 pub bad-ordinals-spec : {M : Type 1} → statement M
 bad-ordinals-spec =

@@ -1,26 +1,28 @@
 -- No two of the sets passed differ within a group. Assumes nothing.
 use Prim.Native.Nat.{ℕ, _-_, _<_, _≤_}
-use mathlib.Core.Path.{_≡_, refl, sym, ap, ap₂, _∙_}
-use mathlib.Core.Bool.{true, false}
+use mathlib.Core.Path.{_≡_, sym, ap, ap₂, _∙_}
 use native.Mathlib.Omega.{arith}
-use borrow.Author.Count.{below-none, below-more}
-use lib.ListN.{length, replicate, length-replicate}
+use borrow.Author.Count.{below-none}
+use lib.ListN.{length, length-replicate}
 use Rattle.profile.specs.Counting.{any, twoOf}
 use Rattle.profile.specs.Relations.{leaderOf, owner, namedSet}
 use Rattle.profile.specs.Rules.{setsDiffer}
 use Rattle.profile.proofs.SumLaws.{any-one, any-nowhere}
-use Rattle.sheet.specs.Layout.{number}
+use Rattle.sheet.specs.Layout.{number, entry}
 use Rattle.sheet.specs.Fields.{programmes, setList}
 use Rattle.sheet.specs.Words.{sheetOf}
 use Rattle.tables.specs.steps.Right.{Owners, Leaders}
 use Rattle.rules.specs.steps.Loops.{twoEntries}
-use Rattle.rules.proofs.DifferLaws.{differ, Firsts, Agree, firsts-none, firsts-more, agree-next, found-next}
+use Rattle.rules.proofs.DifferLaws.{differ, Firsts, Agree, firsts-none, firsts-next, found-next}
 use Rattle.rules.proofs.repeats.differ_from_first.Statement.{statement}
 use Rattle.rules.proofs.repeats.differ_from_first.Tie as tie
 use borrow.Author.Needs.{needs}
 
 abbrev Inv-loop : tie.InvT-loop
-Inv-loop s owners leaders p n first₀ j₀ first j = (j ≤ n) × (length first ≡ 2048) × (Owners (sheetOf s) owners → Leaders (sheetOf s) leaders → Firsts (sheetOf s) (λ h. namedSet (sheetOf s) p h) (λ h. leaderOf (sheetOf s) (owner (sheetOf s) (namedSet (sheetOf s) p h))) first j × Agree (sheetOf s) (λ h. namedSet (sheetOf s) p h) (λ h. leaderOf (sheetOf s) (owner (sheetOf s) (namedSet (sheetOf s) p h))) j)
+Inv-loop s owners leaders p n first₀ j₀ first j =
+    (j ≤ n)
+    × (length first ≡ 2048)
+    × (Owners (sheetOf s) owners → Leaders (sheetOf s) leaders → Firsts (sheetOf s) (namedSet (sheetOf s) p) (λ h. leaderOf (sheetOf s) (owner (sheetOf s) (namedSet (sheetOf s) p h))) first j × Agree (sheetOf s) (namedSet (sheetOf s) p) (λ h. leaderOf (sheetOf s) (owner (sheetOf s) (namedSet (sheetOf s) p h))) j)
 
 abbrev μ-loop : tie.MeasureT-loop
 μ-loop s owners leaders p n first₀ j₀ first j = n - j
@@ -29,7 +31,9 @@ number-requires : tie.Need-number-requires Inv-loop μ-loop
 number-requires c κs = search needs
 
 loop-holds : tie.Need-loop-holds Inv-loop μ-loop
-loop-holds c = (search needs, length-replicate {A = ℕ} 2048 0, λ owners leaders. (firsts-none (sheetOf (c .before .before .before .before .args .s .now)) (λ i. namedSet (sheetOf (c .before .before .before .before .args .s .now)) (c .before .before .before .before .args .p) i) (λ i. leaderOf (sheetOf (c .before .before .before .before .args .s .now)) (owner (sheetOf (c .before .before .before .before .args .s .now)) (namedSet (sheetOf (c .before .before .before .before .args .s .now)) (c .before .before .before .before .args .p) i))) 2048, below-none _))
+loop-holds c =
+    let a = c .before .before .before .before .args in let s = sheetOf (a .s .now) in
+    (search needs, length-replicate {A = ℕ} 2048 0, λ owners leaders. (firsts-none s (namedSet s (a .p)) (λ i. leaderOf s (owner s (namedSet s (a .p) i))) 2048, below-none _))
 
 named-set-requires : tie.Need-named-set-requires Inv-loop μ-loop
 named-set-requires c κs = search needs
@@ -59,8 +63,16 @@ sets-differ-requires : tie.Need-sets-differ-requires Inv-loop μ-loop
 sets-differ-requires c κs = search needs
 
 returns-2 : tie.Need-returns-2 Inv-loop μ-loop
-unfolding twoEntries twoOf namedSet
-returns-2 c = λ owners leaders. sym (any-one (λ m. any (λ i. differ (sheetOf (c .before .before .before .before .before .before .before .before .before .before .before .before .before .before .before .before .args .s .now)) (λ i. namedSet (sheetOf (c .before .before .before .before .before .before .before .before .before .before .before .before .before .before .before .before .args .s .now)) (c .before .before .before .before .before .before .before .before .before .before .before .before .before .before .before .before .args .p) i) (λ i. leaderOf (sheetOf (c .before .before .before .before .before .before .before .before .before .before .before .before .before .before .before .before .args .s .now)) (owner (sheetOf (c .before .before .before .before .before .before .before .before .before .before .before .before .before .before .before .before .args .s .now)) (namedSet (sheetOf (c .before .before .before .before .before .before .before .before .before .before .before .before .before .before .before .before .args .s .now)) (c .before .before .before .before .before .before .before .before .before .before .before .before .before .before .before .before .args .p) i))) i m) m) (number (sheetOf (c .before .before .before .before .before .before .before .before .before .before .before .before .before .before .before .before .args .s .now)) programmes (c .before .before .before .before .before .before .before .before .before .before .before .before .before .before .before .before .args .p) setList) (c .before .before .before .before .before .before .before .before .before .before .before .loop .j) (omega (arith, c .before .before .before .before .before .before .before .before .before .before .loop-test .taken, c .before .before .before .before .before .before .before .before .before .before .before .before .number .ensures)) (found-next (sheetOf (c .before .before .before .before .before .before .before .before .before .before .before .before .before .before .before .before .args .s .now)) (λ i. namedSet (sheetOf (c .before .before .before .before .before .before .before .before .before .before .before .before .before .before .before .before .args .s .now)) (c .before .before .before .before .before .before .before .before .before .before .before .before .before .before .before .before .args .p) i) (λ i. leaderOf (sheetOf (c .before .before .before .before .before .before .before .before .before .before .before .before .before .before .before .before .args .s .now)) (owner (sheetOf (c .before .before .before .before .before .before .before .before .before .before .before .before .before .before .before .before .args .s .now)) (namedSet (sheetOf (c .before .before .before .before .before .before .before .before .before .before .before .before .before .before .before .before .args .s .now)) (c .before .before .before .before .before .before .before .before .before .before .before .before .before .before .before .before .args .p) i))) (c .before .before .before .before .before .before .before .before .before .before .before .loop .first) (c .before .before .before .before .before .before .before .before .before .before .before .loop .j) (c .before .before .before .before .before .before .before .leader-by .result) (c .before .before .before .before .first-of .result) (c .before .before .before .before .before .before .before .before .before .before .before .loop .inv .2 owners leaders .0) (c .before .before .before .before .before .before .before .leader-by .ensures leaders ∙ ap (leaderOf (sheetOf (c .before .before .before .before .before .before .before .before .before .before .before .before .before .before .before .before .args .s .now))) (c .before .before .before .before .before .before .before .before .owner-by .ensures owners ∙ ap (owner (sheetOf (c .before .before .before .before .before .before .before .before .before .before .before .before .before .before .before .before .args .s .now))) (c .before .before .before .before .before .before .before .before .before .named-set .ensures))) (omega (arith, c .before .before .before .before .before .before .before .before .before .before .before .loop .inv .1, c .before .before .before .before .before .before .if1 .left)) (c .before .before .before .before .first-of .ensures .1) (c .before .before .before .before .before .before .before .before .before .before .before .loop .inv .2 owners leaders .1) (sym (c .before .sets-differ .ensures ∙ ap₂ (setsDiffer (sheetOf (c .before .before .before .before .before .before .before .before .before .before .before .before .before .before .before .before .args .s .now))) (c .before .before .named-set2 .ensures) (c .before .before .before .before .before .before .before .before .before .named-set .ensures)) ∙ c .if2 .taken)))
+unfolding twoEntries twoOf namedSet entry
+returns-2 c =
+    let a = c .before .before .before .before .before .before .before .before .before .before .before .before .before .before .before .before .args in let s = sheetOf (a .s .now) in
+    let e = namedSet s (a .p) in let g : ℕ → ℕ = λ i. leaderOf s (owner s (e i)) in let l = c .before .before .before .before .before .before .before .before .before .before .before .loop in
+    let set = c .before .before .before .before .before .before .before .before .before .named-set .ensures in
+    let lead = c .before .before .before .before .before .before .before .leader-by in let place = c .before .before .before .before .first-of in
+    let inside : lead .result < length (l .first) = omega (arith, l .inv .1, c .before .before .before .before .before .before .if1 .left) in
+    let test = sym (c .before .sets-differ .ensures ∙ ap₂ (setsDiffer s) (c .before .before .named-set2 .ensures) set) in
+    let below : l .j < number s programmes (a .p) setList = omega (arith, c .before .before .before .before .before .before .before .before .before .before .loop-test .taken, c .before .before .before .before .before .before .before .before .before .before .before .before .number .ensures) in
+    λ owners leaders. sym (any-one (λ m. any (λ i. differ s e g i m) m) _ (l .j) below (found-next s e g (l .first) (l .j) (lead .result) (place .result) (l .inv .2 owners leaders .0) (lead .ensures leaders ∙ ap (leaderOf s) (c .before .before .before .before .before .before .before .before .owner-by .ensures owners ∙ ap (owner s) set)) inside (place .ensures .1) (l .inv .2 owners leaders .1) (test ∙ c .if2 .taken)))
 
 add-j : tie.Need-add-j Inv-loop μ-loop
 add-j c = search needs
@@ -69,11 +81,20 @@ loop-less : tie.Need-loop-less Inv-loop μ-loop
 loop-less c = search needs
 
 loop-again : tie.Need-loop-again Inv-loop μ-loop
-loop-again c = (search needs, c .before .before .before .before .first-of .ensures .0, λ owners leaders. (firsts-more (sheetOf (c .before .before .before .before .before .before .before .before .before .before .before .before .before .before .before .before .args .s .now)) (λ i. namedSet (sheetOf (c .before .before .before .before .before .before .before .before .before .before .before .before .before .before .before .before .args .s .now)) (c .before .before .before .before .before .before .before .before .before .before .before .before .before .before .before .before .args .p) i) (λ i. leaderOf (sheetOf (c .before .before .before .before .before .before .before .before .before .before .before .before .before .before .before .before .args .s .now)) (owner (sheetOf (c .before .before .before .before .before .before .before .before .before .before .before .before .before .before .before .before .args .s .now)) (namedSet (sheetOf (c .before .before .before .before .before .before .before .before .before .before .before .before .before .before .before .before .args .s .now)) (c .before .before .before .before .before .before .before .before .before .before .before .before .before .before .before .before .args .p) i))) (c .before .before .before .before .before .before .before .before .before .before .before .loop .first) (c .before .before .before .before .before .before .before .before .before .before .before .loop .j) (c .before .before .before .before .before .before .before .leader-by .result) (c .before .before .before .before .first-of .result) (c .before .before .before .before .before .before .before .before .before .before .before .loop .inv .2 owners leaders .0) (c .before .before .before .before .before .before .before .leader-by .ensures leaders ∙ ap (leaderOf (sheetOf (c .before .before .before .before .before .before .before .before .before .before .before .before .before .before .before .before .args .s .now))) (c .before .before .before .before .before .before .before .before .owner-by .ensures owners ∙ ap (owner (sheetOf (c .before .before .before .before .before .before .before .before .before .before .before .before .before .before .before .before .args .s .now))) (c .before .before .before .before .before .before .before .before .before .named-set .ensures))) (omega (arith, c .before .before .before .before .before .before .before .before .before .before .before .loop .inv .1, c .before .before .before .before .before .before .if1 .left)) (c .before .before .before .before .first-of .ensures .1) (c .before .before .before .before .first-of .last .0) (c .before .before .before .before .first-of .ensures .0 ∙ sym (c .before .before .before .before .before .before .before .before .before .before .before .loop .inv .1)) (c .before .before .before .before .first-of .ensures .2), below-more (λ m. any (λ i. differ (sheetOf (c .before .before .before .before .before .before .before .before .before .before .before .before .before .before .before .before .args .s .now)) (λ i. namedSet (sheetOf (c .before .before .before .before .before .before .before .before .before .before .before .before .before .before .before .before .args .s .now)) (c .before .before .before .before .before .before .before .before .before .before .before .before .before .before .before .before .args .p) i) (λ i. leaderOf (sheetOf (c .before .before .before .before .before .before .before .before .before .before .before .before .before .before .before .before .args .s .now)) (owner (sheetOf (c .before .before .before .before .before .before .before .before .before .before .before .before .before .before .before .before .args .s .now)) (namedSet (sheetOf (c .before .before .before .before .before .before .before .before .before .before .before .before .before .before .before .before .args .s .now)) (c .before .before .before .before .before .before .before .before .before .before .before .before .before .before .before .before .args .p) i))) i m) m ≡ false) (c .before .before .before .before .before .before .before .before .before .before .before .loop .j) (c .before .before .before .before .before .before .before .before .before .before .before .loop .inv .2 owners leaders .1) (agree-next (sheetOf (c .before .before .before .before .before .before .before .before .before .before .before .before .before .before .before .before .args .s .now)) (λ i. namedSet (sheetOf (c .before .before .before .before .before .before .before .before .before .before .before .before .before .before .before .before .args .s .now)) (c .before .before .before .before .before .before .before .before .before .before .before .before .before .before .before .before .args .p) i) (λ i. leaderOf (sheetOf (c .before .before .before .before .before .before .before .before .before .before .before .before .before .before .before .before .args .s .now)) (owner (sheetOf (c .before .before .before .before .before .before .before .before .before .before .before .before .before .before .before .before .args .s .now)) (namedSet (sheetOf (c .before .before .before .before .before .before .before .before .before .before .before .before .before .before .before .before .args .s .now)) (c .before .before .before .before .before .before .before .before .before .before .before .before .before .before .before .before .args .p) i))) (c .before .before .before .before .before .before .before .before .before .before .before .loop .first) (c .before .before .before .before .before .before .before .before .before .before .before .loop .j) (c .before .before .before .before .before .before .before .leader-by .result) (c .before .before .before .before .first-of .result) (c .before .before .before .before .before .before .before .before .before .before .before .loop .inv .2 owners leaders .0) (c .before .before .before .before .before .before .before .leader-by .ensures leaders ∙ ap (leaderOf (sheetOf (c .before .before .before .before .before .before .before .before .before .before .before .before .before .before .before .before .args .s .now))) (c .before .before .before .before .before .before .before .before .owner-by .ensures owners ∙ ap (owner (sheetOf (c .before .before .before .before .before .before .before .before .before .before .before .before .before .before .before .before .args .s .now))) (c .before .before .before .before .before .before .before .before .before .named-set .ensures))) (omega (arith, c .before .before .before .before .before .before .before .before .before .before .before .loop .inv .1, c .before .before .before .before .before .before .if1 .left)) (c .before .before .before .before .first-of .ensures .1) (c .before .before .before .before .before .before .before .before .before .before .before .loop .inv .2 owners leaders .1) (sym (c .before .sets-differ .ensures ∙ ap₂ (setsDiffer (sheetOf (c .before .before .before .before .before .before .before .before .before .before .before .before .before .before .before .before .args .s .now))) (c .before .before .named-set2 .ensures) (c .before .before .before .before .before .before .before .before .before .named-set .ensures)) ∙ c .if2 .left))))
+loop-again c =
+    let a = c .before .before .before .before .before .before .before .before .before .before .before .before .before .before .before .before .args in let s = sheetOf (a .s .now) in
+    let e = namedSet s (a .p) in let g : ℕ → ℕ = λ i. leaderOf s (owner s (e i)) in let l = c .before .before .before .before .before .before .before .before .before .before .before .loop in
+    let set = c .before .before .before .before .before .before .before .before .before .named-set .ensures in
+    let lead = c .before .before .before .before .before .before .before .leader-by in let place = c .before .before .before .before .first-of in
+    let inside : lead .result < length (l .first) = omega (arith, l .inv .1, c .before .before .before .before .before .before .if1 .left) in
+    let test = sym (c .before .sets-differ .ensures ∙ ap₂ (setsDiffer s) (c .before .before .named-set2 .ensures) set) in
+    (search needs, place .ensures .0, λ owners leaders. firsts-next s e g (l .first) (l .j) (lead .result) (place .result) (l .inv .2 owners leaders .0) (lead .ensures leaders ∙ ap (leaderOf s) (c .before .before .before .before .before .before .before .before .owner-by .ensures owners ∙ ap (owner s) set)) inside (place .ensures .1) (l .inv .2 owners leaders .1) (test ∙ c .if2 .left) (place .last .0) (place .ensures .0 ∙ sym (l .inv .1)) (place .ensures .2))
 
 returns-3 : tie.Need-returns-3 Inv-loop μ-loop
-unfolding twoEntries twoOf namedSet
-returns-3 c = λ owners leaders. sym (any-nowhere (λ m. any (λ i. differ (sheetOf (c .before .before .before .before .before .before .args .s .now)) (λ i. namedSet (sheetOf (c .before .before .before .before .before .before .args .s .now)) (c .before .before .before .before .before .before .args .p) i) (λ i. leaderOf (sheetOf (c .before .before .before .before .before .before .args .s .now)) (owner (sheetOf (c .before .before .before .before .before .before .args .s .now)) (namedSet (sheetOf (c .before .before .before .before .before .before .args .s .now)) (c .before .before .before .before .before .before .args .p) i))) i m) m) (number (sheetOf (c .before .before .before .before .before .before .args .s .now)) programmes (c .before .before .before .before .before .before .args .p) setList) (λ m l. (c .before .loop .inv .2 owners leaders .1) m (omega (arith, l, c .loop-test .left, c .before .before .number .ensures))))
+unfolding twoEntries twoOf namedSet entry
+returns-3 c =
+    let a = c .before .before .before .before .before .before .args in let s = sheetOf (a .s .now) in let e = namedSet s (a .p) in let g : ℕ → ℕ = λ i. leaderOf s (owner s (e i)) in
+    λ owners leaders. sym (any-nowhere (λ m. any (λ i. differ s e g i m) m) (number s programmes (a .p) setList) (λ m l. c .before .loop .inv .2 owners leaders .1 m (omega (arith, l, c .loop-test .left, c .before .before .number .ensures))))
 
 pub differ-from-first-spec : {M : Type 1} → statement M
 differ-from-first-spec =

@@ -1,8 +1,8 @@
 -- The place that stands there, or this one. Assumes nothing.
-use mathlib.Core.Path.{_≡_, refl, _∙_}
+use mathlib.Core.Path.{_∙_}
 use native.Mathlib.Omega.{arith}
-use borrow.Author.Tests.{eq-eqb, ne-eqb}
-use lib.ListN.{length, length-set}
+use borrow.Author.Tests.{ne-eqb}
+use lib.ListN.{length-set}
 use Rattle.tables.specs.steps.Right.{told}
 use Rattle.rules.proofs.DifferLaws.{first-written, first-kept}
 use borrow.Author.Needs.{needs}

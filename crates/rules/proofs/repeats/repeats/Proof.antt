@@ -1,6 +1,7 @@
 -- By pairs or by a table. Assumes nothing.
 use Rattle.profile.specs.Rules.{repeats}
 use Rattle.rules.specs.steps.Loops.{twoEntries, keysAlike}
+use Rattle.sheet.specs.Layout.{entry}
 use borrow.Author.Needs.{needs}
 use Rattle.rules.proofs.repeats.repeats.Statement.{statement}
 use Rattle.rules.proofs.repeats.repeats.Tie as tie
@@ -14,6 +15,9 @@ slice-aggregate-two-entries c = search needs
 slice-aggregate-two-entries-2 : tie.Need-slice-aggregate-two-entries-2
 slice-aggregate-two-entries-2 c = search needs
 
+field-requires : tie.Need-field-requires
+field-requires c κs = search needs
+
 two-entries-requires : tie.Need-two-entries-requires
 two-entries-requires c κs = search needs
 
@@ -24,8 +28,8 @@ keys-alike-requires : tie.Need-keys-alike-requires
 keys-alike-requires c κs = search needs
 
 returns : tie.Need-returns
-unfolding repeats twoEntries
-returns c = c .two-entries .ensures tt
+unfolding repeats twoEntries entry
+returns c = rw (c .before .field .ensures, c .before .before .before .before .before .number .ensures) at (c .two-entries .ensures tt)
 
 returns-2 : tie.Need-returns-2
 unfolding repeats keysAlike
@@ -38,6 +42,7 @@ repeats-spec =
     number-requires
     slice-aggregate-two-entries
     slice-aggregate-two-entries-2
+    field-requires
     two-entries-requires
     slice-aggregate-keys-alike
     keys-alike-requires

@@ -1,7 +1,7 @@
 -- The place is marked. Assumes nothing.
-use mathlib.Core.Path.{_≡_, refl, _∙_}
+use mathlib.Core.Path.{refl, _∙_}
 use native.Mathlib.Omega.{arith}
-use lib.ListN.{length, length-set}
+use lib.ListN.{length-set}
 use Rattle.rules.proofs.SeenLaws.{see-standing}
 use borrow.Author.Needs.{needs}
 use Rattle.rules.proofs.repeats.see.Statement.{statement}

@@ -1,20 +1,20 @@
 -- What stands from x on is right. Assumes nothing.
 use Prim.Native.Nat.{suc, _-_, _≤_}
-use mathlib.Core.Path.{_≡_, refl, ap, _∙_}
-use mathlib.Core.Bool.{Bool, cond}
+use mathlib.Core.Path.{_≡_, refl, _∙_}
 use native.Mathlib.Omega.{arith}
 use lib.ListN.{length}
 use Rattle.sheet.specs.Words.{sheetOf}
 use Rattle.sheet.specs.Layout.{count}
 use Rattle.sheet.specs.Fields.{references}
 use Rattle.runs.specs.steps.Runs.{Next, referenceTest}
-use Rattle.runs.proofs.RunLaws.{next-start, next-more, Filled, filled-start, filled-more}
+use Rattle.runs.proofs.RunLaws.{next-start, next-more, FilledFrom, filled-start, filled-more}
 use borrow.Author.Needs.{needs}
 use Rattle.runs.proofs.fill.fill_next.Statement.{statement}
 use Rattle.runs.proofs.fill.fill_next.Tie as tie
 
 abbrev Inv-loop : tie.InvT-loop
-Inv-loop s test table₀ x₀ next₀ table x next = (x ≤ (count (sheetOf s) references)) × (length table ≡ length table₀) × Next (referenceTest (sheetOf s) test) (count (sheetOf s) references) x next × Filled (Next (referenceTest (sheetOf s) test) (count (sheetOf s) references)) (count (sheetOf s) references) x table
+Inv-loop s test table₀ x₀ next₀ table x next =
+    let p = referenceTest (sheetOf s) test in let m = count (sheetOf s) references in (x ≤ m) × (length table ≡ length table₀) × Next p m x next × FilledFrom (Next p m) m x table
 
 abbrev μ-loop : tie.MeasureT-loop
 μ-loop s test table₀ x₀ next₀ table x next = x
@@ -23,7 +23,9 @@ count-requires : tie.Need-count-requires Inv-loop μ-loop
 count-requires c κs = search needs
 
 loop-holds : tie.Need-loop-holds Inv-loop μ-loop
-loop-holds c = (omega (arith, c .count .ensures), refl, rw (c .count .ensures) (next-start (count (sheetOf (c .before .before .before .args .s .now)) references) (referenceTest (sheetOf (c .before .before .before .args .s .now)) (c .before .before .before .args .test)) (count (sheetOf (c .before .before .before .args .s .now)) references) (omega arith)), rw (c .count .ensures) (filled-start (Next (referenceTest (sheetOf (c .before .before .before .args .s .now)) (c .before .before .before .args .test)) (count (sheetOf (c .before .before .before .args .s .now)) references)) (count (sheetOf (c .before .before .before .args .s .now)) references) (c .before .before .before .args .table .now)))
+loop-holds c =
+    let a = c .before .before .before .args in let p = referenceTest (sheetOf (a .s .now)) (a .test) in let m = count (sheetOf (a .s .now)) references in
+    rw (c .count .ensures) (omega arith, refl, next-start m p m (omega arith), filled-start (Next p m) m (a .table .now))
 
 sub-y : tie.Need-sub-y Inv-loop μ-loop
 sub-y c = search needs
@@ -44,11 +46,13 @@ loop-less : tie.Need-loop-less Inv-loop μ-loop
 loop-less c = search needs
 
 loop-again : tie.Need-loop-again Inv-loop μ-loop
-loop-again c = let x = c .before .before .before .before .before .before .before .loop .x - 1 in
-    let e : suc x ≡ c .before .before .before .before .before .before .before .loop .x = omega (arith, c .before .before .before .before .before .before .loop-test .taken) in
-    let v : c .before .before .before .before .here-or .result ≡ cond ((referenceTest (sheetOf (c .before .before .before .before .before .before .before .before .before .before .before .args .s .now)) (c .before .before .before .before .before .before .before .before .before .before .before .args .test)) x) x (c .before .before .before .before .before .before .before .loop .next) = c .before .before .before .before .here-or .ensures ∙ ap (λ (b : Bool). cond b x (c .before .before .before .before .before .before .before .loop .next)) (c .before .before .before .before .before .reference-test .ensures) in
-    let n : Next (referenceTest (sheetOf (c .before .before .before .before .before .before .before .before .before .before .before .args .s .now)) (c .before .before .before .before .before .before .before .before .before .before .before .args .test)) (count (sheetOf (c .before .before .before .before .before .before .before .before .before .before .before .args .s .now)) references) x (c .before .before .before .before .here-or .result) = rw v (next-more (count (sheetOf (c .before .before .before .before .before .before .before .before .before .before .before .args .s .now)) references) x (omega (arith, c .before .before .before .before .before .before .before .loop .inv .0)) (referenceTest (sheetOf (c .before .before .before .before .before .before .before .before .before .before .before .args .s .now)) (c .before .before .before .before .before .before .before .before .before .before .before .args .test)) (c .before .before .before .before .before .before .before .loop .next) (rw e (c .before .before .before .before .before .before .before .loop .inv .2))) in
-    (omega (arith, c .before .before .before .before .before .before .before .loop .inv .0), c .before .before .mark-at .ensures .0 ∙ c .before .before .before .before .before .before .before .loop .inv .1, n, filled-more (Next (referenceTest (sheetOf (c .before .before .before .before .before .before .before .before .before .before .before .args .s .now)) (c .before .before .before .before .before .before .before .before .before .before .before .args .test)) (count (sheetOf (c .before .before .before .before .before .before .before .before .before .before .before .args .s .now)) references)) (count (sheetOf (c .before .before .before .before .before .before .before .before .before .before .before .args .s .now)) references) x (c .before .before .before .before .here-or .result) (c .before .before .before .before .before .before .before .loop .table) (c .before .before .mark-at .last .0) (c .before .before .mark-at .ensures .0) (rw e (c .before .before .before .before .before .before .before .loop .inv .3)) n (c .before .before .mark-at .ensures .1))
+loop-again c =
+    let a = c .before .before .before .before .before .before .before .before .before .before .before .args in let p = referenceTest (sheetOf (a .s .now)) (a .test) in
+    let m = count (sheetOf (a .s .now)) references in let l = c .before .before .before .before .before .before .before .loop in let x = l .x - 1 in
+    let here = c .before .before .before .before .here-or in let at = c .before .before .mark-at in
+    let e : suc x ≡ l .x = omega (arith, c .before .before .before .before .before .before .loop-test .taken) in let i : suc x ≤ m = omega (arith, l .inv .0) in
+    let n : Next p m x (here .result) = rw (here .ensures, c .before .before .before .before .before .reference-test .ensures) (next-more m x i p (l .next) (rw e (l .inv .2))) in
+    (omega (arith, i), at .ensures .0 ∙ l .inv .1, n, filled-more (Next p m) m x (here .result) (l .table) (at .last .0) (at .ensures .0) (rw e (l .inv .3)) n (at .ensures .1))
 
 same-length : tie.Need-same-length Inv-loop μ-loop
 same-length c = c .before .loop .inv .1

@@ -24,7 +24,11 @@ same-length : tie.Need-same-length
 same-length c = search needs
 
 returns : tie.Need-returns
-returns c = (length-set (c .before .args .later .now) (c .before .args .e) (c .before .args .x) ∙ c .before .pre, refl, λ z l. set-standing (c .before .args .later .now) (c .before .args .e) (c .before .args .x) (λ y. cond (eqb (c .before .args .e) y) (c .before .args .x) (getD (c .before .args .later .now) y 0)) (λ y k. refl) z (rw (length-set (c .before .args .later .now) (c .before .args .e) (c .before .args .x)) at l))
+returns c = (
+  length-set (c .before .args .later .now) (c .before .args .e) (c .before .args .x) ∙ c .before .pre,
+  refl,
+  λ z l. set-standing (c .before .args .later .now) (c .before .args .e) (c .before .args .x) (λ y. cond (eqb (c .before .args .e) y) (c .before .args .x) (getD (c .before .args .later .now) y 0)) (λ y k. refl) z (rw (length-set (c .before .args .later .now) (c .before .args .e) (c .before .args .x)) at l),
+)
 
 pub keep-spec : {M : Type 1} → statement M
 keep-spec =

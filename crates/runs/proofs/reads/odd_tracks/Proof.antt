@@ -1,6 +1,6 @@
 -- No track, or the first one and what the tables tell of the others. Assumes nothing.
-use Prim.Native.Nat.{ℕ, _-_, _<_}
-use mathlib.Core.Path.{_≡_, refl, _∙_}
+use Prim.Native.Nat.{_-_, _<_}
+use mathlib.Core.Path.{refl, _∙_}
 use native.Mathlib.Omega.{arith}
 use Rattle.sheet.specs.Words.{sheetOf}
 use Rattle.sheet.specs.Layout.{field}
@@ -36,7 +36,10 @@ among-requires-2 c κs = search needs
 
 returns-2 : tie.Need-returns-2
 unfolding oddTracks
-returns-2 c = λ strays ordinals a b l full. let some : 0 < c .before .before .before .before .before .before .before .before .before .args .n = omega (arith, c .before .before .before .before .before .if1 .left) in rw (c .before .before .before .field .ensures, c .before .before .field2 .ensures, c .before .before .before .before .reference .ensures) (tracks-run (packAt (sheetOf (c .before .before .before .before .before .before .before .before .before .args .s .now))) (ordinalAt (sheetOf (c .before .before .before .before .before .before .before .before .before .args .s .now))) (λ q. field (sheetOf (c .before .before .before .before .before .before .before .before .before .args .s .now)) packs q packChannels) (c .before .before .before .before .before .before .before .before .before .args .first) (c .before .before .before .before .before .before .before .before .before .args .pack) (c .before .before .before .before .before .before .before .before .before .args .n) (c .before .before .before .before .before .before .before .before .before .args .n - 1) (omega (arith, some)) full (c .before .among .result) (c .among2 .result) (c .before .among .ensures a ∙ strays (c .before .before .before .before .before .before .before .before .before .args .first) a (omega (arith, some, l)) (c .before .before .before .before .before .before .before .before .before .args .n - 1) (omega (arith, l))) (c .among2 .ensures b ∙ ordinals (c .before .before .before .before .before .before .before .before .before .args .first) b (omega (arith, some, l)) (c .before .before .before .before .before .before .before .before .before .args .n) l))
+returns-2 c =
+    let a′ = c .before .before .before .before .before .before .before .before .before .args in let if1 = c .before .before .before .before .before .if1 in
+    let reference = c .before .before .before .before .reference in let s = sheetOf (a′ .s .now) in
+    λ strays ordinals a b l full. let some : 0 < a′ .n = omega (arith, if1 .left) in rw (c .before .before .before .field .ensures, c .before .before .field2 .ensures, reference .ensures) (tracks-run (packAt s) (ordinalAt s) (λ q. field s packs q packChannels) (a′ .first) (a′ .pack) (a′ .n) (a′ .n - 1) (omega (arith, some)) full (c .before .among .result) (c .among2 .result) (c .before .among .ensures a ∙ strays (a′ .first) a (omega (arith, some, l)) (a′ .n - 1) (omega (arith, l))) (c .among2 .ensures b ∙ ordinals (a′ .first) b (omega (arith, some, l)) (a′ .n) l))
 
 pub odd-tracks-spec : {M : Type 1} → statement M
 odd-tracks-spec =

@@ -1,5 +1,5 @@
 -- The place has one more, or is past the end. Assumes nothing.
-use Prim.Native.Nat.{_+_, _-_, _<_}
+use Prim.Native.Nat.{_+_, _<_}
 use mathlib.Core.Path.{refl}
 use native.Mathlib.Omega.{arith}
 use lib.ListN.{getD, length-set}

@@ -1,5 +1,5 @@
 -- The cover of all indices counts what all runs name. Assumes nothing.
-use Prim.Native.Nat.{ℕ, _-_}
+use Prim.Native.Nat.{ℕ}
 use mathlib.Core.Path.{ap, _∙_}
 use native.Mathlib.Omega.{arith}
 use lib.ListN.{getD, length-replicate}
@@ -31,13 +31,20 @@ slice-aggregate-count-indices-2 : tie.Need-slice-aggregate-count-indices-2
 slice-aggregate-count-indices-2 c = search needs
 
 count-indices-requires : tie.Need-count-indices-requires
-count-indices-requires c κs = (omega (arith, c .before .before .before .before .before .before .before .before .before .before .before .pre .0, c .before .before .before .before .before .before .before .tally .ensures .0 ∙ length-replicate {A = ℕ} 32768 0), omega (arith, c .before .before .before .before .before .before .before .before .before .before .before .pre .0, c .before .before .before .before .tally2 .ensures .0 ∙ length-replicate {A = ℕ} 32768 0), c .before .before .before .before .before .before .before .tally .ensures .1, c .before .before .before .before .tally2 .ensures .1)
+count-indices-requires c κs =
+    let pre = c .before .before .before .before .before .before .before .before .before .before .before .pre in
+    let begins = c .before .before .before .before .before .before .before .tally .ensures in let ends = c .before .before .before .before .tally2 .ensures in
+    let long = length-replicate {A = ℕ} 32768 0 in (omega (arith, pre .0, begins .0 ∙ long), omega (arith, pre .0, ends .0 ∙ long), begins .1, ends .1)
 
 same-length : tie.Need-same-length
 same-length c = search needs
 
 returns : tie.Need-returns
-returns c = (c .before .before .count-indices .ensures .0, λ x l. c .before .before .count-indices .ensures .1 x l ∙ ap (λ (n : ℕ). repeat (marked Count) n (getD (c .before .before .before .before .before .before .before .before .before .before .before .before .before .before .args .table .now) x 0)) (named-cover (sheetOf (c .before .before .before .before .before .before .before .before .before .before .before .before .before .before .args .s .now)) (c .before .before .before .before .before .before .before .before .before .before .before .before .before .before .args .kind) (c .before .before .before .before .before .before .before .before .before .before .before .before .before .before .args .m) (c .before .before .before .before .before .before .before .before .before .before .before .before .before .before .pre .1) x))
+returns c =
+    let a = c .before .before .before .before .before .before .before .before .before .before .before .before .before .before .args in
+    let counted = c .before .before .count-indices .ensures in
+    let named = named-cover (sheetOf (a .s .now)) (a .kind) (a .m) (c .before .before .before .before .before .before .before .before .before .before .before .before .before .before .pre .1) in
+    (counted .0, λ x l. counted .1 x l ∙ ap (λ (n : ℕ). repeat (marked Count) n (getD (a .table .now) x 0)) (named x))
 
 pub count-cover-spec : {M : Type 1} → statement M
 count-cover-spec =

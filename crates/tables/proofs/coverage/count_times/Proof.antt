@@ -1,5 +1,4 @@
 -- The place is counted, or past the end. Assumes nothing.
-use Prim.Native.Nat.{_-_}
 use mathlib.Core.Path.{refl}
 use lib.ListN.{length-set}
 use Rattle.tables.specs.declared.Mark.the-variants.{Count}

@@ -3,45 +3,6 @@ use borrow.Author.Needs.{needs}
 use Rattle.tables.proofs.coverage.named_at.Statement.{statement}
 use Rattle.tables.proofs.coverage.named_at.Tie as tie
 
-enum-told : tie.Need-enum-told
-enum-told c = search needs
-
-enum-told-2 : tie.Need-enum-told-2
-enum-told-2 c = search needs
-
-reference-requires : tie.Need-reference-requires
-reference-requires c κs = search needs
-
-enum-told-3 : tie.Need-enum-told-3
-enum-told-3 c = search needs
-
-reference-requires-2 : tie.Need-reference-requires-2
-reference-requires-2 c κs = search needs
-
-enum-told-4 : tie.Need-enum-told-4
-enum-told-4 c = search needs
-
-reference-requires-3 : tie.Need-reference-requires-3
-reference-requires-3 c κs = search needs
-
-enum-told-5 : tie.Need-enum-told-5
-enum-told-5 c = search needs
-
-reference-requires-4 : tie.Need-reference-requires-4
-reference-requires-4 c κs = search needs
-
-field-requires : tie.Need-field-requires
-field-requires c κs = search needs
-
-enum-told-6 : tie.Need-enum-told-6
-enum-told-6 c = search needs
-
-reference-requires-5 : tie.Need-reference-requires-5
-reference-requires-5 c κs = search needs
-
-enum-told-7 : tie.Need-enum-told-7
-enum-told-7 c = search needs
-
 returns : tie.Need-returns
 returns c = simp (c .enum-told .given .1)
 
@@ -67,19 +28,19 @@ pub named-at-spec : {M : Type 1} → statement M
 named-at-spec =
     tie.close
     (tie.spec
-    enum-told
-    enum-told-2
-    reference-requires
-    enum-told-3
-    reference-requires-2
-    enum-told-4
-    reference-requires-3
-    enum-told-5
-    reference-requires-4
-    field-requires
-    enum-told-6
-    reference-requires-5
-    enum-told-7
+    (λ c. search needs)
+    (λ c. search needs)
+    (λ c κs. search needs)
+    (λ c. search needs)
+    (λ c κs. search needs)
+    (λ c. search needs)
+    (λ c κs. search needs)
+    (λ c. search needs)
+    (λ c κs. search needs)
+    (λ c κs. search needs)
+    (λ c. search needs)
+    (λ c κs. search needs)
+    (λ c. search needs)
     returns
     returns-2
     returns-3

@@ -1,13 +1,12 @@
 -- The records passed are counted at their edges. Assumes nothing.
 use Prim.Native.Nat.{_-_, _<_, _≤_}
-use mathlib.Core.Path.{_≡_, refl, ap, _∙_}
+use mathlib.Core.Path.{_≡_, refl}
 use native.Mathlib.Omega.{arith}
 use lib.Dec.{eqb}
-use lib.ListN.{length}
 use Rattle.sheet.specs.Words.{sheetOf}
 use Rattle.profile.specs.Counting.{howMany}
 use Rattle.tables.specs.steps.Namings.{namers}
-use Rattle.tables.specs.steps.Marks.{Standing}
+use Rattle.tables.specs.steps.Marks.{Filled}
 use Rattle.tables.specs.steps.Coverage.{edge}
 use Rattle.profile.proofs.CountingLaws.{howMany-le}
 use Rattle.tables.proofs.CoverLaws.{edges-more}
@@ -16,7 +15,7 @@ use Rattle.tables.proofs.coverage.tally.Statement.{statement}
 use Rattle.tables.proofs.coverage.tally.Tie as tie
 
 abbrev Inv-loop : tie.InvT-loop
-Inv-loop s kind last table₀ n q₀ table q = (q ≤ n) × (length table ≡ length table₀) × Standing (λ y. howMany (λ j. eqb (edge (sheetOf s) kind last j) y) q) table
+Inv-loop s kind last table₀ n q₀ table q = (q ≤ n) × Filled (λ y. howMany (λ j. eqb (edge (sheetOf s) kind last j) y) q) table₀ table
 
 abbrev μ-loop : tie.MeasureT-loop
 μ-loop s kind last table₀ n q₀ table q = n - q
@@ -26,13 +25,16 @@ namers-requires c κs = search needs
 
 loop-holds : tie.Need-loop-holds Inv-loop μ-loop
 unfolding howMany
-loop-holds c = (search needs, refl, λ y l. c .before .before .before .pre y l)
+loop-holds c = (search needs, (refl, c .before .before .before .pre))
 
 edge-requires : tie.Need-edge-requires Inv-loop μ-loop
 edge-requires c κs = search needs
 
 add-at-requires : tie.Need-add-at-requires Inv-loop μ-loop
-add-at-requires c κs = λ l. let f : c .before .before .before .before .namers .result < 65536 = search needs in omega (arith, c .before .before .before .loop .inv .2 (c .edge .result) l, howMany-le (λ j. eqb (edge (sheetOf (c .before .before .before .before .before .before .before .args .s .now)) (c .before .before .before .before .before .before .before .args .kind) (c .before .before .before .before .before .before .before .args .last) j) (c .edge .result)) (c .before .before .before .loop .q), c .before .before .loop-test .taken)
+add-at-requires c κs = λ m.
+    let a = c .before .before .before .before .before .before .before .args in let l = c .before .before .before .loop in
+    let f : c .before .before .before .before .namers .result < 65536 = search needs in
+    omega (arith, l .inv .1 .1 (c .edge .result) m, howMany-le (λ j. eqb (edge (sheetOf (a .s .now)) (a .kind) (a .last) j) (c .edge .result)) (l .q), c .before .before .loop-test .taken)
 
 add-q : tie.Need-add-q Inv-loop μ-loop
 add-q c = search needs
@@ -41,13 +43,18 @@ loop-less : tie.Need-loop-less Inv-loop μ-loop
 loop-less c = search needs
 
 loop-again : tie.Need-loop-again Inv-loop μ-loop
-loop-again c = (search needs, c .before .before .add-at .ensures .0 ∙ c .before .before .before .before .before .before .loop .inv .1, edges-more (λ j. edge (sheetOf (c .before .before .before .before .before .before .before .before .before .before .args .s .now)) (c .before .before .before .before .before .before .before .before .before .before .args .kind) (c .before .before .before .before .before .before .before .before .before .before .args .last) j) (c .before .before .before .before .before .before .loop .table) (c .before .before .add-at .last .0) (c .before .before .add-at .ensures .0) (c .before .before .before .before .before .before .loop .q) (c .before .before .before .edge .result) (c .before .before .before .edge .ensures) (c .before .before .before .before .before .before .loop .inv .2) (c .before .before .add-at .ensures .1))
+loop-again c =
+    let a = c .before .before .before .before .before .before .before .before .before .before .args in let l = c .before .before .before .before .before .before .loop in
+    let edge′ = c .before .before .before .edge in let added = c .before .before .add-at in
+    (search needs, edges-more (λ j. edge (sheetOf (a .s .now)) (a .kind) (a .last) j) (a .table .now) (l .table) (added .last .0) (l .q) (edge′ .result) (edge′ .ensures) (l .inv .1) (added .ensures))
 
 same-length : tie.Need-same-length Inv-loop μ-loop
-same-length c = c .before .loop .inv .1
+same-length c = c .before .loop .inv .1 .0
 
 returns : tie.Need-returns Inv-loop μ-loop
-returns c = let e : c .before .loop .q ≡ namers (sheetOf (c .before .before .before .before .before .args .s .now)) (c .before .before .before .before .before .args .kind) = omega (arith, c .before .before .namers .ensures, c .loop-test .left) in (c .before .loop .inv .1, λ y l. c .before .loop .inv .2 y l ∙ ap (howMany (λ j. eqb (edge (sheetOf (c .before .before .before .before .before .args .s .now)) (c .before .before .before .before .before .args .kind) (c .before .before .before .before .before .args .last) j) y)) e)
+returns c =
+    let a = c .before .before .before .before .before .args in
+    let e : c .before .loop .q ≡ namers (sheetOf (a .s .now)) (a .kind) = omega (arith, c .before .before .namers .ensures, c .loop-test .left) in rw e at (c .before .loop .inv .1)
 
 pub tally-spec : {M : Type 1} → statement M
 tally-spec =

@@ -31,7 +31,11 @@ loop-less : tie.Need-loop-less Inv-loop μ-loop
 loop-less c = search needs
 
 loop-again : tie.Need-loop-again Inv-loop μ-loop
-loop-again c = (search needs, length-set (c .before .loop .table) (c .before .loop .i) 0 ∙ c .before .loop .inv .1, below-more (λ k. getD (set (c .before .loop .table) (c .before .loop .i) 0) k 0 ≡ 0) (c .before .loop .i) (λ k m. getD-set-other (c .before .loop .table) (c .before .loop .i) k 0 0 (λ q. let z : k ≡ c .before .loop .i = q in absurd (omega arith)) ∙ c .before .loop .inv .2 k m) (getD-set-same (c .before .loop .table) (c .before .loop .i) 0 0 (omega (arith, c .before .loop .inv .1, c .loop-test .taken))))
+loop-again c = (
+  search needs,
+  length-set (c .before .loop .table) (c .before .loop .i) 0 ∙ c .before .loop .inv .1,
+  below-more (λ k. getD (set (c .before .loop .table) (c .before .loop .i) 0) k 0 ≡ 0) (c .before .loop .i) (λ k m. getD-set-other (c .before .loop .table) (c .before .loop .i) k 0 0 (λ q. let z : k ≡ c .before .loop .i = q in absurd (omega arith)) ∙ c .before .loop .inv .2 k m) (getD-set-same (c .before .loop .table) (c .before .loop .i) 0 0 (omega (arith, c .before .loop .inv .1, c .loop-test .taken))),
+)
 
 same-length : tie.Need-same-length Inv-loop μ-loop
 same-length c = c .before .loop .inv .1

@@ -1,6 +1,6 @@
 -- The place is marked, or past the end. Assumes nothing.
 use mathlib.Core.Path.{refl}
-use lib.ListN.{length, length-set}
+use lib.ListN.{length-set}
 use Rattle.tables.specs.steps.Marks.{marked}
 use Rattle.tables.proofs.MarkLaws.{mark-standing, past-standing}
 use borrow.Author.Needs.{needs}

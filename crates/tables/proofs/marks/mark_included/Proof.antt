@@ -1,7 +1,5 @@
 -- On a table of noughts. Assumes nothing.
-use Prim.Native.Nat.{ℕ}
-use mathlib.Core.Path.{_≡_, ap, _∙_}
-use lib.ListN.{length}
+use mathlib.Core.Path.{ap, _∙_}
 use Rattle.sheet.specs.Words.{sheetOf}
 use Rattle.tables.specs.declared.Naming.the-variants.{Included}
 use Rattle.tables.specs.declared.Mark.the-variants.{Store}
@@ -21,7 +19,12 @@ same-length : tie.Need-same-length
 same-length c = search needs
 
 returns : tie.Need-returns
-returns c = (c .before .before .mark-items .ensures .0 ∙ c .before .before .before .before .before .before .clear .ensures .0, λ x l. c .before .before .mark-items .ensures .1 x l ∙ ap (repeat (marked (Store 1)) (timesBy (sheetOf (c .before .before .before .before .before .before .before .before .before .before .args .s .now)) Included (c .before .before .before .before .before .before .before .before .before .before .args .p) x)) (c .before .before .before .before .before .before .clear .ensures .1 x (rw (c .before .before .mark-items .ensures .0) at l)) ∙ included-marked (sheetOf (c .before .before .before .before .before .before .before .before .before .before .args .s .now)) (c .before .before .before .before .before .before .before .before .before .before .args .p) x)
+returns c =
+    let a = c .before .before .before .before .before .before .before .before .before .before .args in
+    let clear = c .before .before .before .before .before .before .clear in let mark-items = c .before .before .mark-items in let s = sheetOf (a .s .now) in (
+      mark-items .ensures .0 ∙ clear .ensures .0,
+      λ x l. mark-items .ensures .1 x l ∙ ap (repeat (marked (Store 1)) (timesBy s Included (a .p) x)) (clear .ensures .1 x (rw (mark-items .ensures .0) at l)) ∙ included-marked s (a .p) x,
+    )
 
 pub mark-included-spec : {M : Type 1} → statement M
 mark-included-spec = tie.close (tie.spec clear-requires mark-items-requires same-length returns)

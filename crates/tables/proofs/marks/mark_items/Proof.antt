@@ -1,19 +1,7 @@
 -- Each kind by its pass. Assumes nothing.
-use Prim.Native.Nat.{ℕ, _+_, _-_, _≤_}
-use mathlib.Core.Path.{_≡_, refl, ap, _∙_}
-use native.Mathlib.Omega.{arith}
-use lib.Dec.{eqb}
-use lib.ListN.{length, getD}
-use Rattle.sheet.specs.Words.{sheetOf, word}
-use Rattle.profile.specs.Counting.{howMany}
-use Rattle.tables.specs.steps.Namings.{items, item}
-use Rattle.tables.specs.steps.Marks.{Standing, marked, repeat, timesBy}
-use Rattle.tables.proofs.MarkLaws.{items-more}
-use Rattle.sheet.specs.Layout.{field, number, entry, reference, offset}
-use Rattle.sheet.specs.Fields.{contents, contentObject, objects, childList, complementList, setSpan, programmes, contentList, setList}
+use Rattle.tables.specs.steps.Marks.{timesBy}
+use Rattle.sheet.specs.Layout.{field, number}
 use Rattle.profile.specs.Relations.{times}
-use Rattle.tables.proofs.MarkLaws.{repeat-more}
-use mathlib.Core.Bool.{cond}
 use borrow.Author.Needs.{needs}
 use Rattle.tables.proofs.marks.mark_items.Statement.{statement}
 use Rattle.tables.proofs.marks.mark_items.Tie as tie
@@ -21,32 +9,26 @@ use Rattle.tables.proofs.marks.mark_items.Tie as tie
 enum-told : tie.Need-enum-told
 enum-told c = search needs
 
-field-requires : tie.Need-field-requires
-field-requires c κs = search needs
-
-cast-mark-at : tie.Need-cast-mark-at
-cast-mark-at c = search needs
-
-mark-at-requires : tie.Need-mark-at-requires
-mark-at-requires c κs = search needs
+mark-object-requires : tie.Need-mark-object-requires
+mark-object-requires c κs = search needs
 
 enum-told-2 : tie.Need-enum-told-2
 enum-told-2 c = search needs
 
-mark-listed-requires : tie.Need-mark-listed-requires
-mark-listed-requires c κs = search needs
+mark-entries-requires : tie.Need-mark-entries-requires
+mark-entries-requires c κs = search needs
 
 enum-told-3 : tie.Need-enum-told-3
 enum-told-3 c = search needs
 
-mark-listed-requires-2 : tie.Need-mark-listed-requires-2
-mark-listed-requires-2 c κs = search needs
+mark-entries-requires-2 : tie.Need-mark-entries-requires-2
+mark-entries-requires-2 c κs = search needs
 
 enum-told-4 : tie.Need-enum-told-4
 enum-told-4 c = search needs
 
-mark-listed-requires-3 : tie.Need-mark-listed-requires-3
-mark-listed-requires-3 c κs = search needs
+mark-entries-requires-3 : tie.Need-mark-entries-requires-3
+mark-entries-requires-3 c κs = search needs
 
 enum-told-5 : tie.Need-enum-told-5
 enum-told-5 c = search needs
@@ -57,14 +39,14 @@ mark-objects-requires c κs = search needs
 enum-told-6 : tie.Need-enum-told-6
 enum-told-6 c = search needs
 
-mark-listed-requires-4 : tie.Need-mark-listed-requires-4
-mark-listed-requires-4 c κs = search needs
+mark-entries-requires-4 : tie.Need-mark-entries-requires-4
+mark-entries-requires-4 c κs = search needs
 
 enum-told-7 : tie.Need-enum-told-7
 enum-told-7 c = search needs
 
-field-requires-2 : tie.Need-field-requires-2
-field-requires-2 c κs = search needs
+field-requires : tie.Need-field-requires
+field-requires c κs = search needs
 
 number-requires : tie.Need-number-requires
 number-requires c κs = search needs
@@ -76,71 +58,69 @@ same-length : tie.Need-same-length
 same-length c = search needs
 
 returns : tie.Need-returns
-unfolding timesBy howMany repeat
-returns c = rw (c .before .before .before .before .before .enum-told .given .1) (c .before .before .mark-at .ensures .0, λ x l. c .before .before .mark-at .ensures .1 x l ∙ ap (λ (y : ℕ). cond (eqb y x) (marked (c .before .before .before .before .before .before .before .before .before .args .mark) (getD (c .before .before .before .before .before .before .before .before .before .args .table .now) x 0)) (getD (c .before .before .before .before .before .before .before .before .before .args .table .now) x 0)) (c .before .before .before .field .ensures) ∙ repeat-more (marked (c .before .before .before .before .before .before .before .before .before .args .mark)) (λ i. eqb (field (sheetOf (c .before .before .before .before .before .before .before .before .before .args .s .now)) contents (c .before .before .before .before .before .before .before .before .before .args .q) contentObject) x) 0 (getD (c .before .before .before .before .before .before .before .before .before .args .table .now) x 0))
+unfolding timesBy
+returns c = rw (c .before .before .before .before .enum-told .given .1) (c .before .before .mark-object .ensures)
 
 same-length-2 : tie.Need-same-length-2
 same-length-2 c = search needs
 
 returns-2 : tie.Need-returns-2
 unfolding timesBy times
-returns-2 c = rw (c .before .before .before .before .enum-told2 .given .1) (c .before .before .mark-listed .ensures .0, c .before .before .mark-listed .ensures .1)
+returns-2 c = rw (c .before .before .before .before .enum-told2 .given .1) (c .before .before .mark-entries .ensures)
 
 same-length-3 : tie.Need-same-length-3
 same-length-3 c = search needs
 
 returns-3 : tie.Need-returns-3
 unfolding timesBy times
-returns-3 c = rw (c .before .before .before .before .enum-told3 .given .1) (c .before .before .mark-listed2 .ensures .0, c .before .before .mark-listed2 .ensures .1)
+returns-3 c = rw (c .before .before .before .before .enum-told3 .given .1) (c .before .before .mark-entries2 .ensures)
 
 same-length-4 : tie.Need-same-length-4
 same-length-4 c = search needs
 
 returns-4 : tie.Need-returns-4
 unfolding timesBy times
-returns-4 c = rw (c .before .before .before .before .enum-told4 .given .1) (c .before .before .mark-listed3 .ensures .0, c .before .before .mark-listed3 .ensures .1)
+returns-4 c = rw (c .before .before .before .before .enum-told4 .given .1) (c .before .before .mark-entries3 .ensures)
 
 same-length-5 : tie.Need-same-length-5
 same-length-5 c = search needs
 
 returns-5 : tie.Need-returns-5
 unfolding timesBy
-returns-5 c = rw (c .before .before .before .before .enum-told5 .given .1) (c .before .before .mark-objects .ensures .0, c .before .before .mark-objects .ensures .1)
+returns-5 c = rw (c .before .before .before .before .enum-told5 .given .1) (c .before .before .mark-objects .ensures)
 
 same-length-6 : tie.Need-same-length-6
 same-length-6 c = search needs
 
 returns-6 : tie.Need-returns-6
 unfolding timesBy times
-returns-6 c = rw (c .before .before .before .before .enum-told6 .given .1) (c .before .before .mark-listed4 .ensures .0, c .before .before .mark-listed4 .ensures .1)
+returns-6 c = rw (c .before .before .before .before .enum-told6 .given .1) (c .before .before .mark-entries4 .ensures)
 
 same-length-7 : tie.Need-same-length-7
 same-length-7 c = search needs
 
 returns-7 : tie.Need-returns-7
 unfolding timesBy
-returns-7 c = rw (c .before .before .before .before .before .before .enum-told7 .given .1) (c .before .before .mark-span .ensures .0, rw (c .before .before .before .before .before .field2 .ensures, c .before .before .before .before .number .ensures) at (c .before .before .mark-span .ensures .1))
+returns-7 c = rw (c .before .before .before .before .before .before .enum-told7 .given .1) (c .before .before .mark-span .ensures .0, rw (c .before .before .before .before .before .field .ensures, c .before .before .before .before .number .ensures) at (c .before .before .mark-span .ensures .1))
 
 pub mark-items-spec : {M : Type 1} → statement M
 mark-items-spec =
     tie.close
     (tie.spec
     enum-told
-    field-requires
-    cast-mark-at
-    mark-at-requires
+    mark-object-requires
     enum-told-2
-    mark-listed-requires
+    mark-entries-requires
     enum-told-3
-    mark-listed-requires-2
+    mark-entries-requires-2
     enum-told-4
-    mark-listed-requires-3
+    mark-entries-requires-3
     enum-told-5
     mark-objects-requires
     enum-told-6
-    mark-listed-requires-4
+    mark-entries-requires-4
     enum-told-7
-    field-requires-2
+    field-requires
     number-requires
     mark-span-requires
     same-length

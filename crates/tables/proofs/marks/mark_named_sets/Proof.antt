@@ -1,7 +1,5 @@
 -- On a table of noughts. Assumes nothing.
-use Prim.Native.Nat.{ℕ}
-use mathlib.Core.Path.{_≡_, ap, _∙_}
-use lib.ListN.{length}
+use mathlib.Core.Path.{ap, _∙_}
 use Rattle.sheet.specs.Words.{sheetOf}
 use Rattle.tables.specs.declared.Naming.the-variants.{SetLists}
 use Rattle.tables.specs.declared.Mark.the-variants.{Store}
@@ -18,7 +16,11 @@ same-length : tie.Need-same-length
 same-length c = c .before .before .mark-items .ensures .0
 
 returns : tie.Need-returns
-returns c = (c .before .before .mark-items .ensures .0, λ noughts x l. c .before .before .mark-items .ensures .1 x l ∙ ap (repeat (marked (Store 1)) (timesBy (sheetOf (c .before .before .before .before .before .before .args .s .now)) SetLists (c .before .before .before .before .before .before .args .p) x)) (noughts x (rw (c .before .before .mark-items .ensures .0) at l)) ∙ set-marked (sheetOf (c .before .before .before .before .before .before .args .s .now)) (c .before .before .before .before .before .before .args .p) x)
+returns c =
+    let a = c .before .before .before .before .before .before .args in let mark-items = c .before .before .mark-items in let s = sheetOf (a .s .now) in (
+      mark-items .ensures .0,
+      λ noughts x l. mark-items .ensures .1 x l ∙ ap (repeat (marked (Store 1)) (timesBy s SetLists (a .p) x)) (noughts x (rw (mark-items .ensures .0) at l)) ∙ set-marked s (a .p) x,
+    )
 
 pub mark-named-sets-spec : {M : Type 1} → statement M
 mark-named-sets-spec = tie.close (tie.spec mark-items-requires same-length returns)

@@ -1,27 +1,24 @@
 -- The places passed are marked. Assumes nothing.
-use Prim.Native.Nat.{ℕ, _+_, _-_, _≤_}
-use mathlib.Core.Path.{_≡_, refl, ap, _∙_}
+use Prim.Native.Nat.{_+_, _-_, _≤_}
+use mathlib.Core.Path.{_≡_, refl, _∙_}
 use native.Mathlib.Omega.{arith}
 use lib.Dec.{eqb}
-use lib.ListN.{length, getD}
-use Rattle.sheet.specs.Words.{sheetOf, word}
 use Rattle.profile.specs.Counting.{howMany}
-use Rattle.tables.specs.steps.Namings.{items, item}
-use Rattle.tables.specs.steps.Marks.{Standing, marked, repeat, timesBy}
+use Rattle.tables.specs.steps.Marks.{MarkedTimes, marked, repeat}
 use Rattle.tables.proofs.MarkLaws.{items-more}
 use borrow.Author.Needs.{needs}
 use Rattle.tables.proofs.marks.mark_span.Statement.{statement}
 use Rattle.tables.proofs.marks.mark_span.Tie as tie
 
 abbrev Inv-loop : tie.InvT-loop
-Inv-loop from n mark table₀ i₀ table i = (i ≤ n) × (length table ≡ length table₀) × Standing (λ x. repeat (marked mark) (howMany (λ j. eqb (from + j) x) i) (getD table₀ x 0)) table
+Inv-loop from n mark table₀ i₀ table i = (i ≤ n) × MarkedTimes mark (λ x. howMany (λ j. eqb (from + j) x) i) table₀ table
 
 abbrev μ-loop : tie.MeasureT-loop
 μ-loop from n mark table₀ i₀ table i = n - i
 
 loop-holds : tie.Need-loop-holds Inv-loop μ-loop
 unfolding howMany repeat
-loop-holds c = (search needs, refl, λ x l. refl)
+loop-holds c = (search needs, (refl, λ x l. refl))
 
 cast-mark-at : tie.Need-cast-mark-at Inv-loop μ-loop
 cast-mark-at c = search needs
@@ -39,13 +36,15 @@ loop-less : tie.Need-loop-less Inv-loop μ-loop
 loop-less c = search needs
 
 loop-again : tie.Need-loop-again Inv-loop μ-loop
-loop-again c = (search needs, c .before .before .mark-at .ensures .0 ∙ c .before .before .before .before .before .loop .inv .1, items-more (marked (c .before .before .before .before .before .before .before .args .mark)) (c .before .before .before .before .before .before .before .args .table .now) (c .before .before .before .before .before .loop .table) (c .before .before .mark-at .last .0) (c .before .before .mark-at .ensures .0) (λ j. c .before .before .before .before .before .before .before .args .from + j) (c .before .before .before .before .before .loop .i) (c .before .before .before .before .before .before .before .args .from + c .before .before .before .before .before .loop .i) (refl) (c .before .before .before .before .before .loop .inv .2) (c .before .before .mark-at .ensures .1))
+loop-again c =
+    let a = c .before .before .before .before .before .before .before .args in let l = c .before .before .before .before .before .loop in let at = c .before .before .mark-at in
+    (search needs, (at .ensures .0 ∙ l .inv .1 .0, items-more (marked (a .mark)) (a .table .now) (l .table) (at .last .0) (at .ensures .0) (λ j. a .from + j) (l .i) (a .from + l .i) refl (l .inv .1 .1) (at .ensures .1)))
 
 same-length : tie.Need-same-length Inv-loop μ-loop
-same-length c = c .before .loop .inv .1
+same-length c = c .before .loop .inv .1 .0
 
 returns : tie.Need-returns Inv-loop μ-loop
-returns c = let e : c .before .loop .i ≡ c .before .before .before .args .n = omega arith in (c .before .loop .inv .1, λ x l. c .before .loop .inv .2 x l ∙ ap (λ (n : ℕ). repeat (marked (c .before .before .before .args .mark)) (howMany (λ j. eqb (c .before .before .before .args .from + j) x) n) (getD (c .before .before .before .args .table .now) x 0)) e)
+returns c = let e : c .before .loop .i ≡ c .before .before .before .args .n = omega arith in rw e at (c .before .loop .inv .1)
 
 pub mark-span-spec : {M : Type 1} → statement M
 mark-span-spec =

@@ -3,45 +3,6 @@ use borrow.Author.Needs.{needs}
 use Rattle.tables.proofs.namings.items.Statement.{statement}
 use Rattle.tables.proofs.namings.items.Tie as tie
 
-enum-told : tie.Need-enum-told
-enum-told c = search needs
-
-enum-told-2 : tie.Need-enum-told-2
-enum-told-2 c = search needs
-
-number-requires : tie.Need-number-requires
-number-requires c κs = search needs
-
-enum-told-3 : tie.Need-enum-told-3
-enum-told-3 c = search needs
-
-number-requires-2 : tie.Need-number-requires-2
-number-requires-2 c κs = search needs
-
-enum-told-4 : tie.Need-enum-told-4
-enum-told-4 c = search needs
-
-number-requires-3 : tie.Need-number-requires-3
-number-requires-3 c κs = search needs
-
-enum-told-5 : tie.Need-enum-told-5
-enum-told-5 c = search needs
-
-number-requires-4 : tie.Need-number-requires-4
-number-requires-4 c κs = search needs
-
-enum-told-6 : tie.Need-enum-told-6
-enum-told-6 c = search needs
-
-number-requires-5 : tie.Need-number-requires-5
-number-requires-5 c κs = search needs
-
-enum-told-7 : tie.Need-enum-told-7
-enum-told-7 c = search needs
-
-number-requires-6 : tie.Need-number-requires-6
-number-requires-6 c κs = search needs
-
 returns : tie.Need-returns
 returns c = simp (c .enum-told .given .1)
 
@@ -67,19 +28,19 @@ pub items-spec : {M : Type 1} → statement M
 items-spec =
     tie.close
     (tie.spec
-    enum-told
-    enum-told-2
-    number-requires
-    enum-told-3
-    number-requires-2
-    enum-told-4
-    number-requires-3
-    enum-told-5
-    number-requires-4
-    enum-told-6
-    number-requires-5
-    enum-told-7
-    number-requires-6
+    (λ c. search needs)
+    (λ c. search needs)
+    (λ c κs. search needs)
+    (λ c. search needs)
+    (λ c κs. search needs)
+    (λ c. search needs)
+    (λ c κs. search needs)
+    (λ c. search needs)
+    (λ c κs. search needs)
+    (λ c. search needs)
+    (λ c κs. search needs)
+    (λ c. search needs)
+    (λ c κs. search needs)
     returns
     returns-2
     returns-3

@@ -1,8 +1,7 @@
 -- The programmes passed are counted. Assumes nothing.
-use Prim.Native.Nat.{ℕ, _-_, _≤_}
-use mathlib.Core.Path.{_≡_, refl, sym, ap, _∙_}
+use Prim.Native.Nat.{_-_, _≤_}
+use mathlib.Core.Path.{_≡_, refl}
 use native.Mathlib.Omega.{arith}
-use lib.ListN.{length, getD}
 use Rattle.sheet.specs.Words.{sheetOf}
 use Rattle.sheet.specs.Layout.{count, entry, reference}
 use Rattle.sheet.specs.Fields.{programmes}
@@ -10,13 +9,13 @@ use Rattle.profile.specs.Counting.{sum}
 use borrow.Author.Needs.{needs}
 use Rattle.tables.specs.declared.Mark.the-variants.{Count}
 use Rattle.tables.specs.declared.Naming.the-variants.{ContentLists}
-use Rattle.tables.specs.steps.Marks.{Standing, marked, repeat, timesBy, namedBy}
+use Rattle.tables.specs.steps.Marks.{repeat, timesBy, namedBy, MarkedTimes, namedBefore}
 use Rattle.tables.proofs.MarkLaws.{namers-more}
 use Rattle.tables.proofs.passes.count_contents.Statement.{statement}
 use Rattle.tables.proofs.passes.count_contents.Tie as tie
 
 abbrev Inv-loop : tie.InvT-loop
-Inv-loop s listed₀ base n q₀ listed q = (q ≤ n) × (length listed ≡ length listed₀) × Standing (λ x. repeat (marked Count) (sum (λ j. timesBy (sheetOf s) ContentLists j x) q) (getD listed₀ x 0)) listed
+Inv-loop s listed₀ base n q₀ listed q = (q ≤ n) × MarkedTimes Count (namedBefore (sheetOf s) ContentLists q) listed₀ listed
 
 abbrev μ-loop : tie.MeasureT-loop
 μ-loop s listed₀ base n q₀ listed q = n - q
@@ -29,7 +28,7 @@ count-requires c κs = search needs
 
 loop-holds : tie.Need-loop-holds Inv-loop μ-loop
 unfolding sum repeat
-loop-holds c = (search needs, refl, λ x l. refl)
+loop-holds c = (search needs, (refl, λ x l. refl))
 
 field-requires : tie.Need-field-requires Inv-loop μ-loop
 field-requires c κs = search needs
@@ -48,14 +47,19 @@ loop-less c = search needs
 
 loop-again : tie.Need-loop-again Inv-loop μ-loop
 unfolding timesBy entry reference
-loop-again c = (search needs, c .before .before .mark-list .ensures .0 ∙ c .before .before .before .before .before .before .before .loop .inv .1, namers-more (marked Count) (c .before .before .before .before .before .before .before .before .before .before .before .before .args .listed .now) (c .before .before .before .before .before .before .before .loop .listed) (c .before .before .mark-list .last .1 .1 .1 .1 .1 .0) (c .before .before .mark-list .ensures .0) (λ j x. timesBy (sheetOf (c .before .before .before .before .before .before .before .before .before .before .before .before .args .s .now)) ContentLists j x) (c .before .before .before .before .before .before .before .loop .q) (c .before .before .before .before .before .before .before .loop .inv .2) (rw (c .before .before .before .before .before .before .before .before .before .offset .ensures, c .before .before .before .before .before .field .ensures, c .before .before .before .before .number .ensures) at (c .before .before .mark-list .ensures .1)))
+loop-again c =
+    let a = c .before .before .before .before .before .before .before .before .before .before .before .before .args in
+    let l = c .before .before .before .before .before .before .before .loop in let m = c .before .before .mark-list in
+    (search needs, namers-more Count (sheetOf (a .s .now)) ContentLists (a .listed .now) (l .listed) (m .last .1 .1 .1 .1 .1 .0) (l .q) (l .inv .1) (rw (c .before .before .before .before .before .before .before .before .before .offset .ensures, c .before .before .before .before .before .field .ensures, c .before .before .before .before .number .ensures) at (m .ensures)))
 
 same-length : tie.Need-same-length Inv-loop μ-loop
-same-length c = c .before .loop .inv .1
+same-length c = c .before .loop .inv .1 .0
 
 returns : tie.Need-returns Inv-loop μ-loop
 unfolding namedBy
-returns c = let e : c .before .loop .q ≡ count (sheetOf (c .before .before .before .before .before .before .args .s .now)) programmes = omega (arith, c .before .before .count .ensures, c .loop-test .left) in (c .before .loop .inv .1, λ x l. c .before .loop .inv .2 x l ∙ ap (λ (n : ℕ). repeat (marked Count) (sum (λ j. timesBy (sheetOf (c .before .before .before .before .before .before .args .s .now)) ContentLists j x) n) (getD (c .before .before .before .before .before .before .args .listed .now) x 0)) e)
+returns c =
+    let e : c .before .loop .q ≡ count (sheetOf (c .before .before .before .before .before .before .args .s .now)) programmes = omega (arith, c .before .before .count .ensures, c .loop-test .left) in
+    rw e at (c .before .loop .inv .1)
 
 pub count-contents-spec : {M : Type 1} → statement M
 count-contents-spec =

@@ -1,17 +1,8 @@
 -- Nothing to mark, or all of it, in each table. Assumes nothing.
-use Prim.Native.Nat.{ℕ, suc, _-_, _≤_}
-use mathlib.Core.Path.{_≡_, refl, sym, ap, _∙_}
-use native.Mathlib.Omega.{arith}
-use lib.Dec.{eqb}
-use lib.ListN.{length, getD}
+use mathlib.Core.Path.{_≡_, refl, sym}
 use native.Mathlib.Numerals.{add-one}
-use Rattle.sheet.specs.Words.{sheetOf}
-use Rattle.sheet.specs.Layout.{count}
-use Rattle.sheet.specs.Fields.{objects}
-use Rattle.profile.specs.Counting.{sum, howMany}
-use Rattle.tables.specs.declared.Mark.the-variants.{Count, First}
-use Rattle.tables.specs.steps.Marks.{marked, repeat, timesBy}
-use Rattle.tables.specs.steps.Namings.{items, item}
+use Rattle.profile.specs.Counting.{howMany}
+use Rattle.tables.specs.steps.Marks.{repeat, timesBy}
 use borrow.Author.Needs.{needs}
 use Rattle.tables.proofs.passes.mark_both.Statement.{statement}
 use Rattle.tables.proofs.passes.mark_both.Tie as tie
@@ -32,11 +23,13 @@ same-length-2 : tie.Need-same-length-2
 same-length-2 c = search needs
 
 returns : tie.Need-returns
-returns c = (c .before .before .before .before .before .before .mark-items .ensures .0, c .before .before .before .before .before .before .mark-items .ensures .1, c .before .before .mark-items2 .ensures .0, rw (add-one) at (c .before .before .mark-items2 .ensures .1))
+returns c = (c .before .before .before .before .before .before .mark-items .ensures, rw (add-one) at (c .before .before .mark-items2 .ensures))
 
 returns-2 : tie.Need-returns-2
 unfolding timesBy howMany repeat
-returns-2 c = let e : items (sheetOf (c .before .before .before .before .args .s .now)) (c .before .before .before .before .args .kind) (c .before .before .before .before .args .q) ≡ 0 = sym (c .before .before .before .before .pre .0) ∙ c .if1 .left in (refl, (λ x l. ap (λ (n : ℕ). repeat (marked Count) (howMany (λ i. eqb (item (sheetOf (c .before .before .before .before .args .s .now)) (c .before .before .before .before .args .kind) (c .before .before .before .before .args .q) i) x) n) (getD (c .before .before .before .before .args .counts .now) x 0)) (sym e)), refl, λ x l. ap (λ (n : ℕ). repeat (marked (First (suc (c .before .before .before .before .args .q)))) (howMany (λ i. eqb (item (sheetOf (c .before .before .before .before .args .s .now)) (c .before .before .before .before .args .kind) (c .before .before .before .before .args .q) i) x) n) (getD (c .before .before .before .before .args .firsts .now) x 0)) (sym e))
+returns-2 c =
+    let start = c .before .before .before .before in let e : start .args .n ≡ 0 = c .if1 .left in
+    ((refl, rw (sym (start .pre .0), e) (λ x l. refl)), (refl, rw (sym (start .pre .0), e) (λ x l. refl)))
 
 pub mark-both-spec : {M : Type 1} → statement M
 mark-both-spec =

@@ -5,7 +5,7 @@ use mathlib.Core.Bool.{not}
 use native.Mathlib.Omega.{arith}
 use native.Mathlib.Numerals.{add-one}
 use lib.Dec.{eqb}
-use lib.ListN.{getD, length}
+use lib.ListN.{getD}
 use Rattle.profile.specs.Counting.{any}
 use Rattle.tables.proofs.reads.any_marked.Statement.{statement}
 use Rattle.tables.proofs.reads.any_marked.Tie as tie

@@ -1,5 +1,5 @@
 -- By the table's entry, or by search. Assumes nothing.
-use mathlib.Core.Path.{_≡_, ap, _∙_}
+use mathlib.Core.Path.{ap, _∙_}
 use Rattle.tables.specs.steps.Right.{told}
 use Rattle.tables.proofs.TableLaws.{leader-told}
 use borrow.Author.Needs.{needs}

@@ -1,6 +1,6 @@
 -- By the marks of the object's span, or by search. Assumes nothing.
 use Prim.Native.Nat.{ℕ, _+_}
-use mathlib.Core.Path.{_≡_, ap, ap₂, _∙_}
+use mathlib.Core.Path.{ap₂, _∙_}
 use mathlib.Core.Bool.{not}
 use native.Mathlib.Omega.{arith}
 use lib.Dec.{eqb}
@@ -34,7 +34,9 @@ names-set-requires : tie.Need-names-set-requires
 names-set-requires c κs = search needs
 
 returns : tie.Need-returns
-returns c = λ right. c .any-marked .ensures ∙ ap₂ (λ (f n : ℕ). any (λ k. not (eqb (getD (c .before .before .before .before .before .before .args .sets .now) (f + k) 0) 0)) n) (c .before .before .before .field .ensures) (c .before .before .number .ensures) ∙ names-marked (sheetOf (c .before .before .before .before .before .before .args .s .now)) (c .before .before .before .before .before .before .args .p) (c .before .before .before .before .before .before .args .o) (c .before .before .before .before .before .before .args .sets .now) right (omega (arith, c .before .if1 .taken, c .before .before .before .field .ensures, c .before .before .number .ensures))
+returns c =
+    let a = c .before .before .before .before .before .before .args in let field = c .before .before .before .field in let number = c .before .before .number in
+    λ right. c .any-marked .ensures ∙ ap₂ (λ (f n : ℕ). any (λ k. not (eqb (getD (a .sets .now) (f + k) 0) 0)) n) (field .ensures) (number .ensures) ∙ names-marked (sheetOf (a .s .now)) (a .p) (a .o) (a .sets .now) right (omega (arith, c .before .if1 .taken, field .ensures, number .ensures))
 
 returns-2 : tie.Need-returns-2
 returns-2 c = λ right. c .names-set .ensures

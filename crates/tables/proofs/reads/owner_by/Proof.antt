@@ -1,6 +1,6 @@
 -- By the table's entry, or by search. Assumes nothing.
 use Prim.Native.Nat.{ℕ}
-use mathlib.Core.Path.{_≡_, ap, _∙_}
+use mathlib.Core.Path.{ap, _∙_}
 use lib.ListN.{getD}
 use Rattle.tables.specs.steps.Right.{told}
 use Rattle.tables.proofs.TableLaws.{owner-told}

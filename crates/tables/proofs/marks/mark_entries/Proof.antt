@@ -1,22 +1,9 @@
 -- The entries of the list. Assumes nothing.
-use Prim.Native.Nat.{ℕ, _+_, _-_, _≤_}
-use mathlib.Core.Path.{_≡_, refl, ap, _∙_}
-use native.Mathlib.Omega.{arith}
-use lib.Dec.{eqb}
-use lib.ListN.{length, getD}
-use Rattle.sheet.specs.Words.{sheetOf, word}
-use Rattle.profile.specs.Counting.{howMany}
-use Rattle.tables.specs.steps.Namings.{items, item}
-use Rattle.tables.specs.steps.Marks.{Standing, marked, repeat, timesBy}
-use Rattle.tables.proofs.MarkLaws.{items-more}
 use Rattle.sheet.specs.Layout.{field, number, entry, reference, offset}
-use Rattle.sheet.specs.Fields.{contents, contentObject, objects, childList, complementList, setSpan, programmes, contentList, setList}
 use Rattle.profile.specs.Relations.{times}
-use Rattle.tables.proofs.MarkLaws.{repeat-more}
-use mathlib.Core.Bool.{cond}
 use borrow.Author.Needs.{needs}
-use Rattle.tables.proofs.marks.mark_listed.Statement.{statement}
-use Rattle.tables.proofs.marks.mark_listed.Tie as tie
+use Rattle.tables.proofs.marks.mark_entries.Statement.{statement}
+use Rattle.tables.proofs.marks.mark_entries.Tie as tie
 
 offset-requires : tie.Need-offset-requires
 offset-requires c κs = search needs
@@ -37,8 +24,8 @@ returns : tie.Need-returns
 unfolding times entry reference
 returns c = (c .before .before .mark-list .ensures .0, rw (c .before .before .before .before .before .before .offset .ensures, c .before .before .before .before .before .field .ensures, c .before .before .before .before .number .ensures) at (c .before .before .mark-list .ensures .1))
 
-pub mark-listed-spec : {M : Type 1} → statement M
-mark-listed-spec =
+pub mark-entries-spec : {M : Type 1} → statement M
+mark-entries-spec =
     tie.close
     (tie.spec
     offset-requires
