@@ -85,7 +85,7 @@ pub fn fill_table(s: &[u8], which: Table, table: &mut [u16])
             ReferenceTest::Passes(EntryTest::Lacks(target)),
             table,
         ),
-        Table::Languages => fill_next(s, ReferenceTest::Passes(EntryTest::NoLanguage), table),
+        Table::Languages => fill_next(s, ReferenceTest::NoLanguage, table),
         Table::Repeats => fill_repeats(s, ReferenceKey::Itself, table),
         Table::Strays => fill_next(s, ReferenceTest::Stray, table),
         Table::Ordinals => fill_repeats(s, ReferenceKey::Ordinal, table),

@@ -1,12 +1,13 @@
 // Rule 6: words and labels outside their values.
-use relations::EntryTest;
+use relations::labels::bad_label;
 use relations::sets::object_maximum;
 use relations::sets::object_minimum;
 use relations::sets::object_value;
 use relations::sets::set_maximum;
 use relations::sets::set_minimum;
 use relations::sets::set_value;
-use runs::reads::any_entry_by;
+use runs::reads::among;
+use runs::reads::inside;
 use sheet::fields::CONTENT_LABELS;
 use sheet::fields::CONTENT_LANGUAGE;
 use sheet::fields::CONTENT_LOUDNESS;
@@ -23,6 +24,7 @@ use sheet::fields::PROGRAMMES;
 use sheet::fields::SET_OWN;
 use sheet::fields::VALUE_SETS;
 use sheet::layout::field;
+use sheet::layout::number;
 use values::Sort;
 use values::language::language;
 use values::language::loudness;
@@ -32,23 +34,31 @@ use values::values::is_minimum;
 use values::values::is_value;
 ghost use mathlib.Core.Path.{_≡_};
 ghost use Rattle.profile.specs.Rules.{badLabel, badObject, badObjectWords, badPack, badSet, badSetWords, badSpeech, badWords, objectRange, rule6, setRange};
-ghost use Rattle.relations.specs.declared.EntryTest.the-variants.{NoLanguage};
-ghost use Rattle.runs.specs.steps.Runs.{NextRight};
+ghost use Rattle.runs.specs.steps.Runs.{LanguageRight};
 ghost use Rattle.sheet.specs.Words.{sheetOf};
 
-// A label outside.
-fn bad_label(s: &[u8], next: &[u16], section: u8, k: u16, at: u8) -> bool
-    ensures { λ r. ⌜ (NextRight (sheetOf (now (s .entry))) NoLanguage (now (next .entry)) → r ≡ badLabel (sheetOf (now (s .entry))) section k at) ⌝ }
+// A label outside, by one look at a table, where it has the list.
+fn bad_label_by(s: &[u8], next: &[u16], section: u8, k: u16, at: u8) -> bool
+    ensures { λ r. ⌜ (LanguageRight (sheetOf (now (s .entry))) (now (next .entry)) → r ≡ badLabel (sheetOf (now (s .entry))) section k at) ⌝ }
 {
-    any_entry_by(s, next, section, k, at, EntryTest::NoLanguage)
+    if next.len() == 0 {
+        return bad_label(s, section, k, at);
+    }
+    let first = field(s, section, k, at);
+    let n = number(s, section, k, at);
+    if inside(s, next, first, n) {
+        among(next, first, n)
+    } else {
+        bad_label(s, section, k, at)
+    }
 }
 
 // Language, labels and loudness of a programme or content.
 fn bad_speech(s: &[u8], next: &[u16], section: u8, k: u16, lang: u8, labels: u8, loud: u8) -> bool
-    ensures { λ r. ⌜ (NextRight (sheetOf (now (s .entry))) NoLanguage (now (next .entry)) → r ≡ badSpeech (sheetOf (now (s .entry))) section k lang labels loud) ⌝ }
+    ensures { λ r. ⌜ (LanguageRight (sheetOf (now (s .entry))) (now (next .entry)) → r ≡ badSpeech (sheetOf (now (s .entry))) section k lang labels loud) ⌝ }
 {
     !language(field(s, section, k, lang))
-        | bad_label(s, next, section, k, labels)
+        | bad_label_by(s, next, section, k, labels)
         | !loudness(field(s, section, k, loud))
 }
 
@@ -128,7 +138,7 @@ fn bad_set(s: &[u8], v: u16) -> bool
 }
 
 pub fn rule6(s: &[u8], next: &[u16], section: u8, k: u16) -> bool
-    ensures { λ r. ⌜ (NextRight (sheetOf (now (s .entry))) NoLanguage (now (next .entry)) → r ≡ rule6 (sheetOf (now (s .entry))) section k) ⌝ }
+    ensures { λ r. ⌜ (LanguageRight (sheetOf (now (s .entry))) (now (next .entry)) → r ≡ rule6 (sheetOf (now (s .entry))) section k) ⌝ }
 {
     match section {
         1 => bad_speech(

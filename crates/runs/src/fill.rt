@@ -13,6 +13,7 @@ use sheet::layout::field;
 use sheet::layout::reference;
 use tables::Mark;
 use tables::marks::mark_at;
+use values::language::language;
 ghost use lib.Dec.{eqb, ltb};
 ghost use lib.ListN.{getD, length};
 ghost use mathlib.Core.Bool.{cond};
@@ -37,6 +38,7 @@ fn reference_test(s: &[u8], test: ReferenceTest, y: u16) -> bool
     let e = reference(s, y as u32);
     match test {
         ReferenceTest::Passes(t) => entry_test(s, t, e),
+        ReferenceTest::NoLanguage => !language(e),
         ReferenceTest::Stray => stray(s, e, reference(s, y as u32 + 1)),
     }
 }

@@ -9,6 +9,8 @@ pub mod reads;
 pub enum ReferenceTest {
     // its entry, for this
     Passes(EntryTest),
+    // its entry is no language
+    NoLanguage,
     // the track that the reference after it names is of another pack, or has an ordinal past its pack's channels
     Stray,
 }

@@ -8,11 +8,12 @@ use lib.ListN.{length, getD}
 use Rattle.sheet.specs.Words.{Sheet}
 use Rattle.sheet.specs.Layout.{count, field, reference}
 use Rattle.sheet.specs.Fields.{packs, tracks, references, packChannels, trackPack, trackOrdinal}
+use Rattle.values.specs.Language.{language}
 use Rattle.profile.specs.Counting.{any, howMany, twoOf}
 use Rattle.relations.specs.declared.EntryTest.{EntryTest}
 use Rattle.relations.specs.steps.Tests.{entryTest}
 use Rattle.runs.specs.declared.ReferenceTest.{ReferenceTest}
-use Rattle.runs.specs.declared.ReferenceTest.the-variants.{Passes, Stray}
+use Rattle.runs.specs.declared.ReferenceTest.the-variants.{Passes, NoLanguage, Stray}
 use Rattle.runs.specs.declared.ReferenceKey.{ReferenceKey}
 use Rattle.runs.specs.declared.ReferenceKey.the-variants.{Itself, Ordinal}
 
@@ -41,6 +42,7 @@ stray s e f =
 -- a reference passes the test
 abbrev pub referenceTest : Sheet → ReferenceTest → ℕ → Bool
 referenceTest s (Passes test) y = entryTest s test (reference s y)
+referenceTest s NoLanguage y = not (language (reference s y))
 referenceTest s Stray y = stray s (reference s y) (reference s (y + 1))
 
 -- what of it is compared
@@ -59,6 +61,10 @@ KeyRight s key t = (x : ℕ) → x < length t → x < count s references → Rep
 -- the next whose entry passes the test
 abbrev pub NextRight : Sheet → EntryTest → List ℕ → Type 0
 NextRight s test t = TestRight s (Passes test) t
+
+-- the next whose entry is no language
+abbrev pub LanguageRight : Sheet → List ℕ → Type 0
+LanguageRight s t = TestRight s NoLanguage t
 
 -- the next whose entry repeats
 abbrev pub RepeatRight : Sheet → List ℕ → Type 0

@@ -8,7 +8,7 @@ use Rattle.sheet.specs.Words.{sheetOf}
 use borrow.Author.Needs.{needs}
 use Rattle.profile.specs.Counting.{any}
 use lib.Dec.{eqb, leb, ltb}
-use Rattle.profile.specs.Rules.{rule5, rule6, rule10, rule12}
+use Rattle.profile.specs.Rules.{rule12}
 use Rattle.sheet.specs.Fields.{contents, objects, packs, programmes, tracks}
 use Rattle.profile.proofs.BoolLaws.{or-none, or-false}
 use Rattle.screen.specs.steps.Screened.{contentBroken, programmeBroken}
