@@ -6,8 +6,7 @@ use relations::sets::object_value;
 use relations::sets::set_maximum;
 use relations::sets::set_minimum;
 use relations::sets::set_value;
-use runs::reads::among;
-use runs::reads::inside;
+use runs::reads::look_up;
 use sheet::fields::CONTENT_LABELS;
 use sheet::fields::CONTENT_LANGUAGE;
 use sheet::fields::CONTENT_LOUDNESS;
@@ -24,7 +23,6 @@ use sheet::fields::PROGRAMMES;
 use sheet::fields::SET_OWN;
 use sheet::fields::VALUE_SETS;
 use sheet::layout::field;
-use sheet::layout::number;
 use values::Sort;
 use values::language::language;
 use values::language::loudness;
@@ -37,17 +35,13 @@ ghost use Rattle.profile.specs.Rules.{badLabel, badObject, badObjectWords, badP
 ghost use Rattle.runs.specs.steps.Runs.{LanguageRight};
 ghost use Rattle.sheet.specs.Words.{sheetOf};
 
-// A label outside, by one look at a table, where it has the list.
+// A label outside, by the table where it has the list.
 fn bad_label_by(s: &[u8], next: &[u16], section: u8, k: u16, at: u8) -> bool
     ensures { λ r. ⌜ (LanguageRight (sheetOf (now (s .entry))) (now (next .entry)) → r ≡ badLabel (sheetOf (now (s .entry))) section k at) ⌝ }
 {
-    if next.len() == 0 {
-        return bad_label(s, section, k, at);
-    }
-    let first = field(s, section, k, at);
-    let n = number(s, section, k, at);
-    if inside(s, next, first, n) {
-        among(next, first, n)
+    let looked = look_up(s, next, section, k, at);
+    if looked.known {
+        looked.found
     } else {
         bad_label(s, section, k, at)
     }

@@ -6,8 +6,8 @@ use mathlib.Core.List.{List}
 use mathlib.Core.Logic.{⊎-elim}
 use native.Mathlib.Omega.{arith}
 use native.Mathlib.Nat.{add-zero, eq-or-lt-of-le}
-use borrow.Author.Tests.{lt-ltb, le-ltb, leb-true, ltb-true, ltb-false, eqb-true, eqb-false}
-use lib.Dec.{eqb, leb, ltb}
+use borrow.Author.Tests.{lt-ltb, le-ltb, ltb-true, ltb-false, eqb-true, eqb-false}
+use lib.Dec.{eqb, ltb}
 use lib.ListN.{length, getD}
 use Rattle.profile.specs.Counting.{any, twoOf}
 use Rattle.profile.proofs.BoolLaws.{or-false, and-both}
@@ -150,12 +150,3 @@ filled-more P m x v t t′ long before here now z a b d =
 pub all-three : (a b d : Bool) → (a && b && d) ≡ true → (a ≡ true) × (b ≡ true) × (d ≡ true)
 all-three true b d e = (refl, and-both b d e .0, and-both b d e .1)
 all-three false b d e = absurd (true≢false (sym e))
-
--- one look at a table tells what Q says of a list that the table has
-pub by-look : (Q : ℕ → ℕ → Bool) (m : ℕ) (t : List ℕ) {x n x′ n′ : ℕ} {has r : Bool} → has ≡ (ltb x (length t) && ltb x m && leb (x + n) m) → has ≡ true
-    → (x < length t → r ≡ ltb (getD t x 0) (x + n)) → x ≡ x′ → n ≡ n′
-    → ((z : ℕ) → z < length t → z < m → (k : ℕ) → z + k ≤ m → ltb (getD t z 0) (z + k) ≡ Q z k) → r ≡ Q x′ n′
-by-look Q m t {x} {n} tested has look e f right =
-    let p = all-three (ltb x (length t)) (ltb x m) (leb (x + n) m) (sym tested ∙ has) in
-    let l = ltb-true x (length t) (p .0) in
-    look l ∙ right x l (ltb-true x m (p .1)) n (leb-true (x + n) m (p .2)) ∙ ap₂ Q e f

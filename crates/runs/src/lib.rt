@@ -15,6 +15,12 @@ pub enum ReferenceTest {
     Stray,
 }
 
+// What a table tells of a list: `found` says something only where it is known.
+pub struct Lookup {
+    pub known: bool,
+    pub found: bool,
+}
+
 // What of two references is compared.
 pub enum ReferenceKey {
     // the entries themselves

@@ -1,12 +1,12 @@
 -- What stands in a table over the references. An empty table is right. Assumes nothing.
 use Prim.Native.Nat.{ℕ, _+_, _<_, _≤_}
 use mathlib.Core.Path.{_≡_}
-use mathlib.Core.Bool.{Bool, not, _||_}
+use mathlib.Core.Bool.{Bool, true, not, _||_}
 use mathlib.Core.List.{List}
 use lib.Dec.{eqb, leb, ltb}
 use lib.ListN.{length, getD}
 use Rattle.sheet.specs.Words.{Sheet}
-use Rattle.sheet.specs.Layout.{count, field, reference}
+use Rattle.sheet.specs.Layout.{count, field, first, number, reference}
 use Rattle.sheet.specs.Fields.{packs, tracks, references, packChannels, trackPack, trackOrdinal}
 use Rattle.values.specs.Language.{language}
 use Rattle.profile.specs.Counting.{any, howMany, twoOf}
@@ -14,6 +14,7 @@ use Rattle.relations.specs.declared.EntryTest.{EntryTest}
 use Rattle.relations.specs.steps.Tests.{entryTest}
 use Rattle.runs.specs.declared.ReferenceTest.{ReferenceTest}
 use Rattle.runs.specs.declared.ReferenceTest.the-variants.{Passes, NoLanguage, Stray}
+use Rattle.runs.specs.declared.Lookup.{Lookup}
 use Rattle.runs.specs.declared.ReferenceKey.{ReferenceKey}
 use Rattle.runs.specs.declared.ReferenceKey.the-variants.{Itself, Ordinal}
 
@@ -49,6 +50,14 @@ referenceTest s Stray y = stray s (reference s y) (reference s (y + 1))
 abbrev pub referenceKey : Sheet → ReferenceKey → ℕ → ℕ
 referenceKey s Itself y = reference s y
 referenceKey s Ordinal y = ordinalAt s y
+
+-- by the table, some reference of a list inside section 6, n from x on, is what it looks for exactly when Q x n
+abbrev pub Tells : (ℕ → ℕ → Bool) → Sheet → List ℕ → Type 0
+Tells Q s t = (x : ℕ) → x < length t → x < count s references → (n : ℕ) → x + n ≤ count s references → ltb (getD t x 0) (x + n) ≡ Q x n
+
+-- what is found of a list, where it is known, is what the table tells
+abbrev pub LookedUp : Sheet → List ℕ → ℕ → ℕ → ℕ → Lookup → Type 0
+LookedUp s t section k at r = r .known ≡ true → (Q : ℕ → ℕ → Bool) → Tells Q s t → r .found ≡ Q (first s section k at) (number s section k at)
 
 -- the table has for each reference the next that passes the test
 abbrev pub TestRight : Sheet → ReferenceTest → List ℕ → Type 0
