@@ -32,12 +32,13 @@ use values::values::is_minimum;
 use values::values::is_value;
 ghost use mathlib.Core.Path.{_≡_};
 ghost use Rattle.profile.specs.Rules.{badLabel, badObject, badObjectWords, badPack, badSet, badSetWords, badSpeech, badWords, objectRange, rule6, setRange};
-ghost use Rattle.runs.specs.steps.Runs.{LanguageRight};
+ghost use Rattle.runs.specs.declared.ReferenceTest.the-variants.{NoLanguage};
+ghost use Rattle.runs.specs.steps.Runs.{NextRight};
 ghost use Rattle.sheet.specs.Words.{sheetOf};
 
 // A label outside, by the table where it has the list.
 fn bad_label_by(s: &[u8], next: &[u16], section: u8, k: u16, at: u8) -> bool
-    ensures { λ r. ⌜ (LanguageRight (sheetOf (now (s .entry))) (now (next .entry)) → r ≡ badLabel (sheetOf (now (s .entry))) section k at) ⌝ }
+    ensures { λ r. ⌜ (NextRight (sheetOf (now (s .entry))) NoLanguage (now (next .entry)) → r ≡ badLabel (sheetOf (now (s .entry))) section k at) ⌝ }
 {
     let looked = look_up(s, next, section, k, at);
     if looked.known {
@@ -49,7 +50,7 @@ fn bad_label_by(s: &[u8], next: &[u16], section: u8, k: u16, at: u8) -> bool
 
 // Language, labels and loudness of a programme or content.
 fn bad_speech(s: &[u8], next: &[u16], section: u8, k: u16, lang: u8, labels: u8, loud: u8) -> bool
-    ensures { λ r. ⌜ (LanguageRight (sheetOf (now (s .entry))) (now (next .entry)) → r ≡ badSpeech (sheetOf (now (s .entry))) section k lang labels loud) ⌝ }
+    ensures { λ r. ⌜ (NextRight (sheetOf (now (s .entry))) NoLanguage (now (next .entry)) → r ≡ badSpeech (sheetOf (now (s .entry))) section k lang labels loud) ⌝ }
 {
     !language(field(s, section, k, lang))
         | bad_label_by(s, next, section, k, labels)
@@ -132,7 +133,7 @@ fn bad_set(s: &[u8], v: u16) -> bool
 }
 
 pub fn rule6(s: &[u8], next: &[u16], section: u8, k: u16) -> bool
-    ensures { λ r. ⌜ (LanguageRight (sheetOf (now (s .entry))) (now (next .entry)) → r ≡ rule6 (sheetOf (now (s .entry))) section k) ⌝ }
+    ensures { λ r. ⌜ (NextRight (sheetOf (now (s .entry))) NoLanguage (now (next .entry)) → r ≡ rule6 (sheetOf (now (s .entry))) section k) ⌝ }
 {
     match section {
         1 => bad_speech(

@@ -1,7 +1,5 @@
 // A list answered by one look at a table, where the table has it and the list is inside section 6.
 use crate::Lookup;
-use relations::EntryTest;
-use relations::entries::any_entry;
 use sheet::fields::REFERENCES;
 use sheet::fields::TRACK_ORDINAL;
 use sheet::fields::TRACK_PACK;
@@ -15,8 +13,7 @@ ghost use lib.Dec.{leb, ltb};
 ghost use lib.ListN.{getD, length};
 ghost use mathlib.Core.Bool.{_&&_};
 ghost use mathlib.Core.Path.{_≡_};
-ghost use Rattle.relations.specs.steps.Tests.{anyEntry};
-ghost use Rattle.runs.specs.steps.Runs.{LookedUp, NextRight, OrdinalRight, StrayRight, oddTracks};
+ghost use Rattle.runs.specs.steps.Runs.{LookedUp, OrdinalRight, StrayRight, oddTracks};
 ghost use Rattle.sheet.specs.Fields.{packChannels, packs, references};
 ghost use Rattle.sheet.specs.Layout.{count, field};
 ghost use Rattle.sheet.specs.Words.{sheetOf};
@@ -77,17 +74,5 @@ pub fn look_up(s: &[u8], table: &[u16], section: u8, k: u16, at: u8) -> Lookup
     Lookup {
         known: inside(s, table, first, n),
         found: among(table, first, n),
-    }
-}
-
-// Whether some entry of the list at a position of a record passes the test.
-pub fn any_entry_by(s: &[u8], next: &[u16], section: u8, k: u16, at: u8, test: EntryTest) -> bool
-    ensures { λ r. ⌜ (NextRight (sheetOf (now (s .entry))) test (now (next .entry)) → r ≡ anyEntry (sheetOf (now (s .entry))) section k at test) ⌝ }
-{
-    let looked = look_up(s, next, section, k, at);
-    if looked.known {
-        looked.found
-    } else {
-        any_entry(s, section, k, at, test)
     }
 }

@@ -5,9 +5,9 @@ use mathlib.Core.List.{List}
 use lib.Dec.{eqb}
 use Rattle.sheet.specs.Words.{Sheet}
 use Rattle.sheet.specs.Fields.{programmes, objects}
-use Rattle.relations.specs.declared.EntryTest.the-variants.{Lacks}
 use Rattle.tables.specs.steps.Right as tables
-use Rattle.runs.specs.steps.Runs.{LanguageRight, NextRight, OrdinalRight, RepeatRight, StrayRight}
+use Rattle.runs.specs.declared.ReferenceTest.the-variants.{Lacks, NoLanguage}
+use Rattle.runs.specs.steps.Runs.{NextRight, OrdinalRight, RepeatRight, StrayRight}
 use Rattle.rules.specs.steps.Loops.{firstTarget, secondTarget}
 use Rattle.checker.specs.declared.Table.{Table}
 use Rattle.checker.specs.declared.Table.the-variants.{Nothing, Named, Spanned, Listed, Tops, Complements, Owners, Leaders, Lacking, Languages, Repeats, Strays, Ordinals}
@@ -23,7 +23,7 @@ Right s Complements t = tables.Complemented s t
 Right s Owners t = tables.Owners s t
 Right s Leaders t = tables.Leaders s t
 Right s (Lacking target) t = NextRight s (Lacks target) t
-Right s Languages t = LanguageRight s t
+Right s Languages t = NextRight s NoLanguage t
 Right s Repeats t = RepeatRight s t
 Right s Strays t = StrayRight s t
 Right s Ordinals t = OrdinalRight s t

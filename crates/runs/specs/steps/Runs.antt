@@ -10,10 +10,9 @@ use Rattle.sheet.specs.Layout.{count, field, first, number, reference}
 use Rattle.sheet.specs.Fields.{packs, tracks, references, packChannels, trackPack, trackOrdinal}
 use Rattle.values.specs.Language.{language}
 use Rattle.profile.specs.Counting.{any, howMany, twoOf}
-use Rattle.relations.specs.declared.EntryTest.{EntryTest}
-use Rattle.relations.specs.steps.Tests.{entryTest}
+use Rattle.profile.specs.Rules.{lacks}
 use Rattle.runs.specs.declared.ReferenceTest.{ReferenceTest}
-use Rattle.runs.specs.declared.ReferenceTest.the-variants.{Passes, NoLanguage, Stray}
+use Rattle.runs.specs.declared.ReferenceTest.the-variants.{Lacks, NoLanguage, Stray}
 use Rattle.runs.specs.declared.Lookup.{Lookup}
 use Rattle.runs.specs.declared.ReferenceKey.{ReferenceKey}
 use Rattle.runs.specs.declared.ReferenceKey.the-variants.{Itself, Ordinal}
@@ -42,7 +41,7 @@ stray s e f =
 
 -- a reference passes the test
 abbrev pub referenceTest : Sheet → ReferenceTest → ℕ → Bool
-referenceTest s (Passes test) y = entryTest s test (reference s y)
+referenceTest s (Lacks section) y = lacks s section (reference s y)
 referenceTest s NoLanguage y = not (language (reference s y))
 referenceTest s Stray y = stray s (reference s y) (reference s (y + 1))
 
@@ -60,20 +59,12 @@ abbrev pub LookedUp : Sheet → List ℕ → ℕ → ℕ → ℕ → Lookup → 
 LookedUp s t section k at r = r .known ≡ true → (Q : ℕ → ℕ → Bool) → Tells Q s t → r .found ≡ Q (first s section k at) (number s section k at)
 
 -- the table has for each reference the next that passes the test
-abbrev pub TestRight : Sheet → ReferenceTest → List ℕ → Type 0
-TestRight s test t = (x : ℕ) → x < length t → x < count s references → Next (referenceTest s test) (count s references) x (getD t x 0)
+abbrev pub NextRight : Sheet → ReferenceTest → List ℕ → Type 0
+NextRight s test t = (x : ℕ) → x < length t → x < count s references → Next (referenceTest s test) (count s references) x (getD t x 0)
 
 -- the table has for each reference the next that repeats what is compared
 abbrev pub KeyRight : Sheet → ReferenceKey → List ℕ → Type 0
 KeyRight s key t = (x : ℕ) → x < length t → x < count s references → Repeat (referenceKey s key) (count s references) x (getD t x 0)
-
--- the next whose entry passes the test
-abbrev pub NextRight : Sheet → EntryTest → List ℕ → Type 0
-NextRight s test t = TestRight s (Passes test) t
-
--- the next whose entry is no language
-abbrev pub LanguageRight : Sheet → List ℕ → Type 0
-LanguageRight s t = TestRight s NoLanguage t
 
 -- the next whose entry repeats
 abbrev pub RepeatRight : Sheet → List ℕ → Type 0
@@ -81,7 +72,7 @@ RepeatRight s t = KeyRight s Itself t
 
 -- the next after which a track does not go on with the pack
 abbrev pub StrayRight : Sheet → List ℕ → Type 0
-StrayRight s t = TestRight s Stray t
+StrayRight s t = NextRight s Stray t
 
 -- the next whose track has an ordinal again
 abbrev pub OrdinalRight : Sheet → List ℕ → Type 0

@@ -9,8 +9,8 @@ reference-requires c κs = search needs
 enum-known-test : tie.Need-enum-known-test
 enum-known-test c = search needs
 
-entry-test-requires : tie.Need-entry-test-requires
-entry-test-requires c κs = search needs
+lacks-requires : tie.Need-lacks-requires
+lacks-requires c κs = search needs
 
 enum-told : tie.Need-enum-told
 enum-told c = search needs
@@ -31,7 +31,7 @@ stray-requires : tie.Need-stray-requires
 stray-requires c κs = search needs
 
 returns : tie.Need-returns
-returns c = simp (c .before .before .test .given .1, c .entry-test .ensures, c .before .before .before .before .reference .ensures)
+returns c = simp (c .before .before .test .given .1, c .lacks .ensures, c .before .before .before .before .reference .ensures)
 
 returns-2 : tie.Need-returns-2
 returns-2 c = simp (c .before .enum-told .given .1, c .language .ensures, c .before .before .before .reference .ensures)
@@ -45,7 +45,7 @@ reference-test-spec =
     (tie.spec
     reference-requires
     enum-known-test
-    entry-test-requires
+    lacks-requires
     enum-told
     language-requires
     enum-told-2
