@@ -50,7 +50,7 @@ abbrev pub referenceKey : Sheet → ReferenceKey → ℕ → ℕ
 referenceKey s Itself y = reference s y
 referenceKey s Ordinal y = ordinalAt s y
 
--- by the table, some reference of a list inside section 6, n from x on, is what it looks for exactly when Q x n
+-- the table tells Q of each list inside section 6, n references from x on: Q x n exactly when what stands at x is below their end
 abbrev pub Tells : (ℕ → ℕ → Bool) → Sheet → List ℕ → Type 0
 Tells Q s t = (x : ℕ) → x < length t → x < count s references → (n : ℕ) → x + n ≤ count s references → ltb (getD t x 0) (x + n) ≡ Q x n
 

@@ -49,7 +49,12 @@ lacks-requires-3 c κs = search needs
 
 returns : tie.Need-returns
 unfolding rule5 firstTarget secondTarget
-returns c = λ first second. let f : NextRight (sheetOf (c .before .before .before .before .before .before .args .s .now)) (Lacks contents) (c .before .before .before .before .before .before .args .first .now) = rw (c .before .before .match .keys1) at first in let g : NextRight (sheetOf (c .before .before .before .before .before .before .args .s .now)) (Lacks valueSets) (c .before .before .before .before .before .before .args .second .now) = rw (c .before .before .match .keys1) at second in simp (c .list-lacks-by2 .ensures g, c .before .list-lacks-by .ensures f, c .before .before .match .keys1, or-false)
+returns c = λ first second.
+    let a = c .before .before .before .before .before .before .args in
+    let s = sheetOf (a .s .now) in
+    let f : NextRight s (Lacks contents) (a .first .now) = rw (c .before .before .match .keys1) at first in
+    let g : NextRight s (Lacks valueSets) (a .second .now) = rw (c .before .before .match .keys1) at second in
+    simp (c .list-lacks-by2 .ensures g, c .before .list-lacks-by .ensures f, c .before .before .match .keys1, or-false)
 
 returns-2 : tie.Need-returns-2
 unfolding rule5
@@ -57,7 +62,13 @@ returns-2 c = λ first second. simp (c .lacks .ensures, c .before .field .ensure
 
 returns-3 : tie.Need-returns-3
 unfolding rule5 firstTarget secondTarget
-returns-3 c = λ first second. let f : NextRight (sheetOf (c .before .before .before .before .before .before .before .before .before .before .args .s .now)) (Lacks tracks) (c .before .before .before .before .before .before .before .before .before .before .args .first .now) = rw (c .before .before .before .before .before .before .match .keys3) at first in let g : NextRight (sheetOf (c .before .before .before .before .before .before .before .before .before .before .args .s .now)) (Lacks objects) (c .before .before .before .before .before .before .before .before .before .before .args .second .now) = rw (c .before .before .before .before .before .before .match .keys3) at second in simp (c .list-lacks-by5 .ensures g, c .before .list-lacks-by4 .ensures g, c .before .before .list-lacks-by3 .ensures f, c .before .before .before .lacks2 .ensures, c .before .before .before .before .pack-of .ensures, c .before .before .before .before .before .has-pack .ensures, c .before .before .before .before .before .before .match .keys3, or-false)
+returns-3 c = λ first second.
+    let m = c .before .before .before .before .before .before in
+    let a = m .before .before .before .before .args in
+    let s = sheetOf (a .s .now) in
+    let f : NextRight s (Lacks tracks) (a .first .now) = rw (m .match .keys3) at first in
+    let g : NextRight s (Lacks objects) (a .second .now) = rw (m .match .keys3) at second in
+    simp (c .list-lacks-by5 .ensures g, c .before .list-lacks-by4 .ensures g, c .before .before .list-lacks-by3 .ensures f, c .before .before .before .lacks2 .ensures, c .before .before .before .before .pack-of .ensures, c .before .before .before .before .before .has-pack .ensures, m .match .keys3, or-false)
 
 returns-4 : tie.Need-returns-4
 unfolding rule5
