@@ -1,6 +1,5 @@
 // Which tables a rule is lent, and filling them.
 use crate::Table;
-use relations::EntryTest;
 use rules::lists::first_target;
 use rules::lists::second_target;
 use runs::ReferenceKey;
@@ -80,12 +79,8 @@ pub fn fill_table(s: &[u8], which: Table, table: &mut [u16])
         Table::Complements => count_covered(s, Naming::Complements, table),
         Table::Owners => first_namers(s, Naming::SetSpans, table),
         Table::Leaders => first_namers(s, Naming::Complements, table),
-        Table::Lacking(target) => fill_next(
-            s,
-            ReferenceTest::Passes(EntryTest::Lacks(target)),
-            table,
-        ),
-        Table::Languages => fill_next(s, ReferenceTest::Passes(EntryTest::NoLanguage), table),
+        Table::Lacking(target) => fill_next(s, ReferenceTest::Lacks(target), table),
+        Table::Languages => fill_next(s, ReferenceTest::NoLanguage, table),
         Table::Repeats => fill_repeats(s, ReferenceKey::Itself, table),
         Table::Strays => fill_next(s, ReferenceTest::Stray, table),
         Table::Ordinals => fill_repeats(s, ReferenceKey::Ordinal, table),

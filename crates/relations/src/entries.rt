@@ -9,12 +9,11 @@ use sheet::fields::TRACKS;
 use sheet::layout::entry;
 use sheet::layout::field;
 use sheet::layout::number;
-use values::language::language;
 ghost use Prim.Native.Nat.{_≤_};
 ghost use mathlib.Core.Bool.{cond};
 ghost use mathlib.Core.Path.{_≡_};
 ghost use Rattle.profile.specs.Relations.{lists, times};
-ghost use Rattle.relations.specs.steps.Tests.{anyEntry, entryTest, howManyEntries, lowestEntry};
+ghost use Rattle.relations.specs.steps.Tests.{anyEntry, entryTest, howManyEntries};
 ghost use Rattle.sheet.specs.Layout.{number};
 ghost use Rattle.sheet.specs.Words.{sheetOf};
 
@@ -32,7 +31,6 @@ pub fn entry_test(s: &[u8], test: EntryTest, e: u16) -> bool
     match test {
         EntryTest::Is(x) => e == x,
         EntryTest::Lacks(section) => lacks(s, section, e),
-        EntryTest::NoLanguage => !language(e),
         EntryTest::NoObjectsPack => !has_objects_pack(s, e),
         EntryTest::OtherPack(pack) => field(s, TRACKS, e, TRACK_PACK) != pack,
         EntryTest::Ordinal(n) => field(s, TRACKS, e, TRACK_ORDINAL) == n,
@@ -53,21 +51,6 @@ pub fn how_many_entries(s: &[u8], section: u8, k: u16, at: u8, test: EntryTest) 
         i += 1;
     }
     found
-}
-
-// The position of the first entry that passes the test, or the number of entries.
-pub fn lowest_entry(s: &[u8], section: u8, k: u16, at: u8, test: EntryTest) -> u16
-    ensures { λ r. ⌜ r ≡ lowestEntry (sheetOf (now (s .entry))) section k at test ⌝ }
-{
-    let n = number(s, section, k, at);
-    let mut i: u16 = 0;
-    while i < n {
-        if entry_test(s, test, entry(s, section, k, at, i)) {
-            return i;
-        }
-        i += 1;
-    }
-    n
 }
 
 // Whether some entry passes the test.

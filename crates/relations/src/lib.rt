@@ -2,6 +2,7 @@
 // same name in the profile crate, so that a body can be made faster without touching a caller.
 pub mod entries;
 pub mod groups;
+pub mod labels;
 pub mod objects;
 pub mod programmes;
 pub mod records;
@@ -14,8 +15,6 @@ pub enum EntryTest {
     Is(u16),
     // that section has no such record
     Lacks(u8),
-    // it is no language
-    NoLanguage,
     // the object has no pack of kind 3
     NoObjectsPack,
     // the track is not of this pack

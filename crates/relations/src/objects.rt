@@ -4,6 +4,7 @@ use sheet::fields::COMPLEMENT_LIST;
 use sheet::fields::NO_PACK;
 use sheet::fields::OBJECT_PACK;
 use sheet::fields::OBJECTS;
+use sheet::fields::PACK_CHANNELS;
 use sheet::fields::PACK_FRONT;
 use sheet::fields::PACK_KIND;
 use sheet::fields::PACKS;
@@ -11,7 +12,7 @@ use sheet::layout::count;
 use sheet::layout::field;
 use sheet::layout::number;
 ghost use mathlib.Core.Path.{_≡_};
-ghost use Rattle.profile.specs.Relations.{hasChildren, hasFrontPack, hasObjectsPack, hasPack, kind, leader, packOf};
+ghost use Rattle.profile.specs.Relations.{channels, hasChildren, hasFrontPack, hasObjectsPack, hasPack, kind, leader, packOf};
 ghost use Rattle.profile.specs.Rules.{lacks};
 ghost use Rattle.sheet.specs.Words.{sheetOf};
 
@@ -53,6 +54,17 @@ pub fn kind(s: &[u8], o: u16) -> u16
         3
     } else {
         field(s, PACKS, pack_of(s, o), PACK_KIND)
+    }
+}
+
+// How many tracks an object has to have: its pack's channels, "(0 with children)".
+pub fn channels(s: &[u8], o: u16) -> u16
+    ensures { λ r. ⌜ r ≡ channels (sheetOf (now (s .entry))) o ⌝ }
+{
+    if has_children(s, o) {
+        0
+    } else {
+        field(s, PACKS, pack_of(s, o), PACK_CHANNELS)
     }
 }
 

@@ -1,7 +1,6 @@
 // What a programme includes, and the sets that it names.
 use crate::EntryTest;
 use crate::entries::any_entry;
-use crate::entries::lowest_entry;
 use sheet::fields::CONTENT_LIST;
 use sheet::fields::CONTENT_OBJECT;
 use sheet::fields::CONTENTS;
@@ -11,7 +10,7 @@ use sheet::layout::entry;
 use sheet::layout::field;
 use sheet::layout::number;
 ghost use mathlib.Core.Path.{_≡_};
-ghost use Rattle.profile.specs.Relations.{includes, namedSet, namesSet, setFor};
+ghost use Rattle.profile.specs.Relations.{includes, namedSet, namesSet};
 ghost use Rattle.sheet.specs.Words.{sheetOf};
 
 // "A programme includes the top objects of its contents": a loop of its own, which is faster than a test picked for each entry.
@@ -41,15 +40,4 @@ pub fn names_set(s: &[u8], p: u16, o: u16) -> bool
     ensures { λ r. ⌜ r ≡ namesSet (sheetOf (now (s .entry))) p o ⌝ }
 {
     any_entry(s, PROGRAMMES, p, SET_LIST, EntryTest::SetOf(o))
-}
-
-// The set that the programme names for the object.
-pub fn set_for(s: &[u8], p: u16, o: u16) -> u16
-    ensures { λ r. ⌜ r ≡ setFor (sheetOf (now (s .entry))) p o ⌝ }
-{
-    named_set(
-        s,
-        p,
-        lowest_entry(s, PROGRAMMES, p, SET_LIST, EntryTest::SetOf(o)),
-    )
 }

@@ -1,10 +1,11 @@
 // Rules 4, 5 and 9: lists and the indices and labels in them.
 use crate::repeats::repeats_by;
 use relations::EntryTest;
+use relations::entries::any_entry;
 use relations::objects::has_pack;
 use relations::objects::lacks;
 use relations::objects::pack_of;
-use runs::reads::any_entry_by;
+use runs::reads::look_up;
 use sheet::fields::CHILD_LIST;
 use sheet::fields::COMPLEMENT_LIST;
 use sheet::fields::CONTENT_LABELS;
@@ -27,8 +28,8 @@ use sheet::layout::field;
 use sheet::layout::number;
 ghost use mathlib.Core.Path.{_≡_};
 ghost use Rattle.profile.specs.Rules.{beyond, listLacks, rule4, rule5, rule9};
-ghost use Rattle.relations.specs.declared.EntryTest.the-variants.{Lacks};
 ghost use Rattle.rules.specs.steps.Loops.{firstTarget, secondTarget};
+ghost use Rattle.runs.specs.declared.ReferenceTest.the-variants.{Lacks};
 ghost use Rattle.runs.specs.steps.Runs.{NextRight, RepeatRight};
 ghost use Rattle.sheet.specs.Words.{sheetOf};
 
@@ -57,11 +58,16 @@ pub fn rule4(s: &[u8], section: u8, k: u16) -> bool
     }
 }
 
-// An entry of the list at a position of a record names an index that the target section lacks.
-fn list_lacks(s: &[u8], next: &[u16], target: u8, section: u8, k: u16, at: u8) -> bool
+// An entry of the list at a position of a record names an index that the target section lacks, by the table where it has the list.
+fn list_lacks_by(s: &[u8], next: &[u16], target: u8, section: u8, k: u16, at: u8) -> bool
     ensures { λ r. ⌜ (NextRight (sheetOf (now (s .entry))) (Lacks target) (now (next .entry)) → r ≡ listLacks (sheetOf (now (s .entry))) target section k at) ⌝ }
 {
-    any_entry_by(s, next, section, k, at, EntryTest::Lacks(target))
+    let looked = look_up(s, next, section, k, at);
+    if looked.known {
+        looked.found
+    } else {
+        any_entry(s, section, k, at, EntryTest::Lacks(target))
+    }
 }
 
 // The section that contents, or tracks, are listed for.
@@ -91,14 +97,14 @@ pub fn rule5(s: &[u8], first: &[u16], second: &[u16], section: u8, k: u16) -> bo
     ensures { λ r. ⌜ (NextRight (sheetOf (now (s .entry))) (Lacks (firstTarget section)) (now (first .entry)) → NextRight (sheetOf (now (s .entry))) (Lacks (secondTarget section)) (now (second .entry)) → r ≡ rule5 (sheetOf (now (s .entry))) section k) ⌝ }
 {
     match section {
-        1 => list_lacks(s, first, CONTENTS, PROGRAMMES, k, CONTENT_LIST)
-            | list_lacks(s, second, VALUE_SETS, PROGRAMMES, k, SET_LIST),
+        1 => list_lacks_by(s, first, CONTENTS, PROGRAMMES, k, CONTENT_LIST)
+            | list_lacks_by(s, second, VALUE_SETS, PROGRAMMES, k, SET_LIST),
         2 => lacks(s, OBJECTS, field(s, CONTENTS, k, CONTENT_OBJECT)),
         3 => {
             has_pack(s, k) & lacks(s, PACKS, pack_of(s, k))
-                | list_lacks(s, first, TRACKS, OBJECTS, k, TRACK_LIST)
-                | list_lacks(s, second, OBJECTS, OBJECTS, k, CHILD_LIST)
-                | list_lacks(s, second, OBJECTS, OBJECTS, k, COMPLEMENT_LIST)
+                | list_lacks_by(s, first, TRACKS, OBJECTS, k, TRACK_LIST)
+                | list_lacks_by(s, second, OBJECTS, OBJECTS, k, CHILD_LIST)
+                | list_lacks_by(s, second, OBJECTS, OBJECTS, k, COMPLEMENT_LIST)
         }
         5 => lacks(s, PACKS, field(s, TRACKS, k, TRACK_PACK)),
         _ => false,

@@ -9,15 +9,12 @@ use relations::entries::one;
 use relations::entries::times;
 use relations::groups::member;
 use relations::groups::members;
-use relations::objects::has_children;
+use relations::objects::channels;
 use relations::objects::kind;
 use relations::objects::leader;
-use relations::objects::pack_of;
 use sheet::fields::COMPLEMENT_LIST;
 use sheet::fields::INTERACT;
 use sheet::fields::OBJECTS;
-use sheet::fields::PACK_CHANNELS;
-use sheet::fields::PACKS;
 use sheet::fields::SET_GAIN;
 use sheet::fields::SET_OWN;
 use sheet::fields::SET_SPAN;
@@ -36,7 +33,6 @@ use tables::reads::top_by;
 ghost use Prim.Native.Nat.{_*_, _≤_};
 ghost use lib.Dec.{ltb};
 ghost use mathlib.Core.Path.{_≡_};
-ghost use Rattle.profile.specs.Relations.{channels};
 ghost use Rattle.profile.specs.Rules.{badComplement, differs, setsDiffer};
 ghost use Rattle.relations.specs.steps.Tests.{howManyMembers, memberTest};
 ghost use Rattle.rules.specs.steps.Loops.{anyGroup, anyTabled, badChannel, earlierEntry, fieldsDiffer, groupRight, groupTest, tabledRight, tabledTest, memberRight, ownSet, pairRight, pairTest, totalTimes, twoEntries};
@@ -255,17 +251,6 @@ pub fn any_group(s: &[u8], p: u16, marks: &[u16], sets: &[u16], test: GroupTest)
         l += 1;
     }
     found
-}
-
-// "not as many as its pack's channels (0 with children)"
-pub fn channels(s: &[u8], o: u16) -> u16
-    ensures { λ r. ⌜ r ≡ channels (sheetOf (now (s .entry))) o ⌝ }
-{
-    if has_children(s, o) {
-        0
-    } else {
-        field(s, PACKS, pack_of(s, o), PACK_CHANNELS)
-    }
 }
 
 // Whether some channel is not the ordinal of exactly one of the object's tracks.

@@ -1,10 +1,10 @@
 // Rules 13 to 16: what an object has and may have.
-use crate::loops::channels;
 use crate::loops::own_set;
 use crate::repeats::bad_ordinals;
 use crate::words::object_range;
 use relations::EntryTest;
 use relations::entries::any_entry;
+use relations::objects::channels;
 use relations::objects::has_children;
 use relations::objects::has_pack;
 use relations::objects::leader;

@@ -7,8 +7,7 @@ use crate::loops::two_entries;
 use relations::EntryTest;
 use relations::entries::any_entry;
 use relations::programmes::named_set;
-use runs::reads::among;
-use runs::reads::inside;
+use runs::reads::look_up;
 use sheet::fields::OBJECTS;
 use sheet::fields::PROGRAMMES;
 use sheet::fields::SET_LIST;
@@ -91,17 +90,13 @@ pub fn repeats(s: &[u8], section: u8, k: u16, at: u8) -> bool
     }
 }
 
-// The same by one look at a table, where it has the list.
+// The same, by the table where it has the list.
 pub fn repeats_by(s: &[u8], next: &[u16], section: u8, k: u16, at: u8) -> bool
     ensures { λ r. ⌜ (RepeatRight (sheetOf (now (s .entry))) (now (next .entry)) → r ≡ repeats (sheetOf (now (s .entry))) section k at) ⌝ }
 {
-    if next.len() == 0 {
-        return repeats(s, section, k, at);
-    }
-    let first = field(s, section, k, at);
-    let n = number(s, section, k, at);
-    if inside(s, next, first, n) {
-        among(next, first, n)
+    let looked = look_up(s, next, section, k, at);
+    if looked.known {
+        looked.found
     } else {
         repeats(s, section, k, at)
     }

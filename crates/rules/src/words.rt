@@ -1,12 +1,12 @@
 // Rule 6: words and labels outside their values.
-use relations::EntryTest;
+use relations::labels::bad_label;
 use relations::sets::object_maximum;
 use relations::sets::object_minimum;
 use relations::sets::object_value;
 use relations::sets::set_maximum;
 use relations::sets::set_minimum;
 use relations::sets::set_value;
-use runs::reads::any_entry_by;
+use runs::reads::look_up;
 use sheet::fields::CONTENT_LABELS;
 use sheet::fields::CONTENT_LANGUAGE;
 use sheet::fields::CONTENT_LOUDNESS;
@@ -32,15 +32,20 @@ use values::values::is_minimum;
 use values::values::is_value;
 ghost use mathlib.Core.Path.{_≡_};
 ghost use Rattle.profile.specs.Rules.{badLabel, badObject, badObjectWords, badPack, badSet, badSetWords, badSpeech, badWords, objectRange, rule6, setRange};
-ghost use Rattle.relations.specs.declared.EntryTest.the-variants.{NoLanguage};
+ghost use Rattle.runs.specs.declared.ReferenceTest.the-variants.{NoLanguage};
 ghost use Rattle.runs.specs.steps.Runs.{NextRight};
 ghost use Rattle.sheet.specs.Words.{sheetOf};
 
-// A label outside.
-fn bad_label(s: &[u8], next: &[u16], section: u8, k: u16, at: u8) -> bool
+// A label outside, by the table where it has the list.
+fn bad_label_by(s: &[u8], next: &[u16], section: u8, k: u16, at: u8) -> bool
     ensures { λ r. ⌜ (NextRight (sheetOf (now (s .entry))) NoLanguage (now (next .entry)) → r ≡ badLabel (sheetOf (now (s .entry))) section k at) ⌝ }
 {
-    any_entry_by(s, next, section, k, at, EntryTest::NoLanguage)
+    let looked = look_up(s, next, section, k, at);
+    if looked.known {
+        looked.found
+    } else {
+        bad_label(s, section, k, at)
+    }
 }
 
 // Language, labels and loudness of a programme or content.
@@ -48,7 +53,7 @@ fn bad_speech(s: &[u8], next: &[u16], section: u8, k: u16, lang: u8, labels: u8,
     ensures { λ r. ⌜ (NextRight (sheetOf (now (s .entry))) NoLanguage (now (next .entry)) → r ≡ badSpeech (sheetOf (now (s .entry))) section k lang labels loud) ⌝ }
 {
     !language(field(s, section, k, lang))
-        | bad_label(s, next, section, k, labels)
+        | bad_label_by(s, next, section, k, labels)
         | !loudness(field(s, section, k, loud))
 }
 

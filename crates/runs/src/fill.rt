@@ -1,7 +1,7 @@
 // One pass over the references from the end. A reference past the table's end is passed over.
 use crate::ReferenceKey;
 use crate::ReferenceTest;
-use relations::entries::entry_test;
+use relations::objects::lacks;
 use sheet::fields::PACK_CHANNELS;
 use sheet::fields::PACKS;
 use sheet::fields::REFERENCES;
@@ -13,11 +13,12 @@ use sheet::layout::field;
 use sheet::layout::reference;
 use tables::Mark;
 use tables::marks::mark_at;
+use values::language::language;
 ghost use lib.Dec.{eqb, ltb};
 ghost use lib.ListN.{getD, length};
 ghost use mathlib.Core.Bool.{cond};
 ghost use mathlib.Core.Path.{_≡_};
-ghost use Rattle.runs.specs.steps.Runs.{KeyRight, TestRight, referenceKey, referenceTest, stray};
+ghost use Rattle.runs.specs.steps.Runs.{KeyRight, NextRight, referenceKey, referenceTest, stray};
 ghost use Rattle.sheet.specs.Words.{sheetOf};
 ghost use Rattle.tables.specs.steps.Marks.{Standing};
 
@@ -36,7 +37,8 @@ fn reference_test(s: &[u8], test: ReferenceTest, y: u16) -> bool
 {
     let e = reference(s, y as u32);
     match test {
-        ReferenceTest::Passes(t) => entry_test(s, t, e),
+        ReferenceTest::Lacks(section) => lacks(s, section, e),
+        ReferenceTest::NoLanguage => !language(e),
         ReferenceTest::Stray => stray(s, e, reference(s, y as u32 + 1)),
     }
 }
@@ -61,7 +63,7 @@ fn here_or(test: bool, x: u16, next: u16) -> u16
 
 // Writes for each reference the least index from it on that passes the test; a number past the last where there is none.
 pub fn fill_next(s: &[u8], test: ReferenceTest, table: &mut [u16])
-    ensures { λ r. ⌜ (length (now (table .exit)) ≡ length (now (table .entry))) × TestRight (sheetOf (now (s .entry))) test (now (table .exit)) ⌝ }
+    ensures { λ r. ⌜ (length (now (table .exit)) ≡ length (now (table .entry))) × NextRight (sheetOf (now (s .entry))) test (now (table .exit)) ⌝ }
 {
     let mut x: u16 = count(s, REFERENCES);
     let mut next: u16 = x;

@@ -1,6 +1,5 @@
 // A list answered by one look at a table, where the table has it and the list is inside section 6.
-use relations::EntryTest;
-use relations::entries::any_entry;
+use crate::Lookup;
 use sheet::fields::REFERENCES;
 use sheet::fields::TRACK_ORDINAL;
 use sheet::fields::TRACK_PACK;
@@ -14,8 +13,7 @@ ghost use lib.Dec.{leb, ltb};
 ghost use lib.ListN.{getD, length};
 ghost use mathlib.Core.Bool.{_&&_};
 ghost use mathlib.Core.Path.{_≡_};
-ghost use Rattle.relations.specs.steps.Tests.{anyEntry};
-ghost use Rattle.runs.specs.steps.Runs.{NextRight, OrdinalRight, StrayRight, oddTracks};
+ghost use Rattle.runs.specs.steps.Runs.{LookedUp, OrdinalRight, StrayRight, oddTracks};
 ghost use Rattle.sheet.specs.Fields.{packChannels, packs, references};
 ghost use Rattle.sheet.specs.Layout.{count, field};
 ghost use Rattle.sheet.specs.Words.{sheetOf};
@@ -61,18 +59,20 @@ pub fn odd_tracks(s: &[u8], next: &[u16], again: &[u16], first: u16, n: u16, pac
         | among(again, first, n)
 }
 
-// Whether some entry of the list at a position of a record passes the test.
-pub fn any_entry_by(s: &[u8], next: &[u16], section: u8, k: u16, at: u8, test: EntryTest) -> bool
-    ensures { λ r. ⌜ (NextRight (sheetOf (now (s .entry))) test (now (next .entry)) → r ≡ anyEntry (sheetOf (now (s .entry))) section k at test) ⌝ }
+// What the table tells of the list at a position of a record.
+pub fn look_up(s: &[u8], table: &[u16], section: u8, k: u16, at: u8) -> Lookup
+    ensures { λ r. ⌜ LookedUp (sheetOf (now (s .entry))) (now (table .entry)) section k at r ⌝ }
 {
-    if next.len() == 0 {
-        return any_entry(s, section, k, at, test);
+    if table.len() == 0 {
+        return Lookup {
+            known: false,
+            found: false,
+        };
     }
     let first = field(s, section, k, at);
     let n = number(s, section, k, at);
-    if inside(s, next, first, n) {
-        among(next, first, n)
-    } else {
-        any_entry(s, section, k, at, test)
+    Lookup {
+        known: inside(s, table, first, n),
+        found: among(table, first, n),
     }
 }

@@ -14,7 +14,7 @@ use Rattle.values.specs.Values.{isAbsent}
 use Rattle.profile.specs.Counting.{any, howMany}
 use Rattle.profile.specs.Limits.{exceeds, limit, childrenLimit, complementsLimit, spanLimit}
 use Rattle.profile.specs.Relations.{leader, hasPack, packOf, hasChildren, hasObjectsPack, hasFrontPack, channels, trackAt, ownValue, setValue, effectiveValue, effectiveMinimum, effectiveMaximum}
-use Rattle.profile.specs.Rules.{beyond, lacks, listLacks, badWords, leaves, badComplement, differs, badSet, badSetWords, setRange, setLeaves, badObject, badObjectWords, objectRange, objectLeaves, rule4, rule5, rule6, rule8, rule11, rule13, rule14, rule15, rule16, rule17, rule18, rule19, rule20}
+use Rattle.profile.specs.Rules.{beyond, lacks, listLacks, badWords, leaves, badComplement, differs, badSet, badSetWords, setRange, setLeaves, badObject, badObjectWords, objectRange, objectLeaves, rule4, rule5, rule8, rule11, rule13, rule14, rule15, rule16, rule17, rule18, rule19, rule20}
 use Rattle.profile.proofs.BoolLaws.{or-false, or-none, or-none-3, or-none-4, and-both, and-second}
 use Rattle.profile.proofs.CountingLaws.{any-none}
 use Rattle.profile.proofs.SumLaws.{any-nowhere, howMany-eq}
@@ -76,11 +76,11 @@ lists-kept s o e =
     (simp (p .0, p .1, p .2, p .3), simp (p .4, p .5, p .6))
 
 pub values-kept : (s : Sheet) (o : ℕ) → valuesBroken (objectValues s o) ≡ false
-    → (rule6 s objects o ≡ false)
+    → (badObject s o ≡ false)
     × (rule17 s objects o ≡ false)
     × (rule18 s objects o ≡ false)
     × ((eqb (field s objects o interact) 0 && (objectRange s o Gains || objectRange s o Offsets)) ≡ false)
-unfolding valuesBroken gainsBroken offsetsBroken objectValues valuesAt hasRange wordsBroken rule6 badObject badObjectWords rule17 rule18 objectLeaves ownValue objectRange field
+unfolding valuesBroken gainsBroken offsetsBroken objectValues valuesAt hasRange wordsBroken badObject badObjectWords rule17 rule18 objectLeaves ownValue objectRange field
 values-kept s o e =
     let p = or-none-3 (ltb 1 (field s objects o interact)) (gainsBroken (objectValues s o)) (offsetsBroken (objectValues s o)) e in
     let g = or-none-3 (badObjectWords s o Gains) (eqb (field s objects o interact) 0 && objectRange s o Gains) (objectLeaves s o Gains) (p .1) in

@@ -10,7 +10,7 @@ use Rattle.sheet.specs.Layout.{count, start, field, first, number}
 use Rattle.sheet.specs.Fields.{programmes, contents, objects, packs, tracks, references, valueSets, contentList, setSpan}
 use Rattle.profile.specs.Counting.{any, howMany, lowest}
 use Rattle.profile.specs.Relations.{hasSet, owner}
-use Rattle.profile.specs.Rules.{rule1, rule2, rule3, rule4, rule5, rule6, rule7, rule8, rule9, rule10, rule11, rule12, rule13, rule14, rule15, rule16, rule17, rule18, rule19, rule20, rule21, rule22, rule23, rule24, repeats}
+use Rattle.profile.specs.Rules.{badObject, badPack, rule1, rule2, rule3, rule4, rule5, rule6, rule7, rule8, rule9, rule10, rule11, rule12, rule13, rule14, rule15, rule16, rule17, rule18, rule19, rule20, rule21, rule22, rule23, rule24, repeats}
 use Rattle.profile.specs.Verdict.{verdict, rules, ruleCount, ruleAt, numberAt, breaks, subjects, subjectKind, ruleBroken}
 use Rattle.profile.specs.declared.Verdict.the-variants.{Accepted}
 use Rattle.profile.proofs.BoolLaws.{or-false, or-none, or-none-3, or-none-4, and-both}
@@ -45,18 +45,18 @@ module _ (s : Sheet) (header : headerBroken s ≡ false) (records : RecordsKept 
   object-at : (o : ℕ) → o < count s objects → objectBroken s o ≡ false
   object-at o l = any-none (objectBroken s) (count s objects) (records .objects-kept) o l
 
-  pack-at : (k : ℕ) → k < count s packs → (rule6 s packs k ≡ false) × (rule10 s packs k ≡ false)
-  pack-at k l = or-none (rule6 s packs k) (rule10 s packs k) (any-none (λ i. rule6 s packs i || rule10 s packs i) (count s packs) (records .packs-kept) k l)
+  pack-at : (k : ℕ) → k < count s packs → (badPack s k ≡ false) × (rule10 s packs k ≡ false)
+  pack-at k l = or-none (badPack s k) (rule10 s packs k) (any-none (λ i. badPack s i || rule10 s packs i) (count s packs) (records .packs-kept) k l)
 
   track-at : (k : ℕ) → k < count s tracks → rule5 s tracks k ≡ false
   track-at k l = any-none (rule5 s tracks) (count s tracks) (records .tracks-kept) k l
 
   object-parts : (o : ℕ) → o < count s objects
-      → (rule4 s objects o ≡ false) × (rule5 s objects o ≡ false) × (rule6 s objects o ≡ false) × (rule8 s objects o ≡ false) × (rule11 s objects o ≡ false) × (rule13 s objects o ≡ false) × (rule14 s objects o ≡ false) × (rule15 s objects o ≡ false) × (rule16 s objects o ≡ false) × (rule17 s objects o ≡ false) × (rule18 s objects o ≡ false) × (rule19 s objects o ≡ false) × (rule20 s objects o ≡ false) × (setsBroken s o ≡ false)
+      → (rule4 s objects o ≡ false) × (rule5 s objects o ≡ false) × (badObject s o ≡ false) × (rule8 s objects o ≡ false) × (rule11 s objects o ≡ false) × (rule13 s objects o ≡ false) × (rule14 s objects o ≡ false) × (rule15 s objects o ≡ false) × (rule16 s objects o ≡ false) × (rule17 s objects o ≡ false) × (rule18 s objects o ≡ false) × (rule19 s objects o ≡ false) × (rule20 s objects o ≡ false) × (setsBroken s o ≡ false)
   unfolding objectBroken
   object-parts o l =
-      let p = or-none-8 (rule4 s objects o || rule5 s objects o || rule6 s objects o || rule8 s objects o || rule11 s objects o || rule13 s objects o || rule14 s objects o) (rule15 s objects o) (rule16 s objects o) (rule17 s objects o) (rule18 s objects o) (rule19 s objects o) (rule20 s objects o) (setsBroken s o) (object-at o l) in
-      let q = or-none-7 (rule4 s objects o) (rule5 s objects o) (rule6 s objects o) (rule8 s objects o) (rule11 s objects o) (rule13 s objects o) (rule14 s objects o) (p .0) in
+      let p = or-none-8 (rule4 s objects o || rule5 s objects o || badObject s o || rule8 s objects o || rule11 s objects o || rule13 s objects o || rule14 s objects o) (rule15 s objects o) (rule16 s objects o) (rule17 s objects o) (rule18 s objects o) (rule19 s objects o) (rule20 s objects o) (setsBroken s o) (object-at o l) in
+      let q = or-none-7 (rule4 s objects o) (rule5 s objects o) (badObject s o) (rule8 s objects o) (rule11 s objects o) (rule13 s objects o) (rule14 s objects o) (p .0) in
       (q .0, q .1, q .2, q .3, q .4, q .5, q .6, p .1, p .2, p .3, p .4, p .5, p .6, p .7)
 
   -- the object whose set v is
@@ -82,6 +82,15 @@ module _ (s : Sheet) (header : headerBroken s ≡ false) (records : RecordsKept 
   set-at : (v : ℕ) → v < count s valueSets → (rule6 s valueSets v ≡ false) × (rule17 s valueSets v ≡ false) × (rule18 s valueSets v ≡ false)
   unfolding rule6 rule17 rule18
   set-at v l = let p = set-kept s (owner s v) v (set-of-owner v l) in (simp (p .0), simp (p .2), simp (p .3, p .4))
+
+  -- rule 6 of an object and of a pack
+  object-rule6 : (o : ℕ) → o < count s objects → rule6 s objects o ≡ false
+  unfolding rule6
+  object-rule6 o l = simp (object-parts o l .2)
+
+  pack-rule6 : (k : ℕ) → k < count s packs → rule6 s packs k ≡ false
+  unfolding rule6
+  pack-rule6 k l = simp (pack-at k l .0)
 
   header-parts : (rule1 s 0 0 ≡ false) × (rule2 s 0 0 ≡ false) × (rule3 s 1 0 ≡ false) × (rule3 s 2 0 ≡ false) × (rule3 s 3 0 ≡ false) × (rule3 s 4 0 ≡ false) × (rule3 s 5 0 ≡ false) × (rule3 s 6 0 ≡ false) × (rule3 s 7 0 ≡ false) × (rule7 s 1 0 ≡ false) × (rule7 s 2 0 ≡ false) × (rule7 s 3 0 ≡ false) × (rule7 s 4 0 ≡ false) × (rule7 s 5 0 ≡ false)
   unfolding headerBroken
@@ -116,7 +125,7 @@ module _ (s : Sheet) (header : headerBroken s ≡ false) (records : RecordsKept 
 
   kept-6 : kept 6
   unfolding any breaks subjects subjectKind
-  kept-6 = rule-kept s 6 (rw (any-nowhere (rule6 s programmes) (count s programmes) (λ k l. programme-at k l .2), any-nowhere (rule6 s contents) (count s contents) (λ k l. content-at k l .0 .2), any-nowhere (rule6 s objects) (count s objects) (λ k l. object-parts k l .2), any-nowhere (rule6 s packs) (count s packs) (λ k l. pack-at k l .0), any-nowhere (rule6 s valueSets) (count s valueSets) (λ k l. set-at k l .0)) refl)
+  kept-6 = rule-kept s 6 (rw (any-nowhere (rule6 s programmes) (count s programmes) (λ k l. programme-at k l .2), any-nowhere (rule6 s contents) (count s contents) (λ k l. content-at k l .0 .2), any-nowhere (rule6 s objects) (count s objects) object-rule6, any-nowhere (rule6 s packs) (count s packs) pack-rule6, any-nowhere (rule6 s valueSets) (count s valueSets) (λ k l. set-at k l .0)) refl)
 
   kept-7 : kept 7
   unfolding any breaks subjects subjectKind

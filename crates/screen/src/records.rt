@@ -26,7 +26,7 @@ ghost use lib.ListN.{getD, length};
 ghost use mathlib.Core.Bool.{false, true, _||_};
 ghost use mathlib.Core.Path.{_≡_};
 ghost use Rattle.profile.specs.Counting.{any};
-ghost use Rattle.profile.specs.Rules.{rule5, rule6, rule10, rule12};
+ghost use Rattle.profile.specs.Rules.{badPack, rule5, rule10, rule12};
 ghost use Rattle.screen.specs.steps.Objects.{objectBroken};
 ghost use Rattle.screen.specs.steps.Screened.{RecordsKept, RecordsTabled, contentBroken, headerBroken, programmeBroken};
 ghost use Rattle.sheet.specs.Fields.{contents, objects, packs, programmes, tracks};
@@ -113,7 +113,7 @@ fn objects_keep(s: &[u8], named: &[u16], tops: &[u16], complements: &[u16]) -> b
 
 // Whether a pack may break rule 6 or 10. The first test spares one for each word.
 fn pack_breaks(s: &[u8], k: u16) -> bool
-    ensures { λ r. ⌜ (r ≡ false → (rule6 (sheetOf (now (s .entry))) packs k || rule10 (sheetOf (now (s .entry))) packs k) ≡ false) ⌝ }
+    ensures { λ r. ⌜ (r ≡ false → (badPack (sheetOf (now (s .entry))) k || rule10 (sheetOf (now (s .entry))) packs k) ≡ false) ⌝ }
 {
     let at = start(s, PACKS, k as u32);
     if word_count(s) < at + 3 {
@@ -130,7 +130,7 @@ fn pack_breaks(s: &[u8], k: u16) -> bool
 
 // Whether no pack breaks one.
 fn packs_keep(s: &[u8]) -> bool
-    ensures { λ r. ⌜ (r ≡ true → any (λ k. rule6 (sheetOf (now (s .entry))) packs k || rule10 (sheetOf (now (s .entry))) packs k) (count (sheetOf (now (s .entry))) packs) ≡ false) ⌝ }
+    ensures { λ r. ⌜ (r ≡ true → any (λ k. badPack (sheetOf (now (s .entry))) k || rule10 (sheetOf (now (s .entry))) packs k) (count (sheetOf (now (s .entry))) packs) ≡ false) ⌝ }
 {
     let n = count(s, PACKS);
     let mut k: u16 = 0;

@@ -8,16 +8,11 @@ use lib.IntN.{pos, negsuc}
 use lib.Signed.{leZ}
 use Rattle.values.specs.declared.Gain.{Gain}
 use Rattle.values.specs.declared.Gain.the-variants.{Silent, Tenths}
-use Rattle.values.specs.Signed.{signedOf, wordOf}
+use Rattle.values.specs.Signed.{signedOf}
 
 -- "either silence (-32768) or a number of tenths": the gain that a word stands for, legal or not
 unfoldable pub gainOf : ℕ → Gain
 gainOf w = cond (eqb w 32768) Silent (Tenths (signedOf w))
-
--- the word that stands for a gain
-unfoldable pub gainWord : Gain → ℕ
-gainWord Silent = 32768
-gainWord (Tenths z) = wordOf z
 
 -- "silence is below every number"
 unfoldable pub atMost : Gain → Gain → Bool

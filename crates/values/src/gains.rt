@@ -1,11 +1,9 @@
 // "A gain is either silence (-32768) or a number of tenths of a dB from -600 to 210, and silence is below every number".
 use crate::Gain;
 use crate::signed::signed;
-use crate::signed::word;
 ghost use mathlib.Core.Path.{_≡_};
 ghost use Rattle.values.specs.Gain.{
   gainOf,
-  gainWord,
   atMost,
   gainInRange,
   legalGain,
@@ -21,16 +19,6 @@ pub fn gain_of(w: u16) -> Gain
         Gain::Silent
     } else {
         Gain::Tenths(signed(w))
-    }
-}
-
-// The word that stands for a gain.
-pub fn gain_word(g: Gain) -> u16
-    ensures { λ r. ⌜ r ≡ gainWord g ⌝ }
-{
-    match g {
-        Gain::Silent => 32768,
-        Gain::Tenths(z) => word(z),
     }
 }
 

@@ -5,8 +5,8 @@ use mathlib.Core.List.{List}
 use lib.Dec.{eqb}
 use Rattle.sheet.specs.Words.{Sheet}
 use Rattle.sheet.specs.Fields.{programmes, objects}
-use Rattle.relations.specs.declared.EntryTest.the-variants.{Lacks, NoLanguage}
 use Rattle.tables.specs.steps.Right as tables
+use Rattle.runs.specs.declared.ReferenceTest.the-variants.{Lacks, NoLanguage}
 use Rattle.runs.specs.steps.Runs.{NextRight, OrdinalRight, RepeatRight, StrayRight}
 use Rattle.rules.specs.steps.Loops.{firstTarget, secondTarget}
 use Rattle.checker.specs.declared.Table.{Table}

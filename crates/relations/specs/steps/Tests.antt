@@ -5,12 +5,11 @@ use lib.Dec.{eqb, leb}
 use Rattle.sheet.specs.Words.{Sheet}
 use Rattle.sheet.specs.Layout.{count, field, number, entry}
 use Rattle.sheet.specs.Fields.{programmes, contents, objects, packs, tracks, contentList, contentObject, complementList, packKind, trackPack, trackOrdinal}
-use Rattle.values.specs.Language.{language}
 use Rattle.profile.specs.Counting.{any, howMany, lowest}
 use Rattle.profile.specs.Relations.{lists, hasObjectsPack, leader, member, members, includes, hasSet, namesSet}
 use Rattle.profile.specs.Rules.{lacks}
 use Rattle.relations.specs.declared.EntryTest.{EntryTest}
-use Rattle.relations.specs.declared.EntryTest.the-variants.{Is, Lacks, NoLanguage, NoObjectsPack, OtherPack, Ordinal, OrdinalPast, SetOf}
+use Rattle.relations.specs.declared.EntryTest.the-variants.{Is, Lacks, NoObjectsPack, OtherPack, Ordinal, OrdinalPast, SetOf}
 use Rattle.relations.specs.declared.RecordTest.{RecordTest}
 use Rattle.relations.specs.declared.RecordTest.the-variants.{Names, ObjectsPack, Leader, LeaderOf, OwnerOf, HasContent}
 use Rattle.relations.specs.declared.MemberTest.{MemberTest}
@@ -20,7 +19,6 @@ use Rattle.relations.specs.declared.MemberTest.the-variants.{IncludedIn,
 abbrev pub entryTest : Sheet → EntryTest → ℕ → Bool
 entryTest s (Is x) e = eqb e x
 entryTest s (Lacks target) e = lacks s target e
-entryTest s NoLanguage e = not (language e)
 entryTest s NoObjectsPack e = not (hasObjectsPack s e)
 entryTest s (OtherPack pack) e = not (eqb (field s tracks e trackPack) pack)
 entryTest s (Ordinal n) e = eqb (field s tracks e trackOrdinal) n
@@ -34,10 +32,6 @@ howManyEntries s section k at test = howMany (λ i. entryTest s test (entry s se
 -- some entry does
 unfoldable pub anyEntry : Sheet → ℕ → ℕ → ℕ → EntryTest → Bool
 anyEntry s section k at test = any (λ i. entryTest s test (entry s section k at i)) (number s section k at)
-
--- the position of the first that does, or the number of entries
-unfoldable pub lowestEntry : Sheet → ℕ → ℕ → ℕ → EntryTest → ℕ
-lowestEntry s section k at test = lowest (λ i. entryTest s test (entry s section k at i)) (number s section k at)
 
 -- a record passes the test
 abbrev pub recordTest : Sheet → RecordTest → ℕ → Bool

@@ -1,18 +1,19 @@
 -- What stands in a table over the references. An empty table is right. Assumes nothing.
 use Prim.Native.Nat.{ℕ, _+_, _<_, _≤_}
 use mathlib.Core.Path.{_≡_}
-use mathlib.Core.Bool.{Bool, not, _||_}
+use mathlib.Core.Bool.{Bool, true, not, _||_}
 use mathlib.Core.List.{List}
 use lib.Dec.{eqb, leb, ltb}
 use lib.ListN.{length, getD}
 use Rattle.sheet.specs.Words.{Sheet}
-use Rattle.sheet.specs.Layout.{count, field, reference}
+use Rattle.sheet.specs.Layout.{count, field, first, number, reference}
 use Rattle.sheet.specs.Fields.{packs, tracks, references, packChannels, trackPack, trackOrdinal}
+use Rattle.values.specs.Language.{language}
 use Rattle.profile.specs.Counting.{any, howMany, twoOf}
-use Rattle.relations.specs.declared.EntryTest.{EntryTest}
-use Rattle.relations.specs.steps.Tests.{entryTest}
+use Rattle.profile.specs.Rules.{lacks}
 use Rattle.runs.specs.declared.ReferenceTest.{ReferenceTest}
-use Rattle.runs.specs.declared.ReferenceTest.the-variants.{Passes, Stray}
+use Rattle.runs.specs.declared.ReferenceTest.the-variants.{Lacks, NoLanguage, Stray}
+use Rattle.runs.specs.declared.Lookup.{Lookup}
 use Rattle.runs.specs.declared.ReferenceKey.{ReferenceKey}
 use Rattle.runs.specs.declared.ReferenceKey.the-variants.{Itself, Ordinal}
 
@@ -40,7 +41,8 @@ stray s e f =
 
 -- a reference passes the test
 abbrev pub referenceTest : Sheet → ReferenceTest → ℕ → Bool
-referenceTest s (Passes test) y = entryTest s test (reference s y)
+referenceTest s (Lacks section) y = lacks s section (reference s y)
+referenceTest s NoLanguage y = not (language (reference s y))
 referenceTest s Stray y = stray s (reference s y) (reference s (y + 1))
 
 -- what of it is compared
@@ -48,17 +50,21 @@ abbrev pub referenceKey : Sheet → ReferenceKey → ℕ → ℕ
 referenceKey s Itself y = reference s y
 referenceKey s Ordinal y = ordinalAt s y
 
+-- the table tells Q of each list inside section 6, n references from x on: Q x n exactly when what stands at x is below their end
+abbrev pub Tells : (ℕ → ℕ → Bool) → Sheet → List ℕ → Type 0
+Tells Q s t = (x : ℕ) → x < length t → x < count s references → (n : ℕ) → x + n ≤ count s references → ltb (getD t x 0) (x + n) ≡ Q x n
+
+-- what is found of a list, where it is known, is what the table tells
+abbrev pub LookedUp : Sheet → List ℕ → ℕ → ℕ → ℕ → Lookup → Type 0
+LookedUp s t section k at r = r .known ≡ true → (Q : ℕ → ℕ → Bool) → Tells Q s t → r .found ≡ Q (first s section k at) (number s section k at)
+
 -- the table has for each reference the next that passes the test
-abbrev pub TestRight : Sheet → ReferenceTest → List ℕ → Type 0
-TestRight s test t = (x : ℕ) → x < length t → x < count s references → Next (referenceTest s test) (count s references) x (getD t x 0)
+abbrev pub NextRight : Sheet → ReferenceTest → List ℕ → Type 0
+NextRight s test t = (x : ℕ) → x < length t → x < count s references → Next (referenceTest s test) (count s references) x (getD t x 0)
 
 -- the table has for each reference the next that repeats what is compared
 abbrev pub KeyRight : Sheet → ReferenceKey → List ℕ → Type 0
 KeyRight s key t = (x : ℕ) → x < length t → x < count s references → Repeat (referenceKey s key) (count s references) x (getD t x 0)
-
--- the next whose entry passes the test
-abbrev pub NextRight : Sheet → EntryTest → List ℕ → Type 0
-NextRight s test t = TestRight s (Passes test) t
 
 -- the next whose entry repeats
 abbrev pub RepeatRight : Sheet → List ℕ → Type 0
@@ -66,7 +72,7 @@ RepeatRight s t = KeyRight s Itself t
 
 -- the next after which a track does not go on with the pack
 abbrev pub StrayRight : Sheet → List ℕ → Type 0
-StrayRight s t = TestRight s Stray t
+StrayRight s t = NextRight s Stray t
 
 -- the next whose track has an ordinal again
 abbrev pub OrdinalRight : Sheet → List ℕ → Type 0

@@ -11,7 +11,7 @@ use Rattle.values.specs.Values.{isAbsent, orElse}
 use Rattle.profile.specs.Counting.{any}
 use Rattle.profile.specs.Limits.{exceeds, childrenLimit, complementsLimit, spanLimit}
 use Rattle.profile.specs.Relations.{hasPack, packOf, hasFrontPack, objectValue, objectMinimum, objectMaximum}
-use Rattle.profile.specs.Rules.{lacks, listLacks, leaves, badComplement, differs, rule4, rule5, rule6, rule8, rule11, rule13, rule14, rule15, rule16, rule17, rule18, rule19, rule20}
+use Rattle.profile.specs.Rules.{lacks, listLacks, leaves, badObject, badComplement, differs, rule4, rule5, rule8, rule11, rule13, rule14, rule15, rule16, rule17, rule18, rule19, rule20}
 use Rattle.screen.specs.steps.Entries.{badChildAt, outOfOrderAt}
 use Rattle.screen.specs.steps.Values.{valuesAt, hasRange, wordsBroken, setBroken}
 use Rattle.screen.specs.declared.ObjectValues.{ObjectValues}
@@ -122,7 +122,7 @@ unfoldable pub objectBroken : Sheet → ℕ → Bool
 objectBroken s o =
     rule4 s objects o
     || rule5 s objects o
-    || rule6 s objects o
+    || badObject s o
     || rule8 s objects o
     || rule11 s objects o
     || rule13 s objects o

@@ -10,7 +10,7 @@ use Rattle.sheet.specs.Fields.{programmes, contents, objects, packs, tracks, re
 use Rattle.values.specs.Language.{language, loudness}
 use Rattle.profile.specs.Counting.{any, twoOf}
 use Rattle.profile.specs.Limits.{exceeds, labelsLimit, programmeContentsLimit, programmeSetsLimit}
-use Rattle.profile.specs.Rules.{outside, rule1, rule2, rule3, rule4, rule5, rule6, rule7, rule8, rule9, rule10, rule12}
+use Rattle.profile.specs.Rules.{badPack, outside, rule1, rule2, rule3, rule4, rule5, rule6, rule7, rule8, rule9, rule10, rule12}
 use Rattle.tables.specs.steps.Marks.{Standing}
 use Rattle.tables.specs.steps.Right.{Named, Listed, Tops, Complemented}
 use Rattle.screen.specs.steps.Entries.{lackingAt, noLanguageAt, sameAt}
@@ -65,7 +65,7 @@ pub record RecordsKept (s : Sheet) : Type 0 where
   pub programmes-kept : any (programmeBroken s) (count s programmes) ≡ false
   pub contents-kept : any (λ k. contentBroken s k || rule12 s contents k) (count s contents) ≡ false
   pub objects-kept : any (objectBroken s) (count s objects) ≡ false
-  pub packs-kept : any (λ k. rule6 s packs k || rule10 s packs k) (count s packs) ≡ false
+  pub packs-kept : any (λ k. badPack s k || rule10 s packs k) (count s packs) ≡ false
   pub tracks-kept : any (rule5 s tracks) (count s tracks) ≡ false
 
 -- the tables that the records are tested with are right

@@ -15,12 +15,6 @@ lacks-requires c κs = search needs
 enum-told : tie.Need-enum-told
 enum-told c = search needs
 
-language-requires : tie.Need-language-requires
-language-requires c κs = search needs
-
-enum-told-2 : tie.Need-enum-told-2
-enum-told-2 c = search needs
-
 has-objects-pack-requires : tie.Need-has-objects-pack-requires
 has-objects-pack-requires c κs = search needs
 
@@ -55,22 +49,19 @@ returns-2 : tie.Need-returns-2
 returns-2 c = simp (c .lacks .ensures, c .before .before .test2 .given .1)
 
 returns-3 : tie.Need-returns-3
-returns-3 c = simp (c .language .ensures, c .before .enum-told .given .1)
+returns-3 c = simp (c .has-objects-pack .ensures, c .before .enum-told .given .1)
 
 returns-4 : tie.Need-returns-4
-returns-4 c = simp (c .has-objects-pack .ensures, c .before .enum-told2 .given .1)
+returns-4 c = simp (c .field .ensures, c .before .before .test3 .given .1)
 
 returns-5 : tie.Need-returns-5
-returns-5 c = simp (c .field .ensures, c .before .before .test3 .given .1)
+returns-5 c = simp (c .field2 .ensures, c .before .before .test4 .given .1)
 
 returns-6 : tie.Need-returns-6
-returns-6 c = simp (c .field2 .ensures, c .before .before .test4 .given .1)
+returns-6 c = simp (c .field3 .ensures, c .before .before .test5 .given .1)
 
 returns-7 : tie.Need-returns-7
-returns-7 c = simp (c .field3 .ensures, c .before .before .test5 .given .1)
-
-returns-8 : tie.Need-returns-8
-returns-8 c = simp (c .has-set .ensures, c .before .before .test6 .given .1)
+returns-7 c = simp (c .has-set .ensures, c .before .before .test6 .given .1)
 
 pub entry-test-spec : {M : Type 1} → statement M
 entry-test-spec =
@@ -80,8 +71,6 @@ entry-test-spec =
     enum-known-test-2
     lacks-requires
     enum-told
-    language-requires
-    enum-told-2
     has-objects-pack-requires
     enum-known-test-3
     field-requires
@@ -97,5 +86,4 @@ entry-test-spec =
     returns-4
     returns-5
     returns-6
-    returns-7
-    returns-8)
+    returns-7)

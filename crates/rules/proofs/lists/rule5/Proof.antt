@@ -1,7 +1,7 @@
 -- The indices of each section. Assumes nothing.
 use Rattle.profile.specs.Rules.{rule5}
 use Rattle.sheet.specs.Fields.{contents, objects, tracks, valueSets}
-use Rattle.relations.specs.declared.EntryTest.the-variants.{Lacks}
+use Rattle.runs.specs.declared.ReferenceTest.the-variants.{Lacks}
 use Rattle.runs.specs.steps.Runs.{NextRight}
 use Rattle.rules.specs.steps.Loops.{firstTarget, secondTarget}
 use Rattle.sheet.specs.Words.{sheetOf}
@@ -11,11 +11,11 @@ use borrow.Author.Needs.{needs}
 use Rattle.rules.proofs.lists.rule5.Statement.{statement}
 use Rattle.rules.proofs.lists.rule5.Tie as tie
 
-list-lacks-requires : tie.Need-list-lacks-requires
-list-lacks-requires c κs = search needs
+list-lacks-by-requires : tie.Need-list-lacks-by-requires
+list-lacks-by-requires c κs = search needs
 
-list-lacks-requires-2 : tie.Need-list-lacks-requires-2
-list-lacks-requires-2 c κs = search needs
+list-lacks-by-requires-2 : tie.Need-list-lacks-by-requires-2
+list-lacks-by-requires-2 c κs = search needs
 
 field-requires : tie.Need-field-requires
 field-requires c κs = search needs
@@ -32,14 +32,14 @@ pack-of-requires c κs = search needs
 lacks-requires-2 : tie.Need-lacks-requires-2
 lacks-requires-2 c κs = search needs
 
-list-lacks-requires-3 : tie.Need-list-lacks-requires-3
-list-lacks-requires-3 c κs = search needs
+list-lacks-by-requires-3 : tie.Need-list-lacks-by-requires-3
+list-lacks-by-requires-3 c κs = search needs
 
-list-lacks-requires-4 : tie.Need-list-lacks-requires-4
-list-lacks-requires-4 c κs = search needs
+list-lacks-by-requires-4 : tie.Need-list-lacks-by-requires-4
+list-lacks-by-requires-4 c κs = search needs
 
-list-lacks-requires-5 : tie.Need-list-lacks-requires-5
-list-lacks-requires-5 c κs = search needs
+list-lacks-by-requires-5 : tie.Need-list-lacks-by-requires-5
+list-lacks-by-requires-5 c κs = search needs
 
 field-requires-2 : tie.Need-field-requires-2
 field-requires-2 c κs = search needs
@@ -49,9 +49,12 @@ lacks-requires-3 c κs = search needs
 
 returns : tie.Need-returns
 unfolding rule5 firstTarget secondTarget
-returns c =
-    let a = c .before .before .before .before .before .before .args in let match = c .before .before .match in let s = sheetOf (a .s .now) in
-    λ first second. let f : NextRight s (Lacks contents) (a .first .now) = rw (match .keys1) at first in let g : NextRight s (Lacks valueSets) (a .second .now) = rw (match .keys1) at second in simp (c .list-lacks2 .ensures g, c .before .list-lacks .ensures f, match .keys1, or-false)
+returns c = λ first second.
+    let a = c .before .before .before .before .before .before .args in
+    let s = sheetOf (a .s .now) in
+    let f : NextRight s (Lacks contents) (a .first .now) = rw (c .before .before .match .keys1) at first in
+    let g : NextRight s (Lacks valueSets) (a .second .now) = rw (c .before .before .match .keys1) at second in
+    simp (c .list-lacks-by2 .ensures g, c .before .list-lacks-by .ensures f, c .before .before .match .keys1, or-false)
 
 returns-2 : tie.Need-returns-2
 unfolding rule5
@@ -59,11 +62,13 @@ returns-2 c = λ first second. simp (c .lacks .ensures, c .before .field .ensure
 
 returns-3 : tie.Need-returns-3
 unfolding rule5 firstTarget secondTarget
-returns-3 c =
-    let a = c .before .before .before .before .before .before .before .before .before .before .args in
-    let match = c .before .before .before .before .before .before .match in let has-pack = c .before .before .before .before .before .has-pack in
-    let pack-of = c .before .before .before .before .pack-of in let s = sheetOf (a .s .now) in
-    λ first second. let f : NextRight s (Lacks tracks) (a .first .now) = rw (match .keys3) at first in let g : NextRight s (Lacks objects) (a .second .now) = rw (match .keys3) at second in simp (c .list-lacks5 .ensures g, c .before .list-lacks4 .ensures g, c .before .before .list-lacks3 .ensures f, c .before .before .before .lacks2 .ensures, pack-of .ensures, has-pack .ensures, match .keys3, or-false)
+returns-3 c = λ first second.
+    let m = c .before .before .before .before .before .before in
+    let a = m .before .before .before .before .args in
+    let s = sheetOf (a .s .now) in
+    let f : NextRight s (Lacks tracks) (a .first .now) = rw (m .match .keys3) at first in
+    let g : NextRight s (Lacks objects) (a .second .now) = rw (m .match .keys3) at second in
+    simp (c .list-lacks-by5 .ensures g, c .before .list-lacks-by4 .ensures g, c .before .before .list-lacks-by3 .ensures f, c .before .before .before .lacks2 .ensures, c .before .before .before .before .pack-of .ensures, c .before .before .before .before .before .has-pack .ensures, m .match .keys3, or-false)
 
 returns-4 : tie.Need-returns-4
 unfolding rule5
@@ -77,16 +82,16 @@ pub rule5-spec : {M : Type 1} → statement M
 rule5-spec =
     tie.close
     (tie.spec
-    list-lacks-requires
-    list-lacks-requires-2
+    list-lacks-by-requires
+    list-lacks-by-requires-2
     field-requires
     lacks-requires
     has-pack-requires
     pack-of-requires
     lacks-requires-2
-    list-lacks-requires-3
-    list-lacks-requires-4
-    list-lacks-requires-5
+    list-lacks-by-requires-3
+    list-lacks-by-requires-4
+    list-lacks-by-requires-5
     field-requires-2
     lacks-requires-3
     returns

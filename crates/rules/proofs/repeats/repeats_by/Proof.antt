@@ -1,58 +1,28 @@
 -- By the table, or by the list. Assumes nothing.
-use Prim.Native.Nat.{ℕ, _+_}
-use mathlib.Core.Path.{sym, ap₂, _∙_}
-use borrow.Author.Tests.{ltb-true, leb-true}
+use Prim.Native.Nat.{_+_}
 use lib.Dec.{eqb}
 use Rattle.sheet.specs.Words.{sheetOf}
 use Rattle.sheet.specs.Layout.{reference, entry}
 use Rattle.profile.specs.Counting.{twoOf}
 use Rattle.profile.specs.Rules.{repeats}
-use Rattle.runs.proofs.RunLaws.{all-three}
 use borrow.Author.Needs.{needs}
 use Rattle.rules.proofs.repeats.repeats_by.Statement.{statement}
 use Rattle.rules.proofs.repeats.repeats_by.Tie as tie
+
+look-up-requires : tie.Need-look-up-requires
+look-up-requires c κs = search needs
 
 repeats-requires : tie.Need-repeats-requires
 repeats-requires c κs = search needs
 
 returns : tie.Need-returns
-returns c = λ right. c .repeats .ensures
-
-field-requires : tie.Need-field-requires
-field-requires c κs = search needs
-
-number-requires : tie.Need-number-requires
-number-requires c κs = search needs
-
-inside-requires : tie.Need-inside-requires
-inside-requires c κs = search needs
-
-among-requires : tie.Need-among-requires
-among-requires c κs = search needs
-
-repeats-requires-2 : tie.Need-repeats-requires-2
-repeats-requires-2 c κs = search needs
+unfolding repeats entry
+returns c =
+    let s = sheetOf (c .before .before .before .before .args .s .now) in
+    c .before .look-up .ensures (c .if1 .taken) (λ x n. twoOf (λ i j. eqb (reference s (x + i)) (reference s (x + j))) n)
 
 returns-2 : tie.Need-returns-2
-unfolding repeats entry
-returns-2 c =
-    let a′ = c .before .before .before .before .before .before .before .before .args in let field = c .before .before .before .before .field in
-    let number = c .before .before .before .number in let s = sheetOf (a′ .s .now) in
-    λ right. let f = all-three _ _ _ (sym (c .before .before .inside .ensures) ∙ c .before .if2 .taken) in c .among .ensures (ltb-true _ _ (f .0)) ∙ right (field .result) (ltb-true _ _ (f .0)) (ltb-true _ _ (f .1)) (number .result) (leb-true _ _ (f .2)) ∙ ap₂ (λ (a n : ℕ). twoOf (λ i j. eqb (reference s (a + i)) (reference s (a + j))) n) (field .ensures) (number .ensures)
-
-returns-3 : tie.Need-returns-3
-returns-3 c = λ right. c .repeats2 .ensures
+returns-2 c = λ right. c .repeats .ensures
 
 pub repeats-by-spec : {M : Type 1} → statement M
-repeats-by-spec =
-    tie.close
-    (tie.spec
-    repeats-requires
-    returns
-    field-requires
-    number-requires
-    inside-requires
-    among-requires
-    repeats-requires-2
-    returns-2
-    returns-3)
+repeats-by-spec = tie.close (tie.spec look-up-requires repeats-requires returns returns-2)

@@ -1,19 +1,19 @@
 -- No pack passed breaks one. Assumes nothing.
-use Prim.Native.Nat.{ℕ, _+_, _-_, _≤_}
+use Prim.Native.Nat.{_-_, _≤_}
 use mathlib.Core.Path.{_≡_, refl, sym, ap, _∙_}
-use mathlib.Core.Bool.{true, false, not, true≢false, _||_}
+use mathlib.Core.Bool.{true, false, true≢false, _||_}
 use Rattle.sheet.specs.Words.{sheetOf}
 use borrow.Author.Needs.{needs}
 use native.Mathlib.Omega.{arith}
 use native.Mathlib.Numerals.{add-one}
 use Rattle.profile.specs.Counting.{any}
-use Rattle.profile.specs.Rules.{rule6, rule10}
+use Rattle.profile.specs.Rules.{badPack, rule10}
 use Rattle.sheet.specs.Fields.{packs}
 use Rattle.screen.proofs.records.packs_keep.Statement.{statement}
 use Rattle.screen.proofs.records.packs_keep.Tie as tie
 
 abbrev Inv-loop : tie.InvT-loop
-Inv-loop s n k₀ k = (k ≤ n) × (any (λ k. rule6 (sheetOf s) packs k || rule10 (sheetOf s) packs k) k ≡ false)
+Inv-loop s n k₀ k = (k ≤ n) × (any (λ k. badPack (sheetOf s) k || rule10 (sheetOf s) packs k) k ≡ false)
 
 abbrev μ-loop : tie.MeasureT-loop
 μ-loop s n k₀ k = n - k

@@ -1,8 +1,8 @@
 -- 0 with children, else the pack's. Assumes nothing.
 use mathlib.Core.Path.{sym, _∙_}
 use borrow.Author.Needs.{needs}
-use Rattle.rules.proofs.loops.channels.Statement.{statement}
-use Rattle.rules.proofs.loops.channels.Tie as tie
+use Rattle.relations.proofs.objects.channels.Statement.{statement}
+use Rattle.relations.proofs.objects.channels.Tie as tie
 use Rattle.profile.specs.Relations.{channels}
 
 has-children-requires : tie.Need-has-children-requires
