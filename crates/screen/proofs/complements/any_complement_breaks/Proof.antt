@@ -33,7 +33,7 @@ listed-requires : tie.Need-listed-requires Inv-loop μ-loop
 listed-requires c κs = search needs
 
 complement-breaks-requires : tie.Need-complement-breaks-requires Inv-loop μ-loop
-complement-breaks-requires c κs = (c .before .before .before .before .before .before .before .pre .0, c .before .before .before .before .before .before .before .pre .1)
+complement-breaks-requires c κs = search needs
 
 add-i : tie.Need-add-i Inv-loop μ-loop
 add-i c = search needs

@@ -43,7 +43,18 @@ loop-less c = search needs
 
 loop-again : tie.Need-loop-again Inv-loop μ-loop
 unfolding any noLanguageAt sameAt
-loop-again c = let p = or-none (leb (c .before .before .listed .result) (c .before .before .before .before .loop .last)) (not (c .before .language .result)) (c .if1 .left) in let h : c .before .before .before .before .loop .last < (listed (sheetOf (c .before .before .before .before .before .before .args .s .now)) (c .before .before .before .before .before .before .args .base) (c .before .before .before .before .before .before .args .first)) (c .before .before .before .before .loop .i) = rw (c .before .before .listed .ensures) at (leb-false (c .before .before .listed .result) (c .before .before .before .before .loop .last) (p .0)) in (search needs, rw (c .before .before .listed .ensures) (below-more (listed (sheetOf (c .before .before .before .before .before .before .args .s .now)) (c .before .before .before .before .before .before .args .base) (c .before .before .before .before .before .before .args .first)) (c .before .before .before .before .loop .i) (c .before .before .before .before .loop .last) (c .before .before .before .before .loop .inv .1) h), rw (add-one, c .before .before .before .before .loop .inv .2, sym (c .before .before .listed .ensures), sym (c .before .language .ensures), p .1) refl, rw (add-one, c .before .before .before .before .loop .inv .3, not-earlier (listed (sheetOf (c .before .before .before .before .before .before .args .s .now)) (c .before .before .before .before .before .before .args .base) (c .before .before .before .before .before .before .args .first)) (c .before .before .before .before .loop .i) (c .before .before .before .before .loop .last) (c .before .before .before .before .loop .inv .1) h) refl)
+loop-again c =
+    let l = c .before .before .before .before .loop in
+    let a = c .before .before .before .before .before .before .args in
+    let entry = listed (sheetOf (a .s .now)) (a .base) (a .first) in
+    let x = c .before .before .listed in
+    let p = or-none (leb (x .result) (l .last)) (not (c .before .language .result)) (c .if1 .left) in
+    let h : l .last < entry (l .i) = rw (x .ensures) at (leb-false (x .result) (l .last) (p .0)) in (
+      search needs,
+      rw (x .ensures) (below-more entry (l .i) (l .last) (l .inv .1) h),
+      rw (add-one, l .inv .2, sym (x .ensures), sym (c .before .language .ensures), p .1) refl,
+      rw (add-one, l .inv .3, not-earlier entry (l .i) (l .last) (l .inv .1) h) refl,
+    )
 
 returns-2 : tie.Need-returns-2 Inv-loop μ-loop
 unfolding twoOf
