@@ -18,7 +18,7 @@ use Rattle.profile.specs.Rules.{beyond, lacks, listLacks, badWords, leaves, bad
 use Rattle.profile.proofs.BoolLaws.{or-false, or-none, or-none-3, or-none-4, and-both, and-second}
 use Rattle.profile.proofs.CountingLaws.{any-none}
 use Rattle.profile.proofs.SumLaws.{any-nowhere, howMany-eq}
-use Rattle.screen.specs.steps.Entries.{listed, badChildAt, outOfOrderAt}
+use Rattle.screen.specs.steps.Entries.{entryAt, badChildAt, outOfOrderAt}
 use Rattle.screen.specs.steps.Values.{valuesAt, hasRange, nonePresent, wordsBroken, valueLeaves, setWordsBroken, setBroken}
 use Rattle.screen.specs.declared.Values.{Values}
 use Rattle.screen.specs.declared.ObjectValues.{ObjectValues}
@@ -115,7 +115,7 @@ howMany-place m (suc n) =
 
 -- an object without a pack
 pub children-kept : (s : Sheet) (o : ℕ) → packOf s o ≡ noPack → childrenBroken s o ≡ false → sourceKept s o
-unfolding any childrenBroken hasPack hasChildren lacks listLacks rule13 rule14 channels badChildAt listed entry reference
+unfolding any childrenBroken hasPack hasChildren lacks listLacks rule13 rule14 channels badChildAt entryAt entry reference
 children-kept s o e h =
     let p = or-none-3 (eqb (number s objects o childList) 0) (not (eqb (number s objects o trackList) 0)) (any (badChildAt s (offset s references) (first s objects o childList) (count s objects)) (number s objects o childList)) h in
     let none : number s objects o trackList ≡ 0 = eqb-true (number s objects o trackList) 0 (not-false (eqb (number s objects o trackList) 0) (p .1)) in
@@ -137,7 +137,7 @@ module _ (s : Sheet) (o pack : ℕ) (named : pack ≡ packOf s o) (some : (pack 
 
   in-order : (i : ℕ) → i < number s objects o trackList
       → (leb (count s tracks) (trackAt s o i) ≡ false) × (not (eqb (field s tracks (trackAt s o i) trackPack) pack) ≡ false) × (not (eqb (field s tracks (trackAt s o i) trackOrdinal) i) ≡ false)
-  unfolding outOfOrderAt listed trackAt entry reference
+  unfolding outOfOrderAt entryAt trackAt entry reference
   in-order i l =
       or-none-3 (leb (count s tracks) (trackAt s o i)) (not (eqb (field s tracks (trackAt s o i) trackPack) pack)) (not (eqb (field s tracks (trackAt s o i) trackOrdinal) i))
       (any-none (outOfOrderAt s (offset s references) (first s objects o trackList) pack) (number s objects o trackList) (parts .3) i l)

@@ -11,7 +11,7 @@ use Rattle.profile.specs.Counting.{any, twoOf}
 use Rattle.profile.specs.Limits.{exceeds, labelsLimit, programmeContentsLimit, programmeSetsLimit}
 use Rattle.profile.specs.Rules.{rule4, rule5, rule6, rule8, rule9, beyond, lacks, listLacks, badSpeech, badLabel, repeats, outside}
 use Rattle.profile.proofs.BoolLaws.{or-false, or-none-3, or-none-4}
-use Rattle.screen.specs.steps.Entries.{listed, lackingAt, noLanguageAt, sameAt}
+use Rattle.screen.specs.steps.Entries.{entryAt, lackingAt, noLanguageAt, sameAt}
 use Rattle.screen.proofs.ObjectLaws.{no-excess}
 use Rattle.screen.specs.steps.Screened.{speechBroken, contentBroken, programmeListsBroken, programmeBroken}
 
@@ -30,13 +30,13 @@ no-labels s lang first loud = simp (no-excess s labelsLimit, or-false)
 -- the words of a content at their places
 pub content-kept : (s : Sheet) (k : ℕ) {at lang object first n loud : ℕ} → at ≡ start s contents k → lang ≡ word s (at + contentLanguage) → object ≡ word s (at + contentObject) → first ≡ word s (at + contentLabels) → n ≡ word s (at + (contentLabels + 1))
     → loud ≡ word s (at + contentLoudness) → speechBroken s lang first n loud ≡ false → leb (count s objects) object ≡ false → contentBroken s k ≡ false
-unfolding speechBroken contentBroken rule4 beyond rule5 lacks rule6 badSpeech badLabel rule8 rule9 repeats number field entry reference listed noLanguageAt sameAt
+unfolding speechBroken contentBroken rule4 beyond rule5 lacks rule6 badSpeech badLabel rule8 rule9 repeats number field entry reference entryAt noLanguageAt sameAt
 content-kept s k a e0 e1 e2 e3 e4 p q = let f = rw (e1, a) at q in simp (f, or-false) (rw (e0, e2, e3, e4, a) at p)
 
 -- the words of a programme at their places
 programme-words-kept : (s : Sheet) (k : ℕ) → speechBroken s (word s (start s programmes k + programmeLanguage)) (word s (start s programmes k + programmeLabels)) (word s (start s programmes k + 6)) (word s (start s programmes k + programmeLoudness)) ≡ false
     → programmeListsBroken s (word s (start s programmes k + 1)) (word s (start s programmes k + 2)) (word s (start s programmes k + 3)) (word s (start s programmes k + 4)) ≡ false → programmeBroken s k ≡ false
-unfolding speechBroken programmeListsBroken programmeBroken rule4 beyond rule5 lacks listLacks rule6 badSpeech badLabel rule8 rule9 repeats number field entry reference listed lackingAt noLanguageAt sameAt
+unfolding speechBroken programmeListsBroken programmeBroken rule4 beyond rule5 lacks listLacks rule6 badSpeech badLabel rule8 rule9 repeats number field entry reference entryAt lackingAt noLanguageAt sameAt
 programme-words-kept s k e f =
     let p = or-none-4 (ltb (count s references) (word s (start s programmes k + 5) + word s (start s programmes k + 6))) (badSpeech s programmes k programmeLanguage programmeLabels programmeLoudness) (exceeds s labelsLimit (word s (start s programmes k + 6))) (repeats s programmes k programmeLabels) e in
     let q = or-none-6

@@ -1,5 +1,5 @@
 // The complements of a leader: rules 19 and 20, and rule 5 by a complement.
-use crate::lists::listed;
+use crate::lists::entry_at;
 use crate::words::number_at;
 use crate::words::record_at;
 use crate::words::word_at;
@@ -22,7 +22,7 @@ ghost use lib.Dec.{eqb};
 ghost use mathlib.Core.Bool.{false, not};
 ghost use mathlib.Core.Path.{_≡_};
 ghost use Rattle.profile.specs.Counting.{any};
-ghost use Rattle.screen.specs.steps.Entries.{listed};
+ghost use Rattle.screen.specs.steps.Entries.{entryAt};
 ghost use Rattle.screen.specs.steps.Objects.{complementBroken, complementsKept};
 ghost use Rattle.sheet.specs.Fields.{interact, objects, references};
 ghost use Rattle.sheet.specs.Layout.{field, offset, start};
@@ -71,13 +71,13 @@ fn any_complement_breaks(
     n: u16,
 ) -> bool
     requires { ⌜ at ≡ start (sheetOf (now s)) objects l ⌝ }
-    ensures { λ r. ⌜ (Tops (sheetOf (now (s .entry))) (now (tops .entry)) → Complemented (sheetOf (now (s .entry))) (now (complements .entry)) → r ≡ any (λ i. complementBroken (sheetOf (now (s .entry))) l (listed (sheetOf (now (s .entry))) (offset (sheetOf (now (s .entry))) references) first i)) n) ⌝ }
+    ensures { λ r. ⌜ (Tops (sheetOf (now (s .entry))) (now (tops .entry)) → Complemented (sheetOf (now (s .entry))) (now (complements .entry)) → r ≡ any (λ i. complementBroken (sheetOf (now (s .entry))) l (entryAt (sheetOf (now (s .entry))) (offset (sheetOf (now (s .entry))) references) first i)) n) ⌝ }
 {
     let base = offset(s, REFERENCES);
     let mut found = false;
     let mut i: u16 = 0;
     while i < n {
-        found = found | complement_breaks(s, tops, complements, at, l, listed(s, base, first, i));
+        found = found | complement_breaks(s, tops, complements, at, l, entry_at(s, base, first, i));
         i += 1;
     }
     found

@@ -206,12 +206,12 @@ fn large_passes(s: &[u8]) -> bool
     )
 }
 
-// Whether the sheet can be seen to be accepted, with the tables of a size: 1 for one under 16,384 bytes, 2 for any. With another number
-// it is not screened.
-pub fn passes(s: &[u8], size: u8) -> bool
+// Whether the sheet can be seen to be accepted, with these tables: 1 for a sheet under 16,384 bytes, 2 for any. With another number it is
+// not screened.
+pub fn passes(s: &[u8], tables: u8) -> bool
     ensures { λ r. ⌜ (r ≡ true → verdict (sheetOf (now (s .entry))) ≡ Accepted) ⌝ }
 {
-    match size {
+    match tables {
         1 => middling_passes(s),
         2 => large_passes(s),
         _ => false,

@@ -2,7 +2,7 @@
 use mathlib.Core.Path.{_≡_, sym, _∙_}
 use Rattle.sheet.specs.Words.{sheetOf}
 use Rattle.sheet.specs.Layout.{number, field, entry, reference}
-use Rattle.screen.specs.steps.Entries.{listed}
+use Rattle.screen.specs.steps.Entries.{entryAt}
 use Rattle.screen.proofs.ObjectLaws.{no-complements, complements-kept}
 use borrow.Author.Needs.{needs}
 use Rattle.screen.proofs.complements.complements_break.Statement.{statement}
@@ -25,7 +25,7 @@ any-complement-breaks-requires : tie.Need-any-complement-breaks-requires
 any-complement-breaks-requires c κs = search needs
 
 returns-2 : tie.Need-returns-2
-unfolding listed entry reference number field
+unfolding entryAt entry reference number field
 returns-2 c = let a = c .before .before .before .before .before .before .before .before .args in λ e t f. complements-kept (sheetOf (a .s .now)) (a .o) (rw (c .before .word-at .ensures, c .before .before .before .number-at .ensures, c .before .before .before .before .record-at .ensures) at (sym (c .any-complement-breaks .ensures t f) ∙ e))
 
 pub complements-break-spec : {M : Type 1} → statement M

@@ -11,23 +11,23 @@ use borrow.Author.Tests.{leb-false}
 use Rattle.values.specs.Language.{language}
 use Rattle.profile.specs.Counting.{any, twoOf}
 use Rattle.profile.proofs.BoolLaws.{or-none}
-use Rattle.screen.specs.steps.Entries.{listed, noLanguageAt, sameAt}
+use Rattle.screen.specs.steps.Entries.{entryAt, noLanguageAt, sameAt}
 use Rattle.screen.proofs.RisingLaws.{Below, below-none, below-more, not-earlier}
 use Rattle.screen.proofs.lists.labels_rise.Statement.{statement}
 use Rattle.screen.proofs.lists.labels_rise.Tie as tie
 
 abbrev Inv-loop : tie.InvT-loop
-Inv-loop s base first n last₀ i₀ last i = (i ≤ n) × Below (listed (sheetOf s) base first) i last × (any (noLanguageAt (sheetOf s) base first) i ≡ false) × (any (λ k. any (λ h. sameAt (sheetOf s) base first h k) k) i ≡ false)
+Inv-loop s base first n last₀ i₀ last i = (i ≤ n) × Below (entryAt (sheetOf s) base first) i last × (any (noLanguageAt (sheetOf s) base first) i ≡ false) × (any (λ k. any (λ h. sameAt (sheetOf s) base first h k) k) i ≡ false)
 
 abbrev μ-loop : tie.MeasureT-loop
 μ-loop s base first n last₀ i₀ last i = n - i
 
 loop-holds : tie.Need-loop-holds Inv-loop μ-loop
 unfolding any
-loop-holds c = (search needs, below-none (listed (sheetOf (c .before .args .s .now)) (c .before .args .base) (c .before .args .first)) 0, refl, refl)
+loop-holds c = (search needs, below-none (entryAt (sheetOf (c .before .args .s .now)) (c .before .args .base) (c .before .args .first)) 0, refl, refl)
 
-listed-requires : tie.Need-listed-requires Inv-loop μ-loop
-listed-requires c κs = search needs
+entry-at-requires : tie.Need-entry-at-requires Inv-loop μ-loop
+entry-at-requires c κs = search needs
 
 language-requires : tie.Need-language-requires Inv-loop μ-loop
 language-requires c κs = search needs
@@ -46,8 +46,8 @@ unfolding any noLanguageAt sameAt
 loop-again c =
     let l = c .before .before .before .before .loop in
     let a = c .before .before .before .before .before .before .args in
-    let entry = listed (sheetOf (a .s .now)) (a .base) (a .first) in
-    let x = c .before .before .listed in
+    let entry = entryAt (sheetOf (a .s .now)) (a .base) (a .first) in
+    let x = c .before .before .entry-at in
     let p = or-none (leb (x .result) (l .last)) (not (c .before .language .result)) (c .if1 .left) in
     let h : l .last < entry (l .i) = rw (x .ensures) at (leb-false (x .result) (l .last) (p .0)) in (
       search needs,
@@ -67,7 +67,7 @@ labels-rise-spec =
     Inv-loop
     μ-loop
     loop-holds
-    listed-requires
+    entry-at-requires
     language-requires
     returns
     add-i
