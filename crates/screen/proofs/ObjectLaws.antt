@@ -1,14 +1,14 @@
 -- What the tests of an object say of the rules. Assumes nothing.
 use Prim.Native.Nat.{ℕ, zero, suc, _+_, _<_, _≤_}
 use mathlib.Core.Path.{_≡_, refl, sym, ap, _∙_}
-use mathlib.Core.Bool.{Bool, true, false, not, cond, true≢false, _&&_, _||_}
+use mathlib.Core.Bool.{Bool, true, false, not, cond, _&&_, _||_}
 use native.Mathlib.Omega.{arith}
 use native.Mathlib.Nat.{add-zero}
 use lib.Dec.{eqb, leb, ltb}
 use borrow.Author.Tests.{eqb-true, eqb-false, ltb-true, ltb-false, le-ltb, eq-eqb, ne-eqb, lt-ltb, not-false, not-true}
-use Rattle.sheet.specs.Words.{Sheet, word}
+use Rattle.sheet.specs.Words.{Sheet}
 use Rattle.sheet.specs.Layout.{level, count, offset, start, field, first, number, entry, reference}
-use Rattle.sheet.specs.Fields.{objects, packs, tracks, references, valueSets, objectPack, noPack, trackList, childList, complementList, interact, objectOffset, setSpan, packChannels, trackPack, trackOrdinal, setOwn}
+use Rattle.sheet.specs.Fields.{objects, packs, tracks, references, valueSets, noPack, trackList, childList, complementList, interact, objectOffset, setSpan, packChannels, trackPack, trackOrdinal, setOwn}
 use Rattle.values.specs.declared.Sort.the-variants.{Gains, Offsets}
 use Rattle.values.specs.Values.{isAbsent}
 use Rattle.profile.specs.Counting.{any, howMany}

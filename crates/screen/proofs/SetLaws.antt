@@ -1,10 +1,10 @@
 -- A value set that has no more than a gain. Assumes nothing.
 use Prim.Native.Nat.{ℕ}
-use mathlib.Core.Path.{_≡_, refl, sym}
-use mathlib.Core.Bool.{Bool, true, false, not, _&&_, _||_}
+use mathlib.Core.Path.{_≡_}
+use mathlib.Core.Bool.{true, not, _&&_}
 use lib.Dec.{eqb}
 use borrow.Author.Tests.{eqb-true, not-true}
-use Rattle.values.specs.Values.{isAbsent, orElse}
+use Rattle.values.specs.Values.{orElse}
 use Rattle.profile.specs.Rules.{badWords}
 use Rattle.profile.proofs.BoolLaws.{or-false, and-both}
 use Rattle.screen.specs.declared.Values.{Values}

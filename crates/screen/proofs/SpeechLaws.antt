@@ -1,6 +1,6 @@
 -- What the tests of a programme or content say of the rules. Assumes nothing.
 use Prim.Native.Nat.{ℕ, _+_}
-use mathlib.Core.Path.{_≡_, refl}
+use mathlib.Core.Path.{_≡_}
 use mathlib.Core.Bool.{Bool, false, not, _||_}
 use lib.Dec.{leb, ltb}
 use Rattle.sheet.specs.Words.{Sheet, word}

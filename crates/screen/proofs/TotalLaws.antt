@@ -1,6 +1,6 @@
 -- What an object adds to the totals. Assumes nothing.
 use Prim.Native.Nat.{ℕ, suc, _+_}
-use mathlib.Core.Path.{_≡_, refl, sym, ap, _∙_}
+use mathlib.Core.Path.{_≡_, refl, sym}
 use mathlib.Core.Bool.{Bool, true, false, not, cond, _&&_}
 use native.Mathlib.Nat.{add-zero}
 use Rattle.sheet.specs.Words.{Sheet}

@@ -3,7 +3,7 @@ use Prim.Native.Nat.{ℕ, _+_, _<_}
 use mathlib.Core.Bool.{Bool, false, not, _||_}
 use mathlib.Core.Path.{_≡_}
 use mathlib.Core.List.{List}
-use lib.Dec.{eqb, ltb}
+use lib.Dec.{ltb}
 use lib.ListN.{length}
 use Rattle.sheet.specs.Words.{Sheet}
 use Rattle.sheet.specs.Layout.{count, offset}

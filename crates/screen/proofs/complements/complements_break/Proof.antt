@@ -1,5 +1,5 @@
 -- Without complements there is nothing to break. Assumes nothing.
-use mathlib.Core.Path.{_≡_, sym, _∙_}
+use mathlib.Core.Path.{sym, _∙_}
 use Rattle.sheet.specs.Words.{sheetOf}
 use Rattle.sheet.specs.Layout.{number, field, entry, reference}
 use Rattle.screen.specs.steps.Entries.{entryAt}

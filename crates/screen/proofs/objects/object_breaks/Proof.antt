@@ -1,5 +1,5 @@
 -- Each part is its callee's. Assumes nothing.
-use mathlib.Core.Path.{_≡_, sym, _∙_}
+use mathlib.Core.Path.{sym, _∙_}
 use mathlib.Core.Bool.{true≢false}
 use Rattle.sheet.specs.Words.{sheetOf}
 use borrow.Author.Tests.{not-false}

@@ -1,5 +1,5 @@
 -- Each list or span in turn. Assumes nothing.
-use mathlib.Core.Path.{_≡_, sym, _∙_}
+use mathlib.Core.Path.{sym, _∙_}
 use mathlib.Core.Bool.{true≢false}
 use Rattle.sheet.specs.Words.{sheetOf}
 use Rattle.sheet.specs.Layout.{field, number}

@@ -1,5 +1,5 @@
 -- No offset, or each test its callee's. Assumes nothing.
-use mathlib.Core.Path.{_≡_, sym, _∙_}
+use mathlib.Core.Path.{sym, _∙_}
 use Rattle.screen.specs.steps.Objects.{offsetsBroken}
 use Rattle.screen.proofs.ObjectLaws.{no-offset}
 use borrow.Author.Needs.{needs}

@@ -1,5 +1,5 @@
 -- With a pack or without. Assumes nothing.
-use mathlib.Core.Path.{_≡_, sym, _∙_}
+use mathlib.Core.Path.{sym, _∙_}
 use Rattle.sheet.specs.Words.{sheetOf}
 use Rattle.screen.proofs.ObjectLaws.{children-kept, tracks-kept}
 use borrow.Author.Needs.{needs}

@@ -1,5 +1,5 @@
 -- Each part is its callee's. Assumes nothing.
-use mathlib.Core.Path.{_≡_, sym, _∙_}
+use mathlib.Core.Path.{sym, _∙_}
 use Rattle.profile.proofs.BoolLaws.{or-none-4}
 use Rattle.sheet.specs.Layout.{number, field}
 use Rattle.screen.specs.steps.Objects.{setsBroken}

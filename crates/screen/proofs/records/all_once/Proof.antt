@@ -1,12 +1,11 @@
 -- The places passed have 1. Assumes nothing.
 use borrow.Author.Needs.{needs}
-use mathlib.Core.Path.{_≡_, refl, sym, ap, _∙_}
-use mathlib.Core.Bool.{false, true≢false, _||_}
-use Rattle.sheet.specs.Words.{sheetOf}
-use Prim.Native.Nat.{ℕ, suc, _<_, _-_, _≤_}
+use mathlib.Core.Path.{_≡_, sym}
+use mathlib.Core.Bool.{false, true≢false}
+use Prim.Native.Nat.{ℕ, _<_, _-_, _≤_}
 use native.Mathlib.Omega.{arith}
-use mathlib.Core.Bool.{Bool, true}
-use lib.ListN.{getD, length}
+use mathlib.Core.Bool.{true}
+use lib.ListN.{getD}
 use borrow.Author.Tests.{eqb-true}
 use Rattle.profile.proofs.BoolLaws.{and-both}
 use Rattle.screen.proofs.NoughtLaws.{once-none, once-more}

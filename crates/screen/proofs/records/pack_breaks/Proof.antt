@@ -1,5 +1,4 @@
 -- The words are those of the pack. Assumes nothing.
-use mathlib.Core.Path.{_≡_, sym, _∙_}
 use mathlib.Core.Bool.{true≢false}
 use Rattle.sheet.specs.Words.{sheetOf}
 use Rattle.screen.proofs.PackLaws.{three-kept, one-kept}

@@ -1,15 +1,14 @@
 -- No track passed breaks one. Assumes nothing.
-use Prim.Native.Nat.{ℕ, _+_, _-_, _*_, _<_, _≤_}
+use Prim.Native.Nat.{_-_, _≤_}
 use mathlib.Core.Path.{_≡_, refl, sym, ap, _∙_}
-use mathlib.Core.Bool.{true, false, not, true≢false, _&&_, _||_}
+use mathlib.Core.Bool.{true, false, true≢false}
 use native.Mathlib.Omega.{arith}
 use native.Mathlib.Numerals.{add-one}
 use Rattle.sheet.specs.Words.{sheetOf}
 use borrow.Author.Needs.{needs}
 use Rattle.profile.specs.Counting.{any}
-use lib.Dec.{eqb, leb, ltb}
-use Rattle.profile.specs.Rules.{rule5, rule6, rule10, rule12}
-use Rattle.sheet.specs.Fields.{contents, objects, packs, programmes, tracks}
+use Rattle.profile.specs.Rules.{rule5}
+use Rattle.sheet.specs.Fields.{tracks}
 use Rattle.screen.proofs.records.tracks_keep.Statement.{statement}
 use Rattle.screen.proofs.records.tracks_keep.Tie as tie
 

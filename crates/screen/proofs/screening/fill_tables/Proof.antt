@@ -1,8 +1,6 @@
 -- Each table is as its pass leaves it. Assumes nothing.
-use mathlib.Core.Path.{_≡_, sym, _∙_}
 use Rattle.sheet.specs.Words.{sheetOf}
 use Rattle.tables.specs.declared.Naming.the-variants.{ContentObjects, Complements, ContentLists}
-use Rattle.screen.specs.steps.Screened.{Filled, RecordsTabled}
 use Rattle.screen.proofs.NoughtLaws.{counts-made, named-made, spans-made}
 use borrow.Author.Needs.{needs}
 use Rattle.screen.proofs.screening.fill_tables.Statement.{statement}

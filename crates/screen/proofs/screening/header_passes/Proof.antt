@@ -1,5 +1,5 @@
 -- The header is tested by itself. Assumes nothing.
-use mathlib.Core.Path.{_≡_, sym, _∙_}
+use mathlib.Core.Path.{sym, _∙_}
 use mathlib.Core.Bool.{true≢false}
 use borrow.Author.Needs.{needs}
 use Rattle.screen.proofs.screening.header_passes.Statement.{statement}

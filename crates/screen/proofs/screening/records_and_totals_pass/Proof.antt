@@ -1,9 +1,8 @@
 -- The records, the value sets, the whole sheet. Assumes nothing.
-use mathlib.Core.Path.{_≡_, sym}
+use mathlib.Core.Path.{sym}
 use mathlib.Core.Bool.{true≢false}
 use borrow.Author.Tests.{not-false, not-true}
 use Rattle.sheet.specs.Words.{sheetOf}
-use Rattle.screen.specs.steps.Screened.{RecordsAndTotalsKept}
 use Rattle.screen.proofs.NoughtLaws.{spanned-once}
 use borrow.Author.Needs.{needs}
 use Rattle.screen.proofs.screening.records_and_totals_pass.Statement.{statement}

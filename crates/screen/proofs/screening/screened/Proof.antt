@@ -1,5 +1,5 @@
 -- With right tables the rules are kept. Assumes nothing.
-use mathlib.Core.Path.{_≡_, sym}
+use mathlib.Core.Path.{sym}
 use mathlib.Core.Bool.{true≢false}
 use borrow.Author.Tests.{not-false}
 use Rattle.sheet.specs.Words.{sheetOf}

@@ -1,13 +1,12 @@
 -- Where nothing is found, the sets passed break nothing. Assumes nothing.
-use Prim.Native.Nat.{ℕ, _+_, _-_, _*_, _<_, _≤_}
+use Prim.Native.Nat.{_+_, _-_, _≤_}
 use mathlib.Core.Path.{_≡_, refl, sym, ap, _∙_}
-use mathlib.Core.Bool.{true, false, not, true≢false, _&&_, _||_}
+use mathlib.Core.Bool.{false}
 use native.Mathlib.Omega.{arith}
 use native.Mathlib.Numerals.{add-one}
 use Rattle.sheet.specs.Words.{sheetOf}
 use borrow.Author.Needs.{needs}
 use Rattle.profile.specs.Counting.{any}
-use lib.Dec.{eqb, leb, ltb}
 use Rattle.profile.proofs.BoolLaws.{or-none}
 use Rattle.screen.specs.steps.Values.{setBroken}
 use Rattle.sheet.specs.Layout.{start}

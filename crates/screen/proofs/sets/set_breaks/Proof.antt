@@ -1,5 +1,5 @@
 -- With no more than a gain, or with any words. Assumes nothing.
-use mathlib.Core.Path.{_≡_, sym, _∙_}
+use mathlib.Core.Path.{sym, _∙_}
 use mathlib.Core.Bool.{true≢false}
 use Rattle.screen.specs.steps.Values.{setBroken}
 use Rattle.screen.proofs.SetLaws.{only-gain}

@@ -1,9 +1,8 @@
 -- The words are those of the content. Assumes nothing.
-use mathlib.Core.Path.{_≡_, sym, _∙_}
+use mathlib.Core.Path.{sym, _∙_}
 use mathlib.Core.Bool.{true≢false}
 use Rattle.sheet.specs.Words.{sheetOf}
 use borrow.Author.Tests.{lt-leb}
-use Rattle.screen.specs.steps.Screened.{speechBroken}
 use Rattle.screen.proofs.SpeechLaws.{content-kept}
 use borrow.Author.Needs.{needs}
 use Rattle.screen.proofs.speech.content_breaks.Statement.{statement}

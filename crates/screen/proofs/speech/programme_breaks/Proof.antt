@@ -1,5 +1,5 @@
 -- The words are those of the programme. Assumes nothing.
-use mathlib.Core.Path.{_≡_, sym, _∙_}
+use mathlib.Core.Path.{sym, _∙_}
 use mathlib.Core.Bool.{true≢false}
 use Rattle.profile.proofs.BoolLaws.{or-none}
 use Rattle.sheet.specs.Words.{sheetOf}

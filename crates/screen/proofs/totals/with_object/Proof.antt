@@ -1,6 +1,6 @@
 -- A leader, an object in no group, or neither. Assumes nothing.
 use Prim.Native.Nat.{ℕ, _+_}
-use mathlib.Core.Path.{_≡_, refl, sym, ap, _∙_}
+use mathlib.Core.Path.{refl, sym, ap, _∙_}
 use Rattle.sheet.specs.Words.{sheetOf}
 use Rattle.screen.proofs.TotalLaws.{leader-added, lone-added, other-added}
 use borrow.Author.Needs.{needs}
