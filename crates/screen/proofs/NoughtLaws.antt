@@ -11,7 +11,7 @@ use Rattle.tables.specs.declared.Mark.the-variants.{Count}
 use Rattle.tables.specs.steps.Marks.{Standing, marked, repeat, namedBy}
 use Rattle.tables.specs.steps.Right.{counted, Named, Listed, Spanned}
 use Rattle.tables.proofs.TableLaws.{namings-added, span-namings, counted-one, listed-counted}
-use mathlib.Core.Bool.{true, false, not, _&&_, _||_}
+use mathlib.Core.Bool.{true, false, not}
 use lib.Dec.{eqb}
 use borrow.Author.Tests.{eq-eqb}
 use Rattle.sheet.specs.Layout.{count}

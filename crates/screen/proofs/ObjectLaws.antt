@@ -1,14 +1,14 @@
 -- What the tests of an object say of the rules. Assumes nothing.
 use Prim.Native.Nat.{ℕ, zero, suc, _+_, _<_, _≤_}
 use mathlib.Core.Path.{_≡_, refl, sym, ap, _∙_}
-use mathlib.Core.Bool.{Bool, true, false, not, cond, true≢false, _&&_, _||_}
+use mathlib.Core.Bool.{Bool, true, false, not, cond, _&&_, _||_}
 use native.Mathlib.Omega.{arith}
 use native.Mathlib.Nat.{add-zero}
 use lib.Dec.{eqb, leb, ltb}
 use borrow.Author.Tests.{eqb-true, eqb-false, ltb-true, ltb-false, le-ltb, eq-eqb, ne-eqb, lt-ltb, not-false, not-true}
-use Rattle.sheet.specs.Words.{Sheet, word}
+use Rattle.sheet.specs.Words.{Sheet}
 use Rattle.sheet.specs.Layout.{level, count, offset, start, field, first, number, entry, reference}
-use Rattle.sheet.specs.Fields.{objects, packs, tracks, references, valueSets, objectPack, noPack, trackList, childList, complementList, interact, setSpan, packChannels, trackPack, trackOrdinal, setOwn}
+use Rattle.sheet.specs.Fields.{objects, packs, tracks, references, valueSets, noPack, trackList, childList, complementList, interact, objectOffset, setSpan, packChannels, trackPack, trackOrdinal, setOwn}
 use Rattle.values.specs.declared.Sort.the-variants.{Gains, Offsets}
 use Rattle.values.specs.Values.{isAbsent}
 use Rattle.profile.specs.Counting.{any, howMany}
@@ -18,10 +18,11 @@ use Rattle.profile.specs.Rules.{beyond, lacks, listLacks, badWords, leaves, bad
 use Rattle.profile.proofs.BoolLaws.{or-false, or-none, or-none-3, or-none-4, and-both, and-second}
 use Rattle.profile.proofs.CountingLaws.{any-none}
 use Rattle.profile.proofs.SumLaws.{any-nowhere, howMany-eq}
-use Rattle.screen.specs.steps.Entries.{listed, badChildAt, outOfOrderAt}
-use Rattle.screen.specs.steps.Values.{valuesAt, hasRange, wordsBroken, valueLeaves, setWordsBroken, setBroken}
+use Rattle.screen.specs.steps.Entries.{entryAt, badChildAt, outOfOrderAt}
+use Rattle.screen.specs.steps.Values.{valuesAt, hasRange, nonePresent, wordsBroken, valueLeaves, setWordsBroken, setBroken}
+use Rattle.screen.specs.declared.Values.{Values}
 use Rattle.screen.specs.declared.ObjectValues.{ObjectValues}
-use Rattle.screen.specs.steps.Objects.{objectListsBroken, objectValues, gainsBroken, offsetsBroken, valuesBroken, childrenBroken, tracksBroken, sourceKept, complementBroken, complementsKept, setsBroken, isPlain, restKept, objectBroken}
+use Rattle.screen.specs.steps.Objects.{objectListsBroken, objectGains, objectOffsets, objectValues, gainsBroken, offsetsBroken, valuesBroken, childrenBroken, tracksBroken, sourceKept, complementBroken, complementsKept, setsBroken, isPlain, restKept, objectBroken}
 
 -- two tests of each number below n
 module _ (p q : ℕ → Bool) (n : ℕ) (e : any (λ i. p i || q i) n ≡ false) where
@@ -87,7 +88,7 @@ values-kept s o e =
     let f = or-none-4
     (badObjectWords s o Offsets)
     (eqb (field s objects o interact) 0 && objectRange s o Offsets)
-    ((not (isAbsent (field s objects o 11)) || objectRange s o Offsets) && not (hasFrontPack s o))
+    ((not (isAbsent (field s objects o objectOffset)) || objectRange s o Offsets) && not (hasFrontPack s o))
     (objectLeaves s o Offsets) (p .2) in
     (simp (p .0, g .0, f .0, or-false), simp (f .2, or-false), simp (g .2, f .3, or-false), neither (eqb (field s objects o interact) 0) (objectRange s o Gains) (objectRange s o Offsets) (g .1) (f .1))
   where
@@ -114,7 +115,7 @@ howMany-place m (suc n) =
 
 -- an object without a pack
 pub children-kept : (s : Sheet) (o : ℕ) → packOf s o ≡ noPack → childrenBroken s o ≡ false → sourceKept s o
-unfolding any childrenBroken hasPack hasChildren lacks listLacks rule13 rule14 channels badChildAt listed entry reference
+unfolding any childrenBroken hasPack hasChildren lacks listLacks rule13 rule14 channels badChildAt entryAt entry reference
 children-kept s o e h =
     let p = or-none-3 (eqb (number s objects o childList) 0) (not (eqb (number s objects o trackList) 0)) (any (badChildAt s (offset s references) (first s objects o childList) (count s objects)) (number s objects o childList)) h in
     let none : number s objects o trackList ≡ 0 = eqb-true (number s objects o trackList) 0 (not-false (eqb (number s objects o trackList) 0) (p .1)) in
@@ -136,7 +137,7 @@ module _ (s : Sheet) (o pack : ℕ) (named : pack ≡ packOf s o) (some : (pack 
 
   in-order : (i : ℕ) → i < number s objects o trackList
       → (leb (count s tracks) (trackAt s o i) ≡ false) × (not (eqb (field s tracks (trackAt s o i) trackPack) pack) ≡ false) × (not (eqb (field s tracks (trackAt s o i) trackOrdinal) i) ≡ false)
-  unfolding outOfOrderAt listed trackAt entry reference
+  unfolding outOfOrderAt entryAt trackAt entry reference
   in-order i l =
       or-none-3 (leb (count s tracks) (trackAt s o i)) (not (eqb (field s tracks (trackAt s o i) trackPack) pack)) (not (eqb (field s tracks (trackAt s o i) trackOrdinal) i))
       (any-none (outOfOrderAt s (offset s references) (first s objects o trackList) pack) (number s objects o trackList) (parts .3) i l)
@@ -189,25 +190,31 @@ pub no-complements : (s : Sheet) (o : ℕ) → number s objects o complementList
 unfolding any listLacks rule19 rule20
 no-complements s o e = (simp e, simp e, simp e)
 
+-- three words that are absent
+pub all-absent : (v : Values) → nonePresent v ≡ true → (isAbsent (v .value) ≡ true) × (isAbsent (v .minimum) ≡ true) × (isAbsent (v .maximum) ≡ true)
+unfolding nonePresent hasRange
+all-absent v e =
+    let p = and-both (isAbsent (v .value)) (not (not (isAbsent (v .minimum)) || not (isAbsent (v .maximum)))) e in
+    let q = or-none (not (isAbsent (v .minimum))) (not (isAbsent (v .maximum))) (not-true (not (isAbsent (v .minimum)) || not (isAbsent (v .maximum))) (p .1)) in
+    (p .0, not-false (isAbsent (v .minimum)) (q .0), not-false (isAbsent (v .maximum)) (q .1))
+
 -- a plain object
 pub plain-kept : (s : Sheet) (o : ℕ) → isPlain s o ≡ true → restKept s o
 unfolding any isPlain setsBroken leader rule15 valuesBroken gainsBroken offsetsBroken objectValues valuesAt hasRange wordsBroken badWords leaves objectRange field
 plain-kept s o e =
-    let offset-maximum = and-both _ (isAbsent (field s objects o 13)) e in
-    let offset-minimum = and-both _ (isAbsent (field s objects o 12)) (offset-maximum .0) in
-    let offset = and-both _ (isAbsent (field s objects o 11)) (offset-minimum .0) in
-    let gain-maximum = and-both _ (isAbsent (field s objects o 10)) (offset .0) in
-    let gain-minimum = and-both _ (isAbsent (field s objects o 9)) (gain-maximum .0) in
-    let gain = and-both _ (isAbsent (field s objects o 8)) (gain-minimum .0) in
-    let still = and-both _ (eqb (field s objects o 7) 0) (gain .0) in
+    let offset = and-both _ (nonePresent (objectOffsets s (start s objects o))) e in
+    let gain = and-both _ (nonePresent (objectGains s (start s objects o))) (offset .0) in
+    let still = and-both _ (eqb (field s objects o interact) 0) (gain .0) in
     let none = and-both (eqb (number s objects o complementList) 0) (eqb (number s objects o setSpan) 0) (still .0) in
     let complements : number s objects o complementList ≡ 0 = eqb-true (number s objects o complementList) 0 (none .0) in
     let sets : number s objects o setSpan ≡ 0 = eqb-true (number s objects o setSpan) 0 (none .1) in
-    let off : field s objects o 7 ≡ 0 = eqb-true (field s objects o 7) 0 (still .1) in (
-      simp (off, gain .1, gain-minimum .1, gain-maximum .1, offset .1, offset-minimum .1, offset-maximum .1),
+    let off : field s objects o interact ≡ 0 = eqb-true (field s objects o interact) 0 (still .1) in
+    let g = all-absent (objectGains s (start s objects o)) (gain .1) in
+    let f = all-absent (objectOffsets s (start s objects o)) (offset .1) in (
+      simp (off, g .0, g .1, g .2, f .0, f .1, f .2),
       simp sets,
       no-complements s o complements,
-      simp (complements, sets, off, gain .1, gain-minimum .1, gain-maximum .1, offset .1, offset-minimum .1, offset-maximum .1, and-nothing),
+      simp (complements, sets, off, g .0, g .1, g .2, f .0, f .1, f .2, and-nothing),
     )
 
 -- complements that pass
@@ -262,18 +269,15 @@ rule5-kept : (s : Sheet) (o : ℕ) → sourceKept s o → complementsKept s o �
 unfolding rule5
 rule5-kept s o source others = simp (source .0, source .1, source .2, others .0, or-false)
 
-pub object-kept : (s : Sheet) (o : ℕ) → objectListsBroken s o ≡ false → valuesBroken (objectValues s o) ≡ false → setsBroken s o ≡ false → sourceKept s o → complementsKept s o
-    → rule11 s objects o ≡ false → rule15 s objects o ≡ false → objectBroken s o ≡ false
+pub object-kept : (s : Sheet) (o : ℕ) → objectListsBroken s o ≡ false → sourceKept s o → restKept s o → rule11 s objects o ≡ false → objectBroken s o ≡ false
 unfolding objectBroken
-object-kept s o lists values sets source others once child =
+object-kept s o lists source rest once =
     let l = lists-kept s o lists in
-    let v = values-kept s o values in
-    rw (l .0, rule5-kept s o source others, v .0, l .1, once, source .3, source .4, child, own-kept s o (v .3) sets, v .1, v .2, others .1, others .2, sets) refl
+    let v = values-kept s o (rest .0) in
+    let others = rest .2 in
+    rw (l .0, rule5-kept s o source others, v .0, l .1, once, source .3, source .4, rest .3, own-kept s o (v .3) (rest .1), v .1, v .2, others .1, others .2, rest .1) refl
 
 -- no offset and no range of one
-pub no-offset : (v : ObjectValues) → (isAbsent (v .offsets .value) && not (hasRange (v .offsets))) ≡ true → offsetsBroken v ≡ false
+pub no-offset : (v : ObjectValues) → nonePresent (v .offsets) ≡ true → offsetsBroken v ≡ false
 unfolding offsetsBroken hasRange wordsBroken badWords leaves
-no-offset v e =
-    let p = and-both (isAbsent (v .offsets .value)) (not (not (isAbsent (v .offsets .minimum)) || not (isAbsent (v .offsets .maximum)))) e in
-    let q = or-none (not (isAbsent (v .offsets .minimum))) (not (isAbsent (v .offsets .maximum))) (not-true (not (isAbsent (v .offsets .minimum)) || not (isAbsent (v .offsets .maximum))) (p .1)) in
-    simp (p .0, not-false (isAbsent (v .offsets .minimum)) (q .0), not-false (isAbsent (v .offsets .maximum)) (q .1), and-nothing)
+no-offset v e = let p = all-absent (v .offsets) e in simp (p .0, p .1, p .2, and-nothing)

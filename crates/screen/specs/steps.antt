@@ -3,4 +3,5 @@
 pub mod Entries
 pub mod Objects
 pub mod Screened
+pub mod Totals
 pub mod Values

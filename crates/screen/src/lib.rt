@@ -8,6 +8,7 @@ pub mod screening;
 pub mod sets;
 pub mod speech;
 pub mod totals;
+pub mod words;
 
 // A gain with its range, or an offset with its range: three words.
 pub struct Values {

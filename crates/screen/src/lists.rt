@@ -12,7 +12,7 @@ ghost use lib.Dec.{ltb};
 ghost use mathlib.Core.Bool.{false, true};
 ghost use mathlib.Core.Path.{_≡_};
 ghost use Rattle.profile.specs.Counting.{any, twoOf};
-ghost use Rattle.screen.specs.steps.Entries.{badChildAt, lackingAt, listed, noLanguageAt, outOfOrderAt, sameAt};
+ghost use Rattle.screen.specs.steps.Entries.{badChildAt, entryAt, lackingAt, noLanguageAt, outOfOrderAt, sameAt};
 ghost use Rattle.sheet.specs.Words.{sheetOf};
 
 // Whether a list or span ends beyond a section of so many records.
@@ -23,8 +23,8 @@ pub fn beyond(count: u16, first: u16, n: u16) -> bool
 }
 
 // The entry at a place of the list.
-pub fn listed(s: &[u8], base: u16, first: u16, i: u16) -> u16
-    ensures { λ r. ⌜ r ≡ listed (sheetOf (now (s .entry))) base first i ⌝ }
+pub fn entry_at(s: &[u8], base: u16, first: u16, i: u16) -> u16
+    ensures { λ r. ⌜ r ≡ entryAt (sheetOf (now (s .entry))) base first i ⌝ }
 {
     word(s, base as usize + (first as usize + i as usize))
 }
@@ -36,7 +36,7 @@ pub fn any_lacking(s: &[u8], base: u16, first: u16, n: u16, many: u16) -> bool
     let mut found = false;
     let mut i: u16 = 0;
     while i < n {
-        found = found | (many <= listed(s, base, first, i));
+        found = found | (many <= entry_at(s, base, first, i));
         i += 1;
     }
     found
@@ -49,7 +49,7 @@ pub fn any_no_language(s: &[u8], base: u16, first: u16, n: u16) -> bool
     let mut found = false;
     let mut i: u16 = 0;
     while i < n {
-        found = found | !language(listed(s, base, first, i));
+        found = found | !language(entry_at(s, base, first, i));
         i += 1;
     }
     found
@@ -59,11 +59,11 @@ pub fn any_no_language(s: &[u8], base: u16, first: u16, n: u16) -> bool
 fn earlier(s: &[u8], base: u16, first: u16, j: u16) -> bool
     ensures { λ r. ⌜ r ≡ any (λ i. sameAt (sheetOf (now (s .entry))) base first i j) j ⌝ }
 {
-    let y = listed(s, base, first, j);
+    let y = entry_at(s, base, first, j);
     let mut found = false;
     let mut i: u16 = 0;
     while i < j {
-        found = found | (listed(s, base, first, i) == y);
+        found = found | (entry_at(s, base, first, i) == y);
         i += 1;
     }
     found
@@ -89,7 +89,7 @@ pub fn labels_rise(s: &[u8], base: u16, first: u16, n: u16) -> bool
     let mut last: u16 = 0;
     let mut i: u16 = 0;
     while i < n {
-        let x = listed(s, base, first, i);
+        let x = entry_at(s, base, first, i);
         if (x <= last) | !language(x) {
             return false;
         }
@@ -107,7 +107,7 @@ pub fn any_out_of_order(s: &[u8], base: u16, first: u16, n: u16, pack: u16) -> b
     let mut found = false;
     let mut i: u16 = 0;
     while i < n {
-        let t = listed(s, base, first, i);
+        let t = entry_at(s, base, first, i);
         found = found
             | ((many <= t)
                 | (field(s, TRACKS, t, TRACK_PACK) != pack)
@@ -124,7 +124,7 @@ pub fn any_bad_child(s: &[u8], base: u16, first: u16, n: u16, many: u16) -> bool
     let mut found = false;
     let mut i: u16 = 0;
     while i < n {
-        let e = listed(s, base, first, i);
+        let e = entry_at(s, base, first, i);
         found = found | ((many <= e) | !has_objects_pack(s, e));
         i += 1;
     }

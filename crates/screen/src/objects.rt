@@ -1,13 +1,19 @@
 // An object: the rules that have it as their place, and its value sets.
 use crate::ObjectValues;
+use crate::Values;
 use crate::complements::complements_break;
 use crate::lists::any_bad_child;
 use crate::lists::any_out_of_order;
 use crate::lists::beyond;
 use crate::sets::any_set_breaks;
 use crate::sets::has_range;
+use crate::sets::none_present;
 use crate::sets::values_at;
 use crate::sets::words_break;
+use crate::words::ends_before;
+use crate::words::number_at;
+use crate::words::record_at;
+use crate::words::word_at;
 use profile::limits::CHILDREN_LIMIT;
 use profile::limits::COMPLEMENTS_LIMIT;
 use profile::limits::SPAN_LIMIT;
@@ -15,20 +21,28 @@ use profile::limits::exceeds;
 use relations::objects::pack_of;
 use rules::objects::rule15;
 use rules::ranges::leaves;
+use sheet::fields::CHILD_LIST;
+use sheet::fields::COMPLEMENT_LIST;
+use sheet::fields::INTERACT;
 use sheet::fields::NO_PACK;
+use sheet::fields::OBJECT_GAIN;
+use sheet::fields::OBJECT_GAIN_MAXIMUM;
+use sheet::fields::OBJECT_GAIN_MINIMUM;
+use sheet::fields::OBJECT_OFFSET;
+use sheet::fields::OBJECT_OFFSET_MAXIMUM;
+use sheet::fields::OBJECT_OFFSET_MINIMUM;
 use sheet::fields::OBJECTS;
 use sheet::fields::PACK_CHANNELS;
 use sheet::fields::PACK_FRONT;
 use sheet::fields::PACK_KIND;
 use sheet::fields::PACKS;
 use sheet::fields::REFERENCES;
+use sheet::fields::SET_SPAN;
+use sheet::fields::TRACK_LIST;
 use sheet::fields::VALUE_SETS;
 use sheet::layout::count;
 use sheet::layout::field;
 use sheet::layout::offset;
-use sheet::layout::start;
-use sheet::words::word;
-use sheet::words::word_count;
 use tables::reads::top_by;
 use values::Sort;
 use values::values::is_absent;
@@ -41,10 +55,10 @@ ghost use mathlib.Core.Path.{_≡_};
 ghost use Rattle.profile.specs.Limits.{exceeds};
 ghost use Rattle.profile.specs.Relations.{packOf};
 ghost use Rattle.profile.specs.Rules.{rule15};
-ghost use Rattle.screen.specs.steps.Objects.{childrenBroken, gainsBroken, isFront, isPlain, objectBroken, objectListsBroken, objectValues, offsetsBroken, restKept, sourceKept, tracksBroken, valuesBroken};
+ghost use Rattle.screen.specs.steps.Objects.{childrenBroken, gainsBroken, isFront, isPlain, objectBroken, objectGains, objectListsBroken, objectOffsets, objectValues, offsetsBroken, restKept, sourceKept, tracksBroken, valuesBroken};
 ghost use Rattle.sheet.specs.Fields.{objects};
 ghost use Rattle.sheet.specs.Layout.{start};
-ghost use Rattle.sheet.specs.Words.{sheetOf};
+ghost use Rattle.sheet.specs.Words.{sheetOf, word};
 ghost use Rattle.tables.specs.steps.Right.{Complemented, Named, Tops};
 
 // Whether a list or span of so many entries is above a limit.
@@ -57,35 +71,34 @@ fn exceeding(s: &[u8], column: u8, n: u16) -> bool
     exceeds(s, column, n as u64)
 }
 
-// A list or span of n that ends beyond a section of so many records, or is above a limit.
-fn list_breaks(s: &[u8], many: u16, first: u16, n: u16, column: u8) -> bool
-    ensures { λ r. ⌜ r ≡ (ltb many (first + n) || exceeds (sheetOf (now (s .entry))) column n) ⌝ }
+// Whether the list or span at a position of a record ends beyond a section of so many records, or is above a limit.
+fn list_breaks(s: &[u8], many: u16, at: u32, position: u8, column: u8) -> bool
+    ensures { λ r. ⌜ r ≡ (ltb many (word (sheetOf (now (s .entry))) (at + position) + word (sheetOf (now (s .entry))) (at + (position + 1))) || exceeds (sheetOf (now (s .entry))) column (word (sheetOf (now (s .entry))) (at + (position + 1)))) ⌝ }
 {
-    beyond(many, first, n) | exceeding(s, column, n)
+    let n = number_at(s, at, position);
+    beyond(many, word_at(s, at, position), n) | exceeding(s, column, n)
 }
 
 // Whether a list or the span of an object, whose words begin at an index, may break rule 4 or 8.
-fn object_lists_break(s: &[u8], at: usize, o: u16) -> bool
-    requires { ⌜ (at ≡ start (sheetOf (now s)) objects o) × (at < 2199023255552) ⌝ }
+fn object_lists_break(s: &[u8], at: u32, o: u16) -> bool
+    requires { ⌜ at ≡ start (sheetOf (now s)) objects o ⌝ }
     ensures { λ r. ⌜ (r ≡ false → objectListsBroken (sheetOf (now (s .entry))) o ≡ false) ⌝ }
 {
     let many = count(s, REFERENCES);
-    if beyond(many, word(s, at + 1), word(s, at + 2)) {
+    if beyond(
+        many,
+        word_at(s, at, TRACK_LIST),
+        number_at(s, at, TRACK_LIST),
+    ) {
         return true;
     }
-    if list_breaks(s, many, word(s, at + 3), word(s, at + 4), CHILDREN_LIMIT) {
+    if list_breaks(s, many, at, CHILD_LIST, CHILDREN_LIMIT) {
         return true;
     }
-    if list_breaks(s, many, word(s, at + 5), word(s, at + 6), COMPLEMENTS_LIMIT) {
+    if list_breaks(s, many, at, COMPLEMENT_LIST, COMPLEMENTS_LIMIT) {
         return true;
     }
-    list_breaks(
-        s,
-        count(s, VALUE_SETS),
-        word(s, at + 14),
-        word(s, at + 15),
-        SPAN_LIMIT,
-    )
+    list_breaks(s, count(s, VALUE_SETS), at, SET_SPAN, SPAN_LIMIT)
 }
 
 // Whether a pack is one of kind 3 with front 1.
@@ -97,16 +110,36 @@ fn is_front(s: &[u8], pack: u16) -> bool
         & (field(s, PACKS, pack, PACK_FRONT) == 1)
 }
 
+// The gain of an object with its range.
+fn gains_at(s: &[u8], at: u32) -> Values
+    ensures { λ r. ⌜ r ≡ objectGains (sheetOf (now (s .entry))) at ⌝ }
+{
+    values_at(s, at, OBJECT_GAIN, OBJECT_GAIN_MINIMUM, OBJECT_GAIN_MAXIMUM)
+}
+
+// The offset of an object with its range.
+fn offsets_at(s: &[u8], at: u32) -> Values
+    ensures { λ r. ⌜ r ≡ objectOffsets (sheetOf (now (s .entry))) at ⌝ }
+{
+    values_at(
+        s,
+        at,
+        OBJECT_OFFSET,
+        OBJECT_OFFSET_MINIMUM,
+        OBJECT_OFFSET_MAXIMUM,
+    )
+}
+
 // The values of an object with a pack.
-fn object_values(s: &[u8], at: usize, o: u16, pack: u16) -> ObjectValues
-    requires { ⌜ (at ≡ start (sheetOf (now s)) objects o) × (at < 2199023255552) × (pack ≡ packOf (sheetOf (now s)) o) ⌝ }
+fn object_values(s: &[u8], at: u32, o: u16, pack: u16) -> ObjectValues
+    requires { ⌜ (at ≡ start (sheetOf (now s)) objects o) × (pack ≡ packOf (sheetOf (now s)) o) ⌝ }
     ensures { λ r. ⌜ r ≡ objectValues (sheetOf (now (s .entry))) o ⌝ }
 {
     ObjectValues {
-        interact: word(s, at + 7),
+        interact: word_at(s, at, INTERACT),
         front: is_front(s, pack),
-        gains: values_at(s, at + 8, at + 9, at + 10),
-        offsets: values_at(s, at + 11, at + 12, at + 13),
+        gains: gains_at(s, at),
+        offsets: offsets_at(s, at),
     }
 }
 
@@ -130,7 +163,7 @@ fn offsets_break(v: ObjectValues) -> bool
     ensures { λ r. ⌜ r ≡ offsetsBroken v ⌝ }
 {
     let offsets = v.offsets;
-    if is_absent(offsets.value) & !has_range(offsets) {
+    if none_present(offsets) {
         return false;
     }
     words_break(Sort::Offsets, offsets)
@@ -152,37 +185,43 @@ fn values_break(v: ObjectValues) -> bool
 }
 
 // An object without a pack: it has children and no tracks, and each child is an object with a pack of kind 3.
-fn children_break(s: &[u8], at: usize, o: u16) -> bool
-    requires { ⌜ (at ≡ start (sheetOf (now s)) objects o) × (at < 2199023255552) ⌝ }
+fn children_break(s: &[u8], at: u32, o: u16) -> bool
+    requires { ⌜ at ≡ start (sheetOf (now s)) objects o ⌝ }
     ensures { λ r. ⌜ r ≡ childrenBroken (sheetOf (now (s .entry))) o ⌝ }
 {
-    let n = word(s, at + 4);
+    let n = number_at(s, at, CHILD_LIST);
     (n == 0)
-        | (word(s, at + 2) != 0)
+        | (number_at(s, at, TRACK_LIST) != 0)
         | any_bad_child(
             s,
             offset(s, REFERENCES),
-            word(s, at + 3),
+            word_at(s, at, CHILD_LIST),
             n,
             count(s, OBJECTS),
         )
 }
 
 // An object with a pack: it has no children, and its tracks are the pack's channels in their order.
-fn tracks_break(s: &[u8], at: usize, o: u16, pack: u16) -> bool
-    requires { ⌜ (at ≡ start (sheetOf (now s)) objects o) × (at < 2199023255552) ⌝ }
+fn tracks_break(s: &[u8], at: u32, o: u16, pack: u16) -> bool
+    requires { ⌜ at ≡ start (sheetOf (now s)) objects o ⌝ }
     ensures { λ r. ⌜ r ≡ tracksBroken (sheetOf (now (s .entry))) o pack ⌝ }
 {
-    let n = word(s, at + 2);
-    (0 < word(s, at + 4))
+    let n = number_at(s, at, TRACK_LIST);
+    (0 < number_at(s, at, CHILD_LIST))
         | (count(s, PACKS) <= pack)
         | (n != field(s, PACKS, pack, PACK_CHANNELS))
-        | any_out_of_order(s, offset(s, REFERENCES), word(s, at + 1), n, pack)
+        | any_out_of_order(
+            s,
+            offset(s, REFERENCES),
+            word_at(s, at, TRACK_LIST),
+            n,
+            pack,
+        )
 }
 
 // Whether an object may break rule 13 or 14, or rule 5 by its pack, a track or a child.
-fn source_breaks(s: &[u8], at: usize, o: u16, pack: u16) -> bool
-    requires { ⌜ (at ≡ start (sheetOf (now s)) objects o) × (at < 2199023255552) × (pack ≡ packOf (sheetOf (now s)) o) ⌝ }
+fn source_breaks(s: &[u8], at: u32, o: u16, pack: u16) -> bool
+    requires { ⌜ (at ≡ start (sheetOf (now s)) objects o) × (pack ≡ packOf (sheetOf (now s)) o) ⌝ }
     ensures { λ r. ⌜ (r ≡ false → sourceKept (sheetOf (now (s .entry))) o) ⌝ }
 {
     if pack == NO_PACK {
@@ -215,19 +254,15 @@ fn named_once(named: &[u16], o: u16) -> bool
 
 // Whether an object has no complements, no sets, interact 0 and no gain, offset or range, as most children and backgrounds: it keeps
 // rules 15 to 20.
-fn is_plain(s: &[u8], at: usize, o: u16) -> bool
-    requires { ⌜ (at ≡ start (sheetOf (now s)) objects o) × (at < 2199023255552) ⌝ }
+fn is_plain(s: &[u8], at: u32, o: u16) -> bool
+    requires { ⌜ at ≡ start (sheetOf (now s)) objects o ⌝ }
     ensures { λ r. ⌜ r ≡ isPlain (sheetOf (now (s .entry))) o ⌝ }
 {
-    (word(s, at + 6) == 0)
-        & (word(s, at + 15) == 0)
-        & (word(s, at + 7) == 0)
-        & is_absent(word(s, at + 8))
-        & is_absent(word(s, at + 9))
-        & is_absent(word(s, at + 10))
-        & is_absent(word(s, at + 11))
-        & is_absent(word(s, at + 12))
-        & is_absent(word(s, at + 13))
+    (number_at(s, at, COMPLEMENT_LIST) == 0)
+        & (number_at(s, at, SET_SPAN) == 0)
+        & (word_at(s, at, INTERACT) == 0)
+        & none_present(gains_at(s, at))
+        & none_present(offsets_at(s, at))
 }
 
 // Whether an object that is not plain may break rule 6, one of 15 to 20, or rule 5 by a complement; or a set of its one.
@@ -235,26 +270,31 @@ fn values_or_complements_break(
     s: &[u8],
     tops: &[u16],
     complements: &[u16],
-    at: usize,
+    at: u32,
     o: u16,
     pack: u16,
 ) -> bool
-    requires { ⌜ (at ≡ start (sheetOf (now s)) objects o) × (at < 2199023255552) × (pack ≡ packOf (sheetOf (now s)) o) ⌝ }
+    requires { ⌜ (at ≡ start (sheetOf (now s)) objects o) × (pack ≡ packOf (sheetOf (now s)) o) ⌝ }
     ensures { λ r. ⌜ (r ≡ false → Tops (sheetOf (now (s .entry))) (now (tops .entry)) → Complemented (sheetOf (now (s .entry))) (now (complements .entry)) → restKept (sheetOf (now (s .entry))) o) ⌝ }
 {
     let values = object_values(s, at, o, pack);
     values_break(values)
-        | any_set_breaks(s, word(s, at + 14), word(s, at + 15), values)
+        | any_set_breaks(
+            s,
+            word_at(s, at, SET_SPAN),
+            number_at(s, at, SET_SPAN),
+            values,
+        )
         | complements_break(s, tops, complements, o)
         | child_breaks(s, tops, o)
 }
 
-// Whether an object, or a set of its, may break a rule. The first test spares one for each word.
+// Whether an object, or a set of its, may break a rule.
 pub fn object_breaks(s: &[u8], named: &[u16], tops: &[u16], complements: &[u16], o: u16) -> bool
     ensures { λ r. ⌜ (r ≡ false → Named (sheetOf (now (s .entry))) (now (named .entry)) → Tops (sheetOf (now (s .entry))) (now (tops .entry)) → Complemented (sheetOf (now (s .entry))) (now (complements .entry)) → objectBroken (sheetOf (now (s .entry))) o ≡ false) ⌝ }
 {
-    let at = start(s, OBJECTS, o as u32);
-    if word_count(s) < at + 16 {
+    let at = record_at(s, OBJECTS, o);
+    if ends_before(s, OBJECTS, at) {
         return true;
     }
     let pack = pack_of(s, o);

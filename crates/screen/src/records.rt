@@ -2,6 +2,9 @@
 use crate::objects::object_breaks;
 use crate::speech::content_breaks;
 use crate::speech::programme_breaks;
+use crate::words::ends_before;
+use crate::words::record_at;
+use crate::words::word_at;
 use profile::limits::CHANNELS_LIMIT;
 use profile::limits::exceeds;
 use relations::objects::lacks;
@@ -11,16 +14,16 @@ use rules::header::rule3;
 use rules::limits::rule7;
 use sheet::fields::CONTENTS;
 use sheet::fields::OBJECTS;
+use sheet::fields::PACK_CHANNELS;
+use sheet::fields::PACK_FRONT;
+use sheet::fields::PACK_KIND;
 use sheet::fields::PACKS;
 use sheet::fields::PROGRAMMES;
 use sheet::fields::TRACK_PACK;
 use sheet::fields::TRACKS;
 use sheet::layout::count;
 use sheet::layout::field;
-use sheet::layout::start;
-use sheet::words::word;
-use sheet::words::word_count;
-ghost use Prim.Native.Nat.{_<_};
+ghost use Prim.Native.Nat.{ℕ, _<_};
 ghost use lib.Dec.{eqb};
 ghost use lib.ListN.{getD, length};
 ghost use mathlib.Core.Bool.{false, true, _||_};
@@ -111,17 +114,17 @@ fn objects_keep(s: &[u8], named: &[u16], tops: &[u16], complements: &[u16]) -> b
     true
 }
 
-// Whether a pack may break rule 6 or 10. The first test spares one for each word.
+// Whether a pack may break rule 6 or 10.
 fn pack_breaks(s: &[u8], k: u16) -> bool
     ensures { λ r. ⌜ (r ≡ false → (badPack (sheetOf (now (s .entry))) k || rule10 (sheetOf (now (s .entry))) packs k) ≡ false) ⌝ }
 {
-    let at = start(s, PACKS, k as u32);
-    if word_count(s) < at + 3 {
+    let at = record_at(s, PACKS, k);
+    if ends_before(s, PACKS, at) {
         return true;
     }
-    let kind = word(s, at);
-    let channels = word(s, at + 1);
-    let front = word(s, at + 2);
+    let kind = word_at(s, at, PACK_KIND);
+    let channels = word_at(s, at, PACK_CHANNELS);
+    let front = word_at(s, at, PACK_FRONT);
     if kind == 3 {
         return (1 < front) | (channels != 1);
     }

@@ -22,12 +22,13 @@ use tables::passes::count_lists;
 use tables::passes::count_tops;
 use tables::reads::all_once;
 ghost use Prim.Native.Nat.{_≤_};
-ghost use mathlib.Core.Bool.{true};
+ghost use mathlib.Core.Bool.{false, true};
 ghost use mathlib.Core.Path.{_≡_};
 ghost use Rattle.profile.specs.Verdict.{verdict};
 ghost use Rattle.profile.specs.declared.Verdict.the-variants.{Accepted};
-ghost use Rattle.screen.specs.steps.Screened.{Noughts};
+ghost use Rattle.screen.specs.steps.Screened.{Filled, Noughts, RecordsAndTotalsKept, RecordsTabled, headerBroken};
 ghost use Rattle.sheet.specs.Words.{sheetOf};
+ghost use Rattle.tables.specs.steps.Right.{Spanned};
 
 // How many entries the lists and the span of a record have.
 fn entries(s: &[u8], section: u8, k: u16) -> u32
@@ -68,8 +69,58 @@ fn few_entries(s: &[u8], section: u8) -> bool {
     true
 }
 
-// With tables of noughts for what names each object and content, and for the sets' objects. Those of the first rules serve the programmes
-// as well, once the records are tested.
+// Whether the header and the sections keep rules 1, 2, 3 and 7, and the lists have few entries.
+fn header_passes(s: &[u8]) -> bool
+    ensures { λ r. ⌜ (r ≡ true → headerBroken (sheetOf (now (s .entry))) ≡ false) ⌝ }
+{
+    if s.len() < 32 {
+        return false;
+    }
+    if header_breaks(s) {
+        return false;
+    }
+    few_entries(s, PROGRAMMES) & few_entries(s, CONTENTS) & few_entries(s, OBJECTS)
+}
+
+// Fills tables of noughts: how often each object and content is named, in how many spans each value set is, and whose it is.
+fn fill_tables(
+    s: &[u8],
+    named: &mut [u16],
+    spanned: &mut [u16],
+    listed: &mut [u16],
+    tops: &mut [u16],
+    complements: &mut [u16],
+    owners: &mut [u16],
+)
+    requires { ⌜ Noughts (now named) (now spanned) (now listed) (now tops) (now complements) (now owners) ⌝ }
+    ensures { λ r. ⌜ Filled (sheetOf (now (s .entry))) (now (named .entry)) (now (spanned .entry)) (now (listed .entry)) (now (tops .entry)) (now (complements .entry)) (now (owners .entry)) (now (named .exit)) (now (spanned .exit)) (now (listed .exit)) (now (tops .exit)) (now (complements .exit)) (now (owners .exit)) ⌝ }
+{
+    count_tops(s, tops, named);
+    count_lists(s, named, complements, spanned, owners);
+    count_contents(s, listed);
+}
+
+// Whether the records keep rules 4 to 20, each value set is in one span, and the sheet keeps rules 23 and 24.
+fn records_and_totals_pass(
+    s: &[u8],
+    named: &[u16],
+    spanned: &[u16],
+    listed: &[u16],
+    tops: &[u16],
+    complements: &[u16],
+) -> bool
+    ensures { λ r. ⌜ (r ≡ true → RecordsTabled (sheetOf (now (s .entry))) (now (named .entry)) (now (listed .entry)) (now (tops .entry)) (now (complements .entry)) → Spanned (sheetOf (now (s .entry))) (now (spanned .entry)) → RecordsAndTotalsKept (sheetOf (now (s .entry)))) ⌝ }
+{
+    if !records_pass(s, named, listed, tops, complements) {
+        return false;
+    }
+    if !all_once(spanned, count(s, VALUE_SETS)) {
+        return false;
+    }
+    !totals_break(s, tops, complements)
+}
+
+// With tables of noughts. Those of the objects serve the programmes as well, once the records are tested.
 fn screened(
     s: &[u8],
     named: &mut [u16],
@@ -79,27 +130,14 @@ fn screened(
     complements: &mut [u16],
     owners: &mut [u16],
 ) -> bool
-    ensures { λ r. ⌜ (r ≡ true → Noughts (now (named .entry)) (now (spanned .entry)) (now (listed .entry)) (now (tops .entry)) (now (complements .entry)) (now (owners .entry)) → verdict (sheetOf (now (s .entry))) ≡ Accepted) ⌝ }
+    requires { ⌜ Noughts (now named) (now spanned) (now listed) (now tops) (now complements) (now owners) ⌝ }
+    ensures { λ r. ⌜ (r ≡ true → verdict (sheetOf (now (s .entry))) ≡ Accepted) ⌝ }
 {
-    if s.len() < 32 {
+    if !header_passes(s) {
         return false;
     }
-    if header_breaks(s) {
-        return false;
-    }
-    if !(few_entries(s, PROGRAMMES) & few_entries(s, CONTENTS) & few_entries(s, OBJECTS)) {
-        return false;
-    }
-    count_tops(s, tops, named);
-    count_lists(s, named, complements, spanned, owners);
-    count_contents(s, listed);
-    if !records_pass(s, named, listed, tops, complements) {
-        return false;
-    }
-    if !all_once(spanned, count(s, VALUE_SETS)) {
-        return false;
-    }
-    if totals_break(s, tops, complements) {
+    fill_tables(s, named, spanned, listed, tops, complements, owners);
+    if !records_and_totals_pass(s, named, spanned, listed, tops, complements) {
         return false;
     }
     programmes_pass(s, owners, named, tops, complements)
@@ -168,12 +206,12 @@ fn large_passes(s: &[u8]) -> bool
     )
 }
 
-// Whether the sheet can be seen to be accepted, with the tables of a size: 1 for one under 16,384 bytes, 2 for any. With another number
-// it is not screened.
-pub fn passes(s: &[u8], size: u8) -> bool
+// Whether the sheet can be seen to be accepted, with these tables: 1 for a sheet under 16,384 bytes, 2 for any. With another number it is
+// not screened.
+pub fn passes(s: &[u8], tables: u8) -> bool
     ensures { λ r. ⌜ (r ≡ true → verdict (sheetOf (now (s .entry))) ≡ Accepted) ⌝ }
 {
-    match size {
+    match tables {
         1 => middling_passes(s),
         2 => large_passes(s),
         _ => false,

@@ -1,32 +1,39 @@
 // The value sets of an object.
 use crate::ObjectValues;
 use crate::Values;
+use crate::words::ends_before;
+use crate::words::record_after;
+use crate::words::word_at;
 use rules::ranges::leaves;
 use rules::words::bad_words;
+use sheet::fields::SET_GAIN;
+use sheet::fields::SET_GAIN_MAXIMUM;
+use sheet::fields::SET_GAIN_MINIMUM;
+use sheet::fields::SET_OFFSET;
+use sheet::fields::SET_OFFSET_MAXIMUM;
+use sheet::fields::SET_OFFSET_MINIMUM;
+use sheet::fields::SET_OWN;
 use sheet::fields::VALUE_SETS;
-use sheet::layout::start;
-use sheet::words::word;
-use sheet::words::word_count;
 use values::Sort;
 use values::values::is_absent;
 use values::values::or_else;
-ghost use Prim.Native.Nat.{_+_, _<_};
+ghost use Prim.Native.Nat.{_+_};
 ghost use mathlib.Core.Bool.{cond, false};
 ghost use mathlib.Core.Path.{_≡_};
 ghost use Rattle.profile.specs.Counting.{any};
-ghost use Rattle.screen.specs.steps.Values.{gainBroken, hasRange, setBroken, setWordsBroken, valueLeaves, valuesAt, wordsBroken};
+ghost use Rattle.screen.specs.steps.Values.{gainBroken, hasRange, nonePresent, setBroken, setWordsBroken, valueLeaves, valuesAt, wordsBroken};
 ghost use Rattle.sheet.specs.Fields.{valueSets};
 ghost use Rattle.sheet.specs.Layout.{start};
 ghost use Rattle.sheet.specs.Words.{sheetOf};
 
-// Three words from an index on.
-pub fn values_at(s: &[u8], value: usize, minimum: usize, maximum: usize) -> Values
-    ensures { λ r. ⌜ r ≡ valuesAt (sheetOf (now (s .entry))) value minimum maximum ⌝ }
+// A value with its range, at three positions of a record.
+pub fn values_at(s: &[u8], at: u32, value: u8, minimum: u8, maximum: u8) -> Values
+    ensures { λ r. ⌜ r ≡ valuesAt (sheetOf (now (s .entry))) (at + value) (at + minimum) (at + maximum) ⌝ }
 {
     Values {
-        value: word(s, value),
-        minimum: word(s, minimum),
-        maximum: word(s, maximum),
+        value: word_at(s, at, value),
+        minimum: word_at(s, at, minimum),
+        maximum: word_at(s, at, maximum),
     }
 }
 
@@ -35,6 +42,13 @@ pub fn has_range(v: Values) -> bool
     ensures { λ r. ⌜ r ≡ hasRange v ⌝ }
 {
     !is_absent(v.minimum) | !is_absent(v.maximum)
+}
+
+// Whether neither a value nor a range is present.
+pub fn none_present(v: Values) -> bool
+    ensures { λ r. ⌜ r ≡ nonePresent v ⌝ }
+{
+    is_absent(v.value) & !has_range(v)
 }
 
 // Words outside their values, or half a pair.
@@ -94,18 +108,17 @@ fn words_of_set_break(own: u16, gains: Values, offsets: Values, v: ObjectValues)
 }
 
 // Whether the set whose words begin at an index may break rule 6, 16, 17 or 18 as a set of an object with these values. Most sets have
-// no more than a gain. The first test spares one for each word.
-fn set_breaks(s: &[u8], at: usize, v: ObjectValues) -> bool
-    requires { ⌜ at < 2199023255552 ⌝ }
+// no more than a gain.
+fn set_breaks(s: &[u8], at: u32, v: ObjectValues) -> bool
     ensures { λ r. ⌜ (r ≡ false → setBroken (sheetOf (now (s .entry))) v at ≡ false) ⌝ }
 {
-    if word_count(s) < at + 7 {
+    if ends_before(s, VALUE_SETS, at) {
         return true;
     }
-    let own = word(s, at + 1);
-    let gains = values_at(s, at, at + 2, at + 3);
-    let offsets = values_at(s, at + 4, at + 5, at + 6);
-    if (own == 0) & !has_range(gains) & !has_range(offsets) & is_absent(offsets.value) {
+    let own = word_at(s, at, SET_OWN);
+    let gains = values_at(s, at, SET_GAIN, SET_GAIN_MINIMUM, SET_GAIN_MAXIMUM);
+    let offsets = values_at(s, at, SET_OFFSET, SET_OFFSET_MINIMUM, SET_OFFSET_MAXIMUM);
+    if (own == 0) & !has_range(gains) & none_present(offsets) {
         return gain_breaks(gains, v);
     }
     words_of_set_break(own, gains, offsets, v)
@@ -118,7 +131,7 @@ pub fn any_set_breaks(s: &[u8], first: u16, n: u16, v: ObjectValues) -> bool
     let mut found = false;
     let mut i: u16 = 0;
     while i < n {
-        found = found | set_breaks(s, start(s, VALUE_SETS, first as u32 + i as u32), v);
+        found = found | set_breaks(s, record_after(s, VALUE_SETS, first, i), v);
         i += 1;
     }
     found

@@ -4,20 +4,30 @@ use crate::lists::any_no_language;
 use crate::lists::any_twice;
 use crate::lists::beyond;
 use crate::lists::labels_rise;
+use crate::words::ends_before;
+use crate::words::number_at;
+use crate::words::record_at;
+use crate::words::word_at;
 use profile::limits::LABELS_LIMIT;
 use profile::limits::PROGRAMME_CONTENTS_LIMIT;
 use profile::limits::PROGRAMME_SETS_LIMIT;
 use profile::limits::exceeds;
+use sheet::fields::CONTENT_LABELS;
+use sheet::fields::CONTENT_LANGUAGE;
+use sheet::fields::CONTENT_LIST;
+use sheet::fields::CONTENT_LOUDNESS;
+use sheet::fields::CONTENT_OBJECT;
 use sheet::fields::CONTENTS;
 use sheet::fields::OBJECTS;
+use sheet::fields::PROGRAMME_LABELS;
+use sheet::fields::PROGRAMME_LANGUAGE;
+use sheet::fields::PROGRAMME_LOUDNESS;
 use sheet::fields::PROGRAMMES;
 use sheet::fields::REFERENCES;
+use sheet::fields::SET_LIST;
 use sheet::fields::VALUE_SETS;
 use sheet::layout::count;
 use sheet::layout::offset;
-use sheet::layout::start;
-use sheet::words::word;
-use sheet::words::word_count;
 use values::language::language;
 use values::language::loudness;
 ghost use mathlib.Core.Bool.{false};
@@ -55,21 +65,24 @@ fn labelled_breaks(s: &[u8], lang: u16, first: u16, n: u16, loud: u16) -> bool
 pub fn content_breaks(s: &[u8], k: u16) -> bool
     ensures { λ r. ⌜ (r ≡ false → contentBroken (sheetOf (now (s .entry))) k ≡ false) ⌝ }
 {
-    let at = start(s, CONTENTS, k as u32);
-    if word_count(s) < at + 5 {
+    let at = record_at(s, CONTENTS, k);
+    if ends_before(s, CONTENTS, at) {
         return true;
     }
-    let n = word(s, at + 3);
+    let n = number_at(s, at, CONTENT_LABELS);
     if LONGEST < n {
         return true;
     }
-    if count(s, OBJECTS) <= word(s, at + 1) {
+    if count(s, OBJECTS) <= word_at(s, at, CONTENT_OBJECT) {
         return true;
     }
+    let lang = word_at(s, at, CONTENT_LANGUAGE);
+    let first = word_at(s, at, CONTENT_LABELS);
+    let loud = word_at(s, at, CONTENT_LOUDNESS);
     if n == 0 {
-        return unlabelled_breaks(s, word(s, at), word(s, at + 2), word(s, at + 4));
+        return unlabelled_breaks(s, lang, first, loud);
     }
-    labelled_breaks(s, word(s, at), word(s, at + 2), n, word(s, at + 4))
+    labelled_breaks(s, lang, first, n, loud)
 }
 
 // The content list and the set list of a programme.
@@ -90,20 +103,26 @@ fn programme_lists_break(s: &[u8], first: u16, n: u16, from: u16, sets: u16) -> 
 pub fn programme_breaks(s: &[u8], k: u16) -> bool
     ensures { λ r. ⌜ (r ≡ false → programmeBroken (sheetOf (now (s .entry))) k ≡ false) ⌝ }
 {
-    let at = start(s, PROGRAMMES, k as u32);
-    if word_count(s) < at + 8 {
+    let at = record_at(s, PROGRAMMES, k);
+    if ends_before(s, PROGRAMMES, at) {
         return true;
     }
-    let n = word(s, at + 6);
+    let n = number_at(s, at, PROGRAMME_LABELS);
     if LONGEST < n {
         return true;
     }
-    labelled_breaks(s, word(s, at), word(s, at + 5), n, word(s, at + 7))
+    labelled_breaks(
+        s,
+        word_at(s, at, PROGRAMME_LANGUAGE),
+        word_at(s, at, PROGRAMME_LABELS),
+        n,
+        word_at(s, at, PROGRAMME_LOUDNESS),
+    )
         | programme_lists_break(
             s,
-            word(s, at + 1),
-            word(s, at + 2),
-            word(s, at + 3),
-            word(s, at + 4),
+            word_at(s, at, CONTENT_LIST),
+            number_at(s, at, CONTENT_LIST),
+            word_at(s, at, SET_LIST),
+            number_at(s, at, SET_LIST),
         )
 }

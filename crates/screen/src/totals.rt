@@ -12,12 +12,14 @@ use sheet::layout::count;
 use sheet::layout::level;
 use tables::reads::complement_by;
 use tables::reads::top_by;
-ghost use Prim.Native.Nat.{_*_, _+_, _≤_};
-ghost use mathlib.Core.Bool.{cond, false, not, _&&_};
+ghost use Prim.Native.Nat.{suc};
+ghost use mathlib.Core.Bool.{false, not, _&&_};
 ghost use mathlib.Core.Path.{_≡_};
-ghost use Rattle.profile.specs.Relations.{complement, countedTracks, groups, leader, lone, share, top};
+ghost use Rattle.profile.specs.Relations.{complement, top};
 ghost use Rattle.profile.specs.Rules.{rule23, rule24};
-ghost use Rattle.relations.specs.steps.Sizes.{loneObjects};
+ghost use Rattle.screen.specs.steps.Totals.{TotalsTo, TotalsWithin};
+ghost use Rattle.sheet.specs.Fields.{objects};
+ghost use Rattle.sheet.specs.Layout.{count};
 ghost use Rattle.sheet.specs.Words.{sheetOf};
 ghost use Rattle.tables.specs.steps.Right.{Complemented, Tops};
 
@@ -30,8 +32,8 @@ fn alone(s: &[u8], tops: &[u16], complements: &[u16], o: u16) -> bool
 
 // The totals with one object more.
 fn with_object(s: &[u8], tops: &[u16], complements: &[u16], o: u16, t: SheetTotals) -> SheetTotals
-    requires { ⌜ (t .groups ≤ 65535) × (t .lone ≤ 65535) × (t .tracks ≤ 4294967295 * 65535) ⌝ }
-    ensures { λ r. ⌜ (r .groups ≤ t .groups + 1) × (r .lone ≤ t .lone + 1) × (r .tracks ≤ t .tracks + 4294967295) × (Tops (sheetOf (now (s .entry))) (now (tops .entry)) → Complemented (sheetOf (now (s .entry))) (now (complements .entry)) → (r .groups ≡ t .groups + cond (leader (sheetOf (now (s .entry))) o) 1 0) × (r .lone ≡ t .lone + cond (lone (sheetOf (now (s .entry))) o) 1 0) × (r .tracks ≡ t .tracks + share (sheetOf (now (s .entry))) o)) ⌝ }
+    requires { ⌜ TotalsWithin o t ⌝ }
+    ensures { λ r. ⌜ TotalsWithin (suc o) r × (Tops (sheetOf (now (s .entry))) (now (tops .entry)) → Complemented (sheetOf (now (s .entry))) (now (complements .entry)) → TotalsTo (sheetOf (now (s .entry))) o t → TotalsTo (sheetOf (now (s .entry))) (suc o) r) ⌝ }
 {
     if leader(s, o) {
         return SheetTotals {
@@ -52,7 +54,7 @@ fn with_object(s: &[u8], tops: &[u16], complements: &[u16], o: u16, t: SheetTota
 
 // The totals of all objects.
 fn totals(s: &[u8], tops: &[u16], complements: &[u16]) -> SheetTotals
-    ensures { λ r. ⌜ (Tops (sheetOf (now (s .entry))) (now (tops .entry)) → Complemented (sheetOf (now (s .entry))) (now (complements .entry)) → (r .groups ≡ groups (sheetOf (now (s .entry)))) × (r .lone ≡ loneObjects (sheetOf (now (s .entry)))) × (r .tracks ≡ countedTracks (sheetOf (now (s .entry))))) ⌝ }
+    ensures { λ r. ⌜ (Tops (sheetOf (now (s .entry))) (now (tops .entry)) → Complemented (sheetOf (now (s .entry))) (now (complements .entry)) → TotalsTo (sheetOf (now (s .entry))) (count (sheetOf (now (s .entry))) objects) r) ⌝ }
 {
     let n = count(s, OBJECTS);
     let mut t = SheetTotals {

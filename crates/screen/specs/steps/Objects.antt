@@ -3,17 +3,18 @@ use Prim.Native.Nat.{ℕ, _+_}
 use mathlib.Core.Bool.{Bool, false, not, _&&_, _||_}
 use mathlib.Core.Path.{_≡_}
 use lib.Dec.{eqb, leb, ltb}
-use Rattle.sheet.specs.Words.{Sheet, word}
+use Rattle.sheet.specs.Words.{Sheet}
 use Rattle.sheet.specs.Layout.{count, offset, start, field, first, number}
-use Rattle.sheet.specs.Fields.{objects, packs, tracks, references, valueSets, trackList, childList, complementList, interact, setSpan, noPack, packKind, packChannels, packFront}
+use Rattle.sheet.specs.Fields.{objects, packs, tracks, references, valueSets, trackList, childList, complementList, interact, objectGain, objectGainMinimum, objectGainMaximum, objectOffset, objectOffsetMinimum, objectOffsetMaximum, setSpan, noPack, packKind, packChannels, packFront}
 use Rattle.values.specs.declared.Sort.the-variants.{Gains, Offsets}
 use Rattle.values.specs.Values.{isAbsent, orElse}
 use Rattle.profile.specs.Counting.{any}
 use Rattle.profile.specs.Limits.{exceeds, childrenLimit, complementsLimit, spanLimit}
-use Rattle.profile.specs.Relations.{hasPack, packOf, hasFrontPack, objectValue, objectMinimum, objectMaximum}
+use Rattle.profile.specs.Relations.{hasPack, packOf, hasFrontPack}
 use Rattle.profile.specs.Rules.{lacks, listLacks, leaves, badObject, badComplement, differs, rule4, rule5, rule8, rule11, rule13, rule14, rule15, rule16, rule17, rule18, rule19, rule20}
 use Rattle.screen.specs.steps.Entries.{badChildAt, outOfOrderAt}
-use Rattle.screen.specs.steps.Values.{valuesAt, hasRange, wordsBroken, setBroken}
+use Rattle.screen.specs.steps.Values.{valuesAt, hasRange, nonePresent, wordsBroken, setBroken}
+use Rattle.screen.specs.declared.Values.{Values}
 use Rattle.screen.specs.declared.ObjectValues.{ObjectValues}
 
 -- lists and a span that break rule 4 or 8
@@ -31,14 +32,21 @@ objectListsBroken s o =
 unfoldable pub isFront : Sheet → ℕ → Bool
 isFront s pack = not (eqb pack noPack) && eqb (field s packs pack packKind) 3 && eqb (field s packs pack packFront) 1
 
+-- the gain and the offset of an object whose words begin at an index, with their ranges
+abbrev pub objectGains : Sheet → ℕ → Values
+objectGains s at = valuesAt s (at + objectGain) (at + objectGainMinimum) (at + objectGainMaximum)
+
+abbrev pub objectOffsets : Sheet → ℕ → Values
+objectOffsets s at = valuesAt s (at + objectOffset) (at + objectOffsetMinimum) (at + objectOffsetMaximum)
+
 -- the values of an object
 unfoldable pub objectValues : Sheet → ℕ → ObjectValues
 objectValues s o =
     record {
-      interact = word s (start s objects o + 7);
+      interact = field s objects o interact;
       front = hasFrontPack s o;
-      gains = valuesAt s (start s objects o + 8) (start s objects o + 9) (start s objects o + 10);
-      offsets = valuesAt s (start s objects o + 11) (start s objects o + 12) (start s objects o + 13);
+      gains = objectGains s (start s objects o);
+      offsets = objectOffsets s (start s objects o);
     }
 
 -- a gain with its range that breaks rule 6, 16 or 18
@@ -102,12 +110,8 @@ isPlain s o =
     eqb (number s objects o complementList) 0
     && eqb (number s objects o setSpan) 0
     && eqb (field s objects o interact) 0
-    && isAbsent (field s objects o (objectValue Gains))
-    && isAbsent (field s objects o (objectMinimum Gains))
-    && isAbsent (field s objects o (objectMaximum Gains))
-    && isAbsent (field s objects o (objectValue Offsets))
-    && isAbsent (field s objects o (objectMinimum Offsets))
-    && isAbsent (field s objects o (objectMaximum Offsets))
+    && nonePresent (objectGains s (start s objects o))
+    && nonePresent (objectOffsets s (start s objects o))
 
 -- an object that keeps rules 6 and 15 to 20, with its sets, and rule 5 by its complements
 abbrev pub restKept : Sheet → ℕ → Type 0

@@ -19,6 +19,10 @@ valuesAt s value minimum maximum = record { value = word s value; minimum = word
 unfoldable pub hasRange : Values → Bool
 hasRange v = not (isAbsent (v .minimum)) || not (isAbsent (v .maximum))
 
+-- neither a value nor a range is present
+unfoldable pub nonePresent : Values → Bool
+nonePresent v = isAbsent (v .value) && not (hasRange v)
+
 -- a set's value leaves its effective range, or where it is the set's own, the object's range
 unfoldable pub valueLeaves : Sort → Bool → Values → Values → Bool
 valueLeaves t own set object =

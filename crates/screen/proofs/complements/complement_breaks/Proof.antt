@@ -1,7 +1,6 @@
 -- Each part is its callee's. Assumes nothing.
-use Rattle.sheet.specs.Words.{sheetOf}
-use Rattle.screen.specs.steps.Objects.{complementBroken}
 use Rattle.profile.specs.Rules.{differs}
+use Rattle.screen.specs.steps.Objects.{complementBroken}
 use borrow.Author.Needs.{needs}
 use Rattle.screen.proofs.complements.complement_breaks.Statement.{statement}
 use Rattle.screen.proofs.complements.complement_breaks.Tie as tie
@@ -12,11 +11,11 @@ lacks-requires c κs = search needs
 bad-complement-requires : tie.Need-bad-complement-requires
 bad-complement-requires c κs = search needs
 
-start-requires : tie.Need-start-requires
-start-requires c κs = search needs
+record-at-requires : tie.Need-record-at-requires
+record-at-requires c κs = search needs
 
 words-differ-requires : tie.Need-words-differ-requires
-words-differ-requires c κs = (c .before .before .before .before .before .before .pre .0, c .before .before .before .before .before .before .pre .1, c .start .ensures .0, c .start .ensures .1)
+words-differ-requires c κs = search needs
 
 kind-requires : tie.Need-kind-requires
 kind-requires c κs = search needs
@@ -34,7 +33,7 @@ complement-breaks-spec =
     (tie.spec
     lacks-requires
     bad-complement-requires
-    start-requires
+    record-at-requires
     words-differ-requires
     kind-requires
     kind-requires-2

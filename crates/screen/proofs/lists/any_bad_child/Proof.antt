@@ -3,10 +3,10 @@ use Prim.Native.Nat.{_-_, _≤_}
 use mathlib.Core.Path.{_≡_, refl, ap, _∙_}
 use native.Mathlib.Omega.{arith}
 use native.Mathlib.Numerals.{add-one}
-use Rattle.profile.specs.Counting.{any, twoOf}
+use Rattle.profile.specs.Counting.{any}
 use Rattle.sheet.specs.Words.{sheetOf}
 use borrow.Author.Needs.{needs}
-use Rattle.screen.specs.steps.Entries.{badChildAt, listed}
+use Rattle.screen.specs.steps.Entries.{badChildAt}
 use Rattle.screen.proofs.lists.any_bad_child.Statement.{statement}
 use Rattle.screen.proofs.lists.any_bad_child.Tie as tie
 
@@ -20,8 +20,8 @@ loop-holds : tie.Need-loop-holds Inv-loop μ-loop
 unfolding any
 loop-holds c = (search needs, refl)
 
-listed-requires : tie.Need-listed-requires Inv-loop μ-loop
-listed-requires c κs = search needs
+entry-at-requires : tie.Need-entry-at-requires Inv-loop μ-loop
+entry-at-requires c κs = search needs
 
 has-objects-pack-requires : tie.Need-has-objects-pack-requires Inv-loop μ-loop
 has-objects-pack-requires c κs = search needs
@@ -34,7 +34,7 @@ loop-less c = search needs
 
 loop-again : tie.Need-loop-again Inv-loop μ-loop
 unfolding any badChildAt
-loop-again c = (search needs, rw (add-one, c .has-objects-pack .ensures, c .before .listed .ensures, c .before .before .before .loop .inv .1))
+loop-again c = (search needs, rw (add-one, c .has-objects-pack .ensures, c .before .entry-at .ensures, c .before .before .before .loop .inv .1))
 
 returns : tie.Need-returns Inv-loop μ-loop
 returns c = let e : c .before .loop .i ≡ c .before .before .before .args .n = omega arith in c .before .loop .inv .1 ∙ ap (any _) e
@@ -46,7 +46,7 @@ any-bad-child-spec =
     Inv-loop
     μ-loop
     loop-holds
-    listed-requires
+    entry-at-requires
     has-objects-pack-requires
     add-i
     loop-less

@@ -3,10 +3,10 @@ use Prim.Native.Nat.{_-_, _≤_}
 use mathlib.Core.Path.{_≡_, refl, ap, _∙_}
 use native.Mathlib.Omega.{arith}
 use native.Mathlib.Numerals.{add-one}
-use Rattle.profile.specs.Counting.{any, twoOf}
+use Rattle.profile.specs.Counting.{any}
 use Rattle.sheet.specs.Words.{sheetOf}
 use borrow.Author.Needs.{needs}
-use Rattle.screen.specs.steps.Entries.{lackingAt, listed}
+use Rattle.screen.specs.steps.Entries.{lackingAt}
 use Rattle.screen.proofs.lists.any_lacking.Statement.{statement}
 use Rattle.screen.proofs.lists.any_lacking.Tie as tie
 
@@ -20,8 +20,8 @@ loop-holds : tie.Need-loop-holds Inv-loop μ-loop
 unfolding any
 loop-holds c = (search needs, refl)
 
-listed-requires : tie.Need-listed-requires Inv-loop μ-loop
-listed-requires c κs = search needs
+entry-at-requires : tie.Need-entry-at-requires Inv-loop μ-loop
+entry-at-requires c κs = search needs
 
 add-i : tie.Need-add-i Inv-loop μ-loop
 add-i c = search needs
@@ -31,7 +31,7 @@ loop-less c = search needs
 
 loop-again : tie.Need-loop-again Inv-loop μ-loop
 unfolding any lackingAt
-loop-again c = (search needs, rw (add-one, c .listed .ensures, c .before .before .loop .inv .1))
+loop-again c = (search needs, rw (add-one, c .entry-at .ensures, c .before .before .loop .inv .1))
 
 returns : tie.Need-returns Inv-loop μ-loop
 returns c = let e : c .before .loop .i ≡ c .before .before .before .args .n = omega arith in c .before .loop .inv .1 ∙ ap (any _) e
@@ -39,4 +39,4 @@ returns c = let e : c .before .loop .i ≡ c .before .before .before .args .n = 
 pub any-lacking-spec : {M : Type 1} → statement M
 any-lacking-spec =
     tie.close
-    (tie.spec Inv-loop μ-loop loop-holds listed-requires add-i loop-less loop-again returns)
+    (tie.spec Inv-loop μ-loop loop-holds entry-at-requires add-i loop-less loop-again returns)

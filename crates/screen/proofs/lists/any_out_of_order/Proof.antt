@@ -3,10 +3,10 @@ use Prim.Native.Nat.{_-_, _≤_}
 use mathlib.Core.Path.{_≡_, refl, ap, _∙_}
 use native.Mathlib.Omega.{arith}
 use native.Mathlib.Numerals.{add-one}
-use Rattle.profile.specs.Counting.{any, twoOf}
+use Rattle.profile.specs.Counting.{any}
 use Rattle.sheet.specs.Words.{sheetOf}
 use borrow.Author.Needs.{needs}
-use Rattle.screen.specs.steps.Entries.{outOfOrderAt, listed}
+use Rattle.screen.specs.steps.Entries.{outOfOrderAt}
 use Rattle.screen.proofs.lists.any_out_of_order.Statement.{statement}
 use Rattle.screen.proofs.lists.any_out_of_order.Tie as tie
 
@@ -23,8 +23,8 @@ loop-holds : tie.Need-loop-holds Inv-loop μ-loop
 unfolding any
 loop-holds c = (search needs, refl)
 
-listed-requires : tie.Need-listed-requires Inv-loop μ-loop
-listed-requires c κs = search needs
+entry-at-requires : tie.Need-entry-at-requires Inv-loop μ-loop
+entry-at-requires c κs = search needs
 
 field-requires : tie.Need-field-requires Inv-loop μ-loop
 field-requires c κs = search needs
@@ -40,7 +40,7 @@ loop-less c = search needs
 
 loop-again : tie.Need-loop-again Inv-loop μ-loop
 unfolding any outOfOrderAt
-loop-again c = (search needs, rw (add-one, c .field2 .ensures, c .before .field .ensures, c .before .before .before .before .before .count .ensures, c .before .before .listed .ensures, c .before .before .before .before .loop .inv .1))
+loop-again c = (search needs, rw (add-one, c .field2 .ensures, c .before .field .ensures, c .before .before .before .before .before .count .ensures, c .before .before .entry-at .ensures, c .before .before .before .before .loop .inv .1))
 
 returns : tie.Need-returns Inv-loop μ-loop
 returns c = let e : c .before .loop .i ≡ c .before .before .before .before .args .n = omega arith in c .before .loop .inv .1 ∙ ap (any _) e
@@ -53,7 +53,7 @@ any-out-of-order-spec =
     μ-loop
     count-requires
     loop-holds
-    listed-requires
+    entry-at-requires
     field-requires
     field-requires-2
     add-i

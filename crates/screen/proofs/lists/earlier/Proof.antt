@@ -3,10 +3,10 @@ use Prim.Native.Nat.{_-_, _≤_}
 use mathlib.Core.Path.{_≡_, refl, ap, _∙_}
 use native.Mathlib.Omega.{arith}
 use native.Mathlib.Numerals.{add-one}
-use Rattle.profile.specs.Counting.{any, twoOf}
+use Rattle.profile.specs.Counting.{any}
 use Rattle.sheet.specs.Words.{sheetOf}
 use borrow.Author.Needs.{needs}
-use Rattle.screen.specs.steps.Entries.{sameAt, listed}
+use Rattle.screen.specs.steps.Entries.{sameAt}
 use Rattle.screen.proofs.lists.earlier.Statement.{statement}
 use Rattle.screen.proofs.lists.earlier.Tie as tie
 
@@ -16,15 +16,15 @@ Inv-loop s base first j y found₀ i₀ found i = (i ≤ j) × (found ≡ any (�
 abbrev μ-loop : tie.MeasureT-loop
 μ-loop s base first j y found₀ i₀ found i = j - i
 
-listed-requires : tie.Need-listed-requires Inv-loop μ-loop
-listed-requires c κs = search needs
+entry-at-requires : tie.Need-entry-at-requires Inv-loop μ-loop
+entry-at-requires c κs = search needs
 
 loop-holds : tie.Need-loop-holds Inv-loop μ-loop
 unfolding any
 loop-holds c = (search needs, refl)
 
-listed-requires-2 : tie.Need-listed-requires-2 Inv-loop μ-loop
-listed-requires-2 c κs = search needs
+entry-at-requires-2 : tie.Need-entry-at-requires-2 Inv-loop μ-loop
+entry-at-requires-2 c κs = search needs
 
 add-i : tie.Need-add-i Inv-loop μ-loop
 add-i c = search needs
@@ -34,7 +34,7 @@ loop-less c = search needs
 
 loop-again : tie.Need-loop-again Inv-loop μ-loop
 unfolding any sameAt
-loop-again c = (search needs, rw (add-one, c .listed2 .ensures, c .before .before .before .listed .ensures, c .before .before .loop .inv .1))
+loop-again c = (search needs, rw (add-one, c .entry-at2 .ensures, c .before .before .before .entry-at .ensures, c .before .before .loop .inv .1))
 
 returns : tie.Need-returns Inv-loop μ-loop
 returns c = let e : c .before .loop .i ≡ c .before .before .before .before .args .j = omega arith in c .before .loop .inv .1 ∙ ap (any _) e
@@ -45,9 +45,9 @@ earlier-spec =
     (tie.spec
     Inv-loop
     μ-loop
-    listed-requires
+    entry-at-requires
     loop-holds
-    listed-requires-2
+    entry-at-requires-2
     add-i
     loop-less
     loop-again

@@ -1,7 +1,7 @@
 -- The labels passed are languages and below the last one. Assumes nothing.
-use Prim.Native.Nat.{ℕ, _+_, _-_, _<_, _≤_}
+use Prim.Native.Nat.{_-_, _<_, _≤_}
 use mathlib.Core.Path.{_≡_, refl, sym, ap, _∙_}
-use mathlib.Core.Bool.{true, false, not, true≢false, _||_}
+use mathlib.Core.Bool.{true, false, not, true≢false}
 use Rattle.sheet.specs.Words.{sheetOf}
 use borrow.Author.Needs.{needs}
 use native.Mathlib.Omega.{arith}
@@ -11,23 +11,23 @@ use borrow.Author.Tests.{leb-false}
 use Rattle.values.specs.Language.{language}
 use Rattle.profile.specs.Counting.{any, twoOf}
 use Rattle.profile.proofs.BoolLaws.{or-none}
-use Rattle.screen.specs.steps.Entries.{listed, noLanguageAt, sameAt}
+use Rattle.screen.specs.steps.Entries.{entryAt, noLanguageAt, sameAt}
 use Rattle.screen.proofs.RisingLaws.{Below, below-none, below-more, not-earlier}
 use Rattle.screen.proofs.lists.labels_rise.Statement.{statement}
 use Rattle.screen.proofs.lists.labels_rise.Tie as tie
 
 abbrev Inv-loop : tie.InvT-loop
-Inv-loop s base first n last₀ i₀ last i = (i ≤ n) × Below (listed (sheetOf s) base first) i last × (any (noLanguageAt (sheetOf s) base first) i ≡ false) × (any (λ k. any (λ h. sameAt (sheetOf s) base first h k) k) i ≡ false)
+Inv-loop s base first n last₀ i₀ last i = (i ≤ n) × Below (entryAt (sheetOf s) base first) i last × (any (noLanguageAt (sheetOf s) base first) i ≡ false) × (any (λ k. any (λ h. sameAt (sheetOf s) base first h k) k) i ≡ false)
 
 abbrev μ-loop : tie.MeasureT-loop
 μ-loop s base first n last₀ i₀ last i = n - i
 
 loop-holds : tie.Need-loop-holds Inv-loop μ-loop
 unfolding any
-loop-holds c = (search needs, below-none (listed (sheetOf (c .before .args .s .now)) (c .before .args .base) (c .before .args .first)) 0, refl, refl)
+loop-holds c = (search needs, below-none (entryAt (sheetOf (c .before .args .s .now)) (c .before .args .base) (c .before .args .first)) 0, refl, refl)
 
-listed-requires : tie.Need-listed-requires Inv-loop μ-loop
-listed-requires c κs = search needs
+entry-at-requires : tie.Need-entry-at-requires Inv-loop μ-loop
+entry-at-requires c κs = search needs
 
 language-requires : tie.Need-language-requires Inv-loop μ-loop
 language-requires c κs = search needs
@@ -43,7 +43,18 @@ loop-less c = search needs
 
 loop-again : tie.Need-loop-again Inv-loop μ-loop
 unfolding any noLanguageAt sameAt
-loop-again c = let p = or-none (leb (c .before .before .listed .result) (c .before .before .before .before .loop .last)) (not (c .before .language .result)) (c .if1 .left) in let h : c .before .before .before .before .loop .last < (listed (sheetOf (c .before .before .before .before .before .before .args .s .now)) (c .before .before .before .before .before .before .args .base) (c .before .before .before .before .before .before .args .first)) (c .before .before .before .before .loop .i) = rw (c .before .before .listed .ensures) at (leb-false (c .before .before .listed .result) (c .before .before .before .before .loop .last) (p .0)) in (search needs, rw (c .before .before .listed .ensures) (below-more (listed (sheetOf (c .before .before .before .before .before .before .args .s .now)) (c .before .before .before .before .before .before .args .base) (c .before .before .before .before .before .before .args .first)) (c .before .before .before .before .loop .i) (c .before .before .before .before .loop .last) (c .before .before .before .before .loop .inv .1) h), rw (add-one, c .before .before .before .before .loop .inv .2, sym (c .before .before .listed .ensures), sym (c .before .language .ensures), p .1) refl, rw (add-one, c .before .before .before .before .loop .inv .3, not-earlier (listed (sheetOf (c .before .before .before .before .before .before .args .s .now)) (c .before .before .before .before .before .before .args .base) (c .before .before .before .before .before .before .args .first)) (c .before .before .before .before .loop .i) (c .before .before .before .before .loop .last) (c .before .before .before .before .loop .inv .1) h) refl)
+loop-again c =
+    let l = c .before .before .before .before .loop in
+    let a = c .before .before .before .before .before .before .args in
+    let entry = entryAt (sheetOf (a .s .now)) (a .base) (a .first) in
+    let x = c .before .before .entry-at in
+    let p = or-none (leb (x .result) (l .last)) (not (c .before .language .result)) (c .if1 .left) in
+    let h : l .last < entry (l .i) = rw (x .ensures) at (leb-false (x .result) (l .last) (p .0)) in (
+      search needs,
+      rw (x .ensures) (below-more entry (l .i) (l .last) (l .inv .1) h),
+      rw (add-one, l .inv .2, sym (x .ensures), sym (c .before .language .ensures), p .1) refl,
+      rw (add-one, l .inv .3, not-earlier entry (l .i) (l .last) (l .inv .1) h) refl,
+    )
 
 returns-2 : tie.Need-returns-2 Inv-loop μ-loop
 unfolding twoOf
@@ -56,7 +67,7 @@ labels-rise-spec =
     Inv-loop
     μ-loop
     loop-holds
-    listed-requires
+    entry-at-requires
     language-requires
     returns
     add-i

@@ -1,8 +1,5 @@
 -- A top object can't break it. Assumes nothing.
-use mathlib.Core.Path.{_≡_, sym, _∙_}
-use mathlib.Core.Bool.{false, _||_}
-use Rattle.sheet.specs.Words.{sheetOf}
-use mathlib.Core.Bool.{true}
+use mathlib.Core.Path.{sym, _∙_}
 use mathlib.Core.Path.{refl}
 use Rattle.profile.specs.Rules.{rule15}
 use borrow.Author.Needs.{needs}

@@ -1,5 +1,5 @@
 -- Nothing exceeds a limit. Assumes nothing.
-use mathlib.Core.Path.{_≡_, sym}
+use mathlib.Core.Path.{sym}
 use Rattle.sheet.specs.Words.{sheetOf}
 use Rattle.screen.proofs.ObjectLaws.{no-excess}
 use borrow.Author.Needs.{needs}

@@ -1,32 +1,23 @@
 -- Each part is its callee's. Assumes nothing.
-use Prim.Native.Nat.{ℕ, _+_, _-_, _≤_}
-use mathlib.Core.Path.{_≡_, refl, sym, ap, _∙_}
-use mathlib.Core.Bool.{true, false, not, true≢false, _||_}
-use Rattle.sheet.specs.Words.{sheetOf}
+use mathlib.Core.Path.{sym, _∙_}
 use Rattle.profile.proofs.BoolLaws.{or-none-4}
-use Rattle.sheet.specs.Layout.{field, number}
+use Rattle.sheet.specs.Layout.{number, field}
 use Rattle.screen.specs.steps.Objects.{setsBroken}
 use borrow.Author.Needs.{needs}
 use Rattle.screen.proofs.objects.values_or_complements_break.Statement.{statement}
 use Rattle.screen.proofs.objects.values_or_complements_break.Tie as tie
 
 object-values-requires : tie.Need-object-values-requires
-object-values-requires c κs = (c .before .before .before .pre .0, c .before .before .before .pre .1, c .before .before .before .pre .2)
+object-values-requires c κs = search needs
 
 values-break-requires : tie.Need-values-break-requires
 values-break-requires c κs = search needs
 
-add-word : tie.Need-add-word
-add-word c = search needs
+word-at-requires : tie.Need-word-at-requires
+word-at-requires c κs = search needs
 
-word-requires : tie.Need-word-requires
-word-requires c κs = search needs
-
-add-word-2 : tie.Need-add-word-2
-add-word-2 c = search needs
-
-word-requires-2 : tie.Need-word-requires-2
-word-requires-2 c κs = search needs
+number-at-requires : tie.Need-number-at-requires
+number-at-requires c κs = search needs
 
 any-set-breaks-requires : tie.Need-any-set-breaks-requires
 any-set-breaks-requires c κs = search needs
@@ -39,7 +30,15 @@ child-breaks-requires c κs = search needs
 
 returns : tie.Need-returns
 unfolding setsBroken number field
-returns c = λ e t f. let p = or-none-4 (c .before .before .before .before .before .values-break .result) (c .before .before .any-set-breaks .result) (c .before .complements-break .result) (c .child-breaks .result) e in (rw (c .before .before .before .before .before .before .object-values .ensures) at (sym (c .before .before .before .before .before .values-break .ensures) ∙ p .0), rw (c .before .before .before .before .word .ensures, c .before .before .before .word2 .ensures, c .before .before .before .before .before .before .before .before .before .before .pre .0, c .before .before .before .before .before .before .object-values .ensures) at (c .before .before .any-set-breaks .ensures (p .1)), c .before .complements-break .ensures (p .2) t f, c .child-breaks .ensures (p .3) t)
+returns c =
+    λ e t f.
+    let v = c .before .before .before .before .before .before in
+    let p = or-none-4 (c .before .before .before .before .before .values-break .result) (c .before .before .any-set-breaks .result) (c .before .complements-break .result) (c .child-breaks .result) e in (
+      rw (v .object-values .ensures) at (sym (c .before .before .before .before .before .values-break .ensures) ∙ p .0),
+      rw (c .before .before .before .before .word-at .ensures, c .before .before .before .number-at .ensures, v .before .before .before .before .pre .0, v .object-values .ensures) at (c .before .before .any-set-breaks .ensures (p .1)),
+      c .before .complements-break .ensures (p .2) t f,
+      c .child-breaks .ensures (p .3) t,
+    )
 
 pub values-or-complements-break-spec : {M : Type 1} → statement M
 values-or-complements-break-spec =
@@ -47,10 +46,8 @@ values-or-complements-break-spec =
     (tie.spec
     object-values-requires
     values-break-requires
-    add-word
-    word-requires
-    add-word-2
-    word-requires-2
+    word-at-requires
+    number-at-requires
     any-set-breaks-requires
     complements-break-requires
     child-breaks-requires

@@ -48,7 +48,7 @@ rule7-requires-5 c κs = search needs
 
 returns : tie.Need-returns
 unfolding headerBroken
-returns c = simp (c .rule75 .ensures, c .before .rule74 .ensures, c .before .before .rule73 .ensures, c .before .before .before .rule72 .ensures, c .before .before .before .before .rule7 .ensures, c .before .before .before .before .before .rule37 .ensures, c .before .before .before .before .before .before .rule36 .ensures, c .before .before .before .before .before .before .before .rule35 .ensures, c .before .before .before .before .before .before .before .before .rule34 .ensures, c .before .before .before .before .before .before .before .before .before .rule33 .ensures, c .before .before .before .before .before .before .before .before .before .before .rule32 .ensures, c .before .before .before .before .before .before .before .before .before .before .before .rule3 .ensures, c .before .before .before .before .before .before .before .before .before .before .before .before .rule2 .ensures, c .before .before .before .before .before .before .before .before .before .before .before .before .before .rule1 .ensures)
+returns c = let h = c .before .before .before .before .before .before .before in simp (c .rule75 .ensures, c .before .rule74 .ensures, c .before .before .rule73 .ensures, c .before .before .before .rule72 .ensures, c .before .before .before .before .rule7 .ensures, c .before .before .before .before .before .rule37 .ensures, c .before .before .before .before .before .before .rule36 .ensures, h .rule35 .ensures, h .before .rule34 .ensures, h .before .before .rule33 .ensures, h .before .before .before .rule32 .ensures, h .before .before .before .before .rule3 .ensures, h .before .before .before .before .before .rule2 .ensures, h .before .before .before .before .before .before .rule1 .ensures)
 
 pub header-breaks-spec : {M : Type 1} → statement M
 header-breaks-spec =

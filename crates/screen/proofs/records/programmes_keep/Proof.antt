@@ -1,14 +1,13 @@
 -- No programme passed breaks one. Assumes nothing.
-use Prim.Native.Nat.{ℕ, _+_, _-_, _*_, _<_, _≤_}
+use Prim.Native.Nat.{_-_, _≤_}
 use mathlib.Core.Path.{_≡_, refl, sym, ap, _∙_}
-use mathlib.Core.Bool.{true, false, not, true≢false, _&&_, _||_}
+use mathlib.Core.Bool.{true, false, true≢false}
 use native.Mathlib.Omega.{arith}
 use native.Mathlib.Numerals.{add-one}
 use Rattle.sheet.specs.Words.{sheetOf}
 use borrow.Author.Needs.{needs}
 use Rattle.profile.specs.Counting.{any}
-use lib.Dec.{eqb, leb, ltb}
-use Rattle.screen.specs.steps.Screened.{contentBroken, programmeBroken}
+use Rattle.screen.specs.steps.Screened.{programmeBroken}
 use Rattle.screen.proofs.records.programmes_keep.Statement.{statement}
 use Rattle.screen.proofs.records.programmes_keep.Tie as tie
 

@@ -1,9 +1,7 @@
 -- Section by section. Assumes nothing.
-use mathlib.Core.Path.{_≡_, refl, sym, ap, _∙_}
-use mathlib.Core.Bool.{true, false, not, true≢false, _||_}
-use Rattle.sheet.specs.Words.{sheetOf}
+use mathlib.Core.Path.{sym}
+use mathlib.Core.Bool.{true, false, true≢false}
 use borrow.Author.Tests.{not-false}
-use Rattle.screen.specs.steps.Screened.{RecordsKept}
 use borrow.Author.Needs.{needs}
 use Rattle.screen.proofs.records.records_pass.Statement.{statement}
 use Rattle.screen.proofs.records.records_pass.Tie as tie
@@ -36,7 +34,19 @@ tracks-keep-requires : tie.Need-tracks-keep-requires
 tracks-keep-requires c κs = search needs
 
 returns-5 : tie.Need-returns-5
-returns-5 c = λ e t. record { programmes-kept = c .before .before .before .before .before .before .before .before .programmes-keep .ensures (not-false (c .before .before .before .before .before .before .before .before .programmes-keep .result) (c .before .before .before .before .before .before .before .if1 .left)); contents-kept = c .before .before .before .before .before .before .contents-keep .ensures (not-false (c .before .before .before .before .before .before .contents-keep .result) (c .before .before .before .before .before .if2 .left)) (t .listed-right); objects-kept = c .before .before .before .before .objects-keep .ensures (not-false (c .before .before .before .before .objects-keep .result) (c .before .before .before .if3 .left)) (t .named-right) (t .tops-right) (t .complements-right); packs-kept = c .before .before .packs-keep .ensures (not-false (c .before .before .packs-keep .result) (c .before .if4 .left)); tracks-kept = c .tracks-keep .ensures e }
+returns-5 c =
+    λ e t.
+    let packs = c .before .before in
+    let objects = packs .before .before in
+    let contents = objects .before .before in
+    let programmes = contents .before .before in
+    record {
+      programmes-kept = programmes .programmes-keep .ensures (not-false (programmes .programmes-keep .result) (contents .before .if1 .left));
+      contents-kept = contents .contents-keep .ensures (not-false (contents .contents-keep .result) (objects .before .if2 .left)) (t .listed-right);
+      objects-kept = objects .objects-keep .ensures (not-false (objects .objects-keep .result) (packs .before .if3 .left)) (t .named-right) (t .tops-right) (t .complements-right);
+      packs-kept = packs .packs-keep .ensures (not-false (packs .packs-keep .result) (c .before .if4 .left));
+      tracks-kept = c .tracks-keep .ensures e;
+    }
 
 pub records-pass-spec : {M : Type 1} → statement M
 records-pass-spec =

@@ -1,12 +1,5 @@
 -- What stands at the place. Assumes nothing.
-use Prim.Native.Nat.{ℕ, _+_, _-_, _*_, _<_, _≤_}
-use mathlib.Core.Path.{_≡_, refl, sym, ap, _∙_}
-use mathlib.Core.Bool.{true, false, not, true≢false, _&&_, _||_}
-use native.Mathlib.Omega.{arith}
-use native.Mathlib.Numerals.{add-one}
-use Rattle.sheet.specs.Words.{sheetOf}
-use Rattle.profile.specs.Counting.{any}
-use lib.Dec.{eqb, leb, ltb}
+use mathlib.Core.Bool.{true, false, true≢false}
 use borrow.Author.Needs.{needs}
 use Rattle.screen.proofs.records.unlisted.Statement.{statement}
 use Rattle.screen.proofs.records.unlisted.Tie as tie

@@ -23,10 +23,10 @@ slice-aggregate-screened-6 : tie.Need-slice-aggregate-screened-6
 slice-aggregate-screened-6 c = search needs
 
 screened-requires : tie.Need-screened-requires
-screened-requires c κs = search needs
+screened-requires c κs = record { named-nought = λ x l. nought 2048 x; spanned-nought = λ x l. nought 4680 x; listed-nought = λ x l. nought 6552 x; tops-nought = λ x l. nought 2048 x; complements-nought = λ x l. nought 2048 x; owners-nought = λ x l. nought 4680 x }
 
 returns : tie.Need-returns
-returns c = λ e. c .before .before .before .before .before .before .screened .ensures e (record { named-nought = λ x l. nought 2048 x; spanned-nought = λ x l. nought 4680 x; listed-nought = λ x l. nought 6552 x; tops-nought = λ x l. nought 2048 x; complements-nought = λ x l. nought 2048 x; owners-nought = λ x l. nought 4680 x })
+returns c = search needs
 
 pub large-passes-spec : {M : Type 1} → statement M
 large-passes-spec =

@@ -1,4 +1,4 @@
--- By the tables of that size; without any nothing passes. Assumes nothing.
+-- With those tables; without any nothing passes. Assumes nothing.
 use mathlib.Core.Path.{sym}
 use mathlib.Core.Bool.{true≢false}
 use borrow.Author.Needs.{needs}

@@ -1,13 +1,12 @@
 -- Where nothing is found, the sets passed break nothing. Assumes nothing.
-use Prim.Native.Nat.{ℕ, _+_, _-_, _*_, _<_, _≤_}
+use Prim.Native.Nat.{_+_, _-_, _≤_}
 use mathlib.Core.Path.{_≡_, refl, sym, ap, _∙_}
-use mathlib.Core.Bool.{true, false, not, true≢false, _&&_, _||_}
+use mathlib.Core.Bool.{false}
 use native.Mathlib.Omega.{arith}
 use native.Mathlib.Numerals.{add-one}
 use Rattle.sheet.specs.Words.{sheetOf}
 use borrow.Author.Needs.{needs}
 use Rattle.profile.specs.Counting.{any}
-use lib.Dec.{eqb, leb, ltb}
 use Rattle.profile.proofs.BoolLaws.{or-none}
 use Rattle.screen.specs.steps.Values.{setBroken}
 use Rattle.sheet.specs.Layout.{start}
@@ -25,17 +24,11 @@ loop-holds : tie.Need-loop-holds Inv-loop μ-loop
 unfolding any
 loop-holds c = (search needs, λ e. refl)
 
-cast-start : tie.Need-cast-start Inv-loop μ-loop
-cast-start c = search needs
-
-add-start : tie.Need-add-start Inv-loop μ-loop
-add-start c = search needs
-
-start-requires : tie.Need-start-requires Inv-loop μ-loop
-start-requires c κs = search needs
+record-after-requires : tie.Need-record-after-requires Inv-loop μ-loop
+record-after-requires c κs = search needs
 
 set-breaks-requires : tie.Need-set-breaks-requires Inv-loop μ-loop
-set-breaks-requires c κs = c .start .ensures .1
+set-breaks-requires c κs = search needs
 
 add-i : tie.Need-add-i Inv-loop μ-loop
 add-i c = search needs
@@ -45,7 +38,7 @@ loop-less c = search needs
 
 loop-again : tie.Need-loop-again Inv-loop μ-loop
 unfolding any
-loop-again c = (search needs, λ e. let p = or-none (c .before .before .before .loop .found) (c .set-breaks .result) e in rw (add-one, c .before .before .before .loop .inv .1 (p .0), rw (c .before .start .ensures .0) at (c .set-breaks .ensures (p .1))) refl)
+loop-again c = (search needs, λ e. let p = or-none (c .before .before .before .loop .found) (c .set-breaks .result) e in rw (add-one, c .before .before .before .loop .inv .1 (p .0), rw (c .before .record-after .ensures) at (c .set-breaks .ensures (p .1))) refl)
 
 returns : tie.Need-returns Inv-loop μ-loop
 returns c = let e : c .before .loop .i ≡ c .before .before .before .args .n = omega arith in λ h. sym (ap (any _) e) ∙ c .before .loop .inv .1 h
@@ -57,9 +50,7 @@ any-set-breaks-spec =
     Inv-loop
     μ-loop
     loop-holds
-    cast-start
-    add-start
-    start-requires
+    record-after-requires
     set-breaks-requires
     add-i
     loop-less

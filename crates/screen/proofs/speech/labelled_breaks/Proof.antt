@@ -1,7 +1,4 @@
 -- Each test is its callee's. Assumes nothing.
-use mathlib.Core.Path.{_≡_, refl, sym, ap, _∙_}
-use mathlib.Core.Bool.{true, false, not, _||_}
-use Rattle.sheet.specs.Words.{sheetOf}
 use Rattle.profile.proofs.BoolLaws.{or-false}
 use Rattle.screen.specs.steps.Screened.{speechBroken}
 use borrow.Author.Needs.{needs}

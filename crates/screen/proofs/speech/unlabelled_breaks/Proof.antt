@@ -1,5 +1,4 @@
 -- Each test is its callee's. Assumes nothing.
-use mathlib.Core.Path.{_≡_, refl, sym, ap, _∙_}
 use Rattle.sheet.specs.Words.{sheetOf}
 use Rattle.screen.proofs.SpeechLaws.{no-labels}
 use borrow.Author.Needs.{needs}

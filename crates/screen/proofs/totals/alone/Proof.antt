@@ -1,5 +1,4 @@
 -- Top and in no complement list. Assumes nothing.
-use Rattle.sheet.specs.Words.{sheetOf}
 use borrow.Author.Needs.{needs}
 use Rattle.screen.proofs.totals.alone.Statement.{statement}
 use Rattle.screen.proofs.totals.alone.Tie as tie

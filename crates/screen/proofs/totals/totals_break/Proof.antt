@@ -1,12 +1,10 @@
 -- Level 0 has no limits. Assumes nothing.
-use mathlib.Core.Path.{_≡_, refl, sym, ap, _∙_}
-use mathlib.Core.Bool.{true, false, not, true≢false, _||_}
+use mathlib.Core.Path.{_≡_, sym, _∙_}
 use Rattle.sheet.specs.Words.{sheetOf}
 use Rattle.profile.proofs.BoolLaws.{or-none-3}
 use Rattle.profile.specs.Rules.{rule23, rule24}
-use Rattle.profile.specs.Relations.{units}
+use Rattle.profile.specs.Relations.{groups, units, countedTracks}
 use Rattle.profile.specs.Limits.{exceeds}
-use Rattle.relations.specs.steps.Sizes.{loneObjects}
 use Rattle.sheet.specs.Layout.{level}
 use borrow.Author.Needs.{needs}
 use Rattle.screen.proofs.totals.totals_break.Statement.{statement}
@@ -44,8 +42,14 @@ exceeds-requires-3 : tie.Need-exceeds-requires-3
 exceeds-requires-3 c κs = search needs
 
 returns-2 : tie.Need-returns-2
-unfolding rule23 rule24 units loneObjects
-returns-2 c = λ e t f. let p = or-none-3 (c .before .before .before .before .exceeds .result) (c .before .exceeds2 .result) (c .exceeds3 .result) e in let k = c .before .before .before .before .before .before .totals .ensures t f in (simp (rw (k .0) at (sym (c .before .before .before .before .exceeds .ensures) ∙ p .0), rw (k .0, k .1) at (sym (c .before .exceeds2 .ensures) ∙ p .1)), rw (k .2) at (sym (c .exceeds3 .ensures) ∙ p .2))
+unfolding rule23 rule24 groups units countedTracks
+returns-2 c =
+    λ e t f.
+    let p = or-none-3 (c .before .before .before .before .exceeds .result) (c .before .exceeds2 .result) (c .exceeds3 .result) e in
+    let k = c .before .before .before .before .before .before .totals .ensures t f in (
+      simp (rw (k .groups-to) at (sym (c .before .before .before .before .exceeds .ensures) ∙ p .0), rw (k .groups-to, k .lone-to) at (sym (c .before .exceeds2 .ensures) ∙ p .1)),
+      rw (k .tracks-to) at (sym (c .exceeds3 .ensures) ∙ p .2),
+    )
 
 pub totals-break-spec : {M : Type 1} → statement M
 totals-break-spec =

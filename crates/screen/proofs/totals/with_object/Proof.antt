@@ -1,12 +1,7 @@
 -- A leader, an object in no group, or neither. Assumes nothing.
-use Prim.Native.Nat.{ℕ, _+_, _-_, _*_, _<_, _≤_}
-use mathlib.Core.Path.{_≡_, refl, sym, ap, _∙_}
-use mathlib.Core.Bool.{true, false, not, true≢false, _&&_, _||_}
-use native.Mathlib.Omega.{arith}
-use native.Mathlib.Numerals.{add-one}
+use Prim.Native.Nat.{ℕ, _+_}
+use mathlib.Core.Path.{refl, sym, ap, _∙_}
 use Rattle.sheet.specs.Words.{sheetOf}
-use Rattle.profile.specs.Counting.{any}
-use lib.Dec.{eqb, leb, ltb}
 use Rattle.screen.proofs.TotalLaws.{leader-added, lone-added, other-added}
 use borrow.Author.Needs.{needs}
 use Rattle.screen.proofs.totals.with_object.Statement.{statement}
@@ -28,7 +23,7 @@ add-t10 : tie.Need-add-t10
 add-t10 c = search needs
 
 returns : tie.Need-returns
-returns c = (omega arith, omega arith, omega arith, λ t f. let k = leader-added (sheetOf (c .before .before .before .before .before .before .before .before .args .s .now)) (c .before .before .before .before .before .before .before .before .args .o) (c .before .before .before .before .before .before .before .before .args .t .groups) (c .before .before .before .before .before .before .before .before .args .t .lone) (c .before .before .before .before .before .before .before .before .args .t .tracks) (sym (c .before .before .before .before .leader .ensures) ∙ c .before .before .before .if1 .taken) in (k .0, k .1, rw (c .before .largest-member .ensures) (k .2)))
+returns c = let a = c .before .before .before .before .before .before .before .before .args in (search needs, λ v f h. leader-added (sheetOf (a .s .now)) (a .o) (a .t) _ h (sym (c .before .before .before .before .leader .ensures) ∙ c .before .before .before .if1 .taken) refl refl (ap (λ (x : ℕ). a .t .tracks + x) (c .before .largest-member .ensures)))
 
 alone-requires : tie.Need-alone-requires
 alone-requires c κs = search needs
@@ -46,10 +41,10 @@ add-t15 : tie.Need-add-t15
 add-t15 c = search needs
 
 returns-2 : tie.Need-returns-2
-returns-2 c = (omega arith, omega arith, omega arith, λ t f. let k = lone-added (sheetOf (c .before .before .before .before .before .before .before .before .before .before .args .s .now)) (c .before .before .before .before .before .before .before .before .before .before .args .o) (c .before .before .before .before .before .before .before .before .before .before .args .t .groups) (c .before .before .before .before .before .before .before .before .before .before .args .t .lone) (c .before .before .before .before .before .before .before .before .before .before .args .t .tracks) (sym (c .before .before .before .before .before .before .leader .ensures) ∙ c .before .before .before .before .before .if1 .left) (sym (c .before .before .before .before .alone .ensures t f) ∙ c .before .before .before .if2 .taken) in (k .0, k .1, rw (c .before .size .ensures) (k .2)))
+returns-2 c = let a = c .before .before .before .before .before .before .before .before .before .before .args in (search needs, λ v f h. lone-added (sheetOf (a .s .now)) (a .o) (a .t) _ h (sym (c .before .before .before .before .before .before .leader .ensures) ∙ c .before .before .before .before .before .if1 .left) (sym (c .before .before .before .before .alone .ensures v f) ∙ c .before .before .before .if2 .taken) refl refl (ap (λ (x : ℕ). a .t .tracks + x) (c .before .size .ensures)))
 
 returns-3 : tie.Need-returns-3
-returns-3 c = (omega arith, omega arith, omega arith, λ t f. other-added (sheetOf (c .before .before .before .before .before .before .before .args .s .now)) (c .before .before .before .before .before .before .before .args .o) (c .before .before .before .before .before .before .before .args .t .groups) (c .before .before .before .before .before .before .before .args .t .lone) (c .before .before .before .before .before .before .before .args .t .tracks) (sym (c .before .before .before .leader .ensures) ∙ c .before .before .if1 .left) (sym (c .before .alone .ensures t f) ∙ c .if2 .left))
+returns-3 c = let a = c .before .before .before .before .before .before .before .args in (search needs, λ v f h. other-added (sheetOf (a .s .now)) (a .o) (a .t) _ h (sym (c .before .before .before .leader .ensures) ∙ c .before .before .if1 .left) (sym (c .before .alone .ensures v f) ∙ c .if2 .left) refl refl refl)
 
 pub with-object-spec : {M : Type 1} → statement M
 with-object-spec =
