@@ -22,7 +22,9 @@ use Rattle.tables.specs.declared.Mark.the-variants.{Store}
 use Rattle.tables.specs.steps.Marks.{Standing, marked, repeat, timesBy}
 use Rattle.tables.proofs.MarkLaws.{repeat-store}
 use Rattle.tables.proofs.TableLaws.{included-marked}
-use Rattle.grouping.specs.steps.Groups.{Asked, AskedFor, GroupKept, GroupsApart, UpTo, groupAt, groupWhole, manyIn, objectAt, setsIn}
+use Rattle.grouping.specs.steps.Leaders.{Asked, AskedFor, UpTo, groupAt}
+use Rattle.grouping.specs.steps.Groups.{GroupKept, GroupsApart, groupWhole, manyIn, setsIn}
+use Rattle.grouping.specs.steps.Entering.{objectAt}
 use Rattle.grouping.proofs.CountLaws.{Apart, two-counted}
 use Rattle.grouping.proofs.MemberLaws.{group-count}
 use Rattle.grouping.proofs.PassLaws.{past, sets-own}

@@ -5,3 +5,4 @@ mod LeaderLaws
 mod MemberLaws
 mod PassLaws
 mod RowLaws
+mod StepLaws

@@ -1,24 +1,26 @@
 -- The members passed are counted. Assumes nothing.
 use Prim.Native.Nat.{_+_, _-_, _≤_}
 use mathlib.Core.Path.{_≡_, sym, _∙_}
-use mathlib.Core.Bool.{cond, not, true≢false}
+use mathlib.Core.Bool.{true≢false}
 use native.Mathlib.Omega.{arith}
 use native.Mathlib.Nat.{add-zero}
 use native.Mathlib.Numerals.{add-one}
 use borrow.Author.Tests.{leb-true}
-use lib.Dec.{eqb}
-use lib.ListN.{getD}
-use Rattle.sheet.specs.Words.{sheetOf, word}
+use Rattle.sheet.specs.Words.{sheetOf}
 use Rattle.profile.specs.Counting.{howMany}
+use Rattle.grouping.specs.steps.Groups.{manyListed}
 use borrow.Author.Needs.{needs}
 use Rattle.grouping.proofs.groups.one_included.Statement.{statement}
 use Rattle.grouping.proofs.groups.one_included.Tie as tie
 
 abbrev Inv-loop : tie.InvT-loop
-Inv-loop s base first n included e many₀ i₀ many i = (i ≤ n) × (many ≤ i + 1) × (many ≡ cond (not (eqb e 0)) 1 0 + howMany (λ j. not (eqb (getD included (word (sheetOf s) (base + (first + j))) 0) 0)) i)
+Inv-loop s first n included e base many₀ i₀ many i = (i ≤ n) × (many ≤ i + 1) × (many ≡ manyListed (sheetOf s) included base first i e)
 
 abbrev μ-loop : tie.MeasureT-loop
-μ-loop s base first n included e many₀ i₀ many i = n - i
+μ-loop s first n included e base many₀ i₀ many i = n - i
+
+cast-base : tie.Need-cast-base Inv-loop μ-loop
+cast-base c = search needs
 
 word-count-requires : tie.Need-word-count-requires Inv-loop μ-loop
 word-count-requires c κs = search needs
@@ -77,7 +79,7 @@ unfolding howMany
 loop-again c = (search needs, omega (arith, c .before .before .before .before .loop .inv .1, c .one2 .ensures .1), rw (add-one, c .one2 .ensures .0, c .before .before .before .before .loop .inv .2, c .before .at .ensures, c .before .before .word .ensures) (omega arith))
 
 returns-2 : tie.Need-returns-2 Inv-loop μ-loop
-returns-2 c = let z : c .before .loop .i ≡ c .before .before .before .before .before .before .before .args .n = omega (arith, c .before .loop .inv .0, c .loop-test .left) in λ e. rw (c .before .loop .inv .2, z) at (leb-true (c .before .loop .many) 1 e)
+returns-2 c = let z : c .before .loop .i ≡ c .before .before .before .before .before .before .before .before .args .n = omega (arith, c .before .loop .inv .0, c .loop-test .left) in λ e. rw (c .before .loop .inv .2, z) at (leb-true (c .before .loop .many) 1 e)
 
 pub one-included-spec : {M : Type 1} → statement M
 one-included-spec =
@@ -85,6 +87,7 @@ one-included-spec =
     (tie.spec
     Inv-loop
     μ-loop
+    cast-base
     word-count-requires
     add-if1
     add-if1-2
