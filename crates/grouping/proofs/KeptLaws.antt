@@ -14,8 +14,8 @@ use Rattle.sheet.specs.Fields.{programmes, contents, objects, valueSets, conten
 use Rattle.profile.specs.Counting.{any, howMany, twoOf}
 use Rattle.profile.specs.Relations.{leader, complement, member, members, leaderOf, includes, included, whollyIncluded, hasSet, owner, namedSet, namesSet}
 use Rattle.profile.specs.Rules.{repeats, rule11, rule21, rule22, ownerAt, setsNamed, setsDiffer}
-use Rattle.profile.proofs.BoolLaws.{or-false, or-either, and-both}
-use Rattle.profile.proofs.CountingLaws.{any-none, any-howMany}
+use Rattle.profile.proofs.BoolLaws.{or-either, and-both}
+use Rattle.profile.proofs.CountingLaws.{any-none}
 use Rattle.profile.proofs.GroupLaws.{any-witness, own-leader, leader-lists, member-zero, member-at, no-leader}
 use Rattle.profile.proofs.SumLaws.{any-nowhere, howMany-eq, howMany-all}
 use Rattle.tables.specs.steps.Marks.{Standing}

@@ -1,18 +1,18 @@
 -- Groups by the leaders of a programme's objects. Assumes nothing.
 use Prim.Native.Nat.{ℕ, zero, suc, _+_, _-_, _<_, _≤_}
 use mathlib.Core.Path.{_≡_, refl, sym, ap, subst, _∙_}
-use mathlib.Core.Bool.{Bool, true, false, true≢false, cond, not, _&&_, _||_}
+use mathlib.Core.Bool.{Bool, true, false, cond, not, _&&_, _||_}
 use mathlib.Core.List.{List}
-use mathlib.Core.Logic.{_⊎_, ⊎-elim, inl, inr}
+use mathlib.Core.Logic.{_⊎_, ⊎-elim}
 use native.Mathlib.Omega.{arith}
 use native.Mathlib.Numerals.{add-one}
 use borrow.Author.Tests.{eqb-true, eqb-false, eq-eqb, ne-eqb, le-leb, ltb-true, ltb-false, not-false}
-use lib.Dec.{eqb, leb, ltb}
+use lib.Dec.{eqb, ltb}
 use lib.ListN.{length, getD}
 use Rattle.sheet.specs.Words.{Sheet}
 use Rattle.sheet.specs.Layout.{count, number}
 use Rattle.sheet.specs.Fields.{programmes, objects, contentList, complementList}
-use Rattle.profile.specs.Counting.{any, howMany}
+use Rattle.profile.specs.Counting.{howMany}
 use Rattle.profile.specs.Relations.{leader, leaderOf, member, members, includes}
 use Rattle.profile.specs.Rules.{setsDiffer}
 use Rattle.profile.proofs.GroupLaws.{member-zero}

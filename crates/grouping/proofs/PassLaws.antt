@@ -13,12 +13,12 @@ use lib.Dec.{eqb, leb, ltb}
 use lib.ListN.{length, getD, set, length-set}
 use Rattle.sheet.specs.Words.{Sheet, sheetOf, word}
 use Rattle.sheet.specs.Layout.{count, offset, start, recordWords, field, number, reference, entry}
-use Rattle.sheet.specs.Fields.{programmes, contents, objects, references, valueSets, contentList, setList, complementList, setGain}
+use Rattle.sheet.specs.Fields.{programmes, objects, references, valueSets, contentList, setList, complementList, setGain}
 use Rattle.sheet.proofs.WordLaws.{at as words-at}
 use Rattle.profile.specs.Counting.{any, howMany}
 use Rattle.profile.specs.Relations.{member, members, namedSet, owner}
 use Rattle.profile.specs.Rules.{ownerAt, setsDiffer}
-use Rattle.profile.proofs.BoolLaws.{or-none, or-either, or-true}
+use Rattle.profile.proofs.BoolLaws.{or-none, or-either}
 use Rattle.profile.proofs.CountingLaws.{any-none}
 use Rattle.profile.proofs.GroupLaws.{any-witness}
 use Rattle.profile.proofs.SumLaws.{any-nowhere, howMany-shift}
@@ -29,7 +29,7 @@ use Rattle.tables.proofs.MarkLaws.{set-standing}
 use Rattle.tables.proofs.TableLaws.{owner-told}
 use Rattle.grouping.specs.steps.Entering.{SetsNotedTo, Changed, Noted, objectAt, objectFrom}
 use Rattle.grouping.specs.declared.SectionOffsets.{SectionOffsets}
-use Rattle.grouping.specs.steps.Passing.{representative, sectionOffsets}
+use Rattle.grouping.specs.steps.Passing.{Begins, representative}
 use Rattle.grouping.specs.steps.Groups.{ListKept, manyListed, setsListed, GroupKept, PairKept, groupWhole, manyIn, setsIn}
 
 -- one place is written
@@ -168,9 +168,9 @@ module _ (s : Sheet) where
   sets-own u = same-sets u u (λ f l. refl)
 
 -- an entry of the programme's content list, and of its set list
-pub object-entry : (s : Sheet) (sections : SectionOffsets) (from p i : ℕ) → sections ≡ sectionOffsets s → from ≡ field s programmes p contentList → objectFrom s sections from i ≡ objectAt s p i
+pub object-entry : (s : Sheet) (sections : SectionOffsets) (from p i : ℕ) → Begins s sections → from ≡ field s programmes p contentList → objectFrom s sections from i ≡ objectAt s p i
 unfolding objectFrom objectAt entry reference field start recordWords
-object-entry s sections from p i a b = rw (a, b) refl
+object-entry s sections from p i a b = rw (a .0, a .1, b) refl
 
 pub set-entry : (s : Sheet) (base from p j : ℕ) → base ≡ offset s references → from ≡ field s programmes p setList → word s (base + (from + j)) ≡ namedSet s p j
 unfolding namedSet entry reference
@@ -211,15 +211,15 @@ bytes-alike t base u v at a b h = same-sets (sheetOf t) u v each
         word-of u f = set-word (sheetOf t) u f
 
 -- a group by its leader and its list
-module _ (s : Sheet) (t : List ℕ) (sections : SectionOffsets) (first n e l : ℕ) (a : sections ≡ sectionOffsets s) (b : first ≡ field s objects l complementList)
+module _ (s : Sheet) (t : List ℕ) (sections : SectionOffsets) (first n e l : ℕ) (a : Begins s sections) (b : first ≡ field s objects l complementList)
     (c : n ≡ number s objects l complementList) (d : e ≡ getD t l 0) where
-  pub many-counted : manyListed s t (sections .references) first n e ≡ manyIn s t l
+  many-counted : manyListed s t (sections .references) first n e ≡ manyIn s t l
   unfolding manyIn members member entry reference
-  many-counted = rw (a, b, c, d) (sym (howMany-shift (λ i. not (eqb (getD t (member s l i) 0) 0)) (number s objects l complementList)))
+  many-counted = rw (a .0, b, c, d) (sym (howMany-shift (λ i. not (eqb (getD t (member s l i) 0) 0)) (number s objects l complementList)))
 
   sets-counted : setsListed s t (sections .references) first n e ≡ setsIn s t l
   unfolding setsIn members member entry reference
-  sets-counted = rw (a, b, c, d) (sym (howMany-shift (λ i. ltb 1 (getD t (member s l i) 0)) (number s objects l complementList)))
+  sets-counted = rw (a .0, b, c, d) (sym (howMany-shift (λ i. ltb 1 (getD t (member s l i) 0)) (number s objects l complementList)))
 
   pub list-kept : ListKept s t (sections .references) first n e → GroupKept s t l
   unfolding members member entry reference
@@ -227,14 +227,7 @@ module _ (s : Sheet) (t : List ℕ) (sections : SectionOffsets) (first n e l : �
     where
       each : 1 < getD t l 0 → (i : ℕ) → i < members s l → 1 < getD t (member s l i) 0 → setsDiffer s (getD t l 0 - 2) (getD t (member s l i) 0 - 2) ≡ false
       each k zero m r = sets-own s (getD t l 0 - 2)
-      each k (suc i) m r =
-          let at : sections .references ≡ offset s references = ap (λ (x : SectionOffsets). x .references) a in
-          rw (sym d) (rw (sym at, sym b) (kept .agreeing (rw d k) i (rw c (le-of-suc-le-suc m)) (rw (at, b) r)))
-
--- a group is whole where all members are included, and sets are named for all or none
-pub all-whole : (n many set : ℕ) → (eqb many n && (eqb set 0 || eqb set n)) ≡ true → groupWhole n many set ≡ true
-unfolding groupWhole
-all-whole n many set e = ap (λ (b : Bool). leb many 1 || b) e ∙ or-true (leb many 1)
+      each k (suc i) m r = rw (sym d) (rw (sym (a .0), sym b) (kept .agreeing (rw d k) i (rw c (le-of-suc-le-suc m)) (rw (a .0, b) r)))
 
 -- a group of two: where both are included, sets are named for both or none
 pair-whole : (a b p q : Bool) → (a ≡ true → b ≡ true → p ≡ q) → groupWhole 2 (cond a 1 0 + cond b 1 0) (cond p 1 0 + cond q 1 0) ≡ true

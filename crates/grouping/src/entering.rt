@@ -16,7 +16,7 @@ ghost use lib.ListN.{length};
 ghost use mathlib.Core.Bool.{true};
 ghost use mathlib.Core.Path.{_≡_};
 ghost use Rattle.grouping.specs.steps.Entering.{Entered, ObjectsEntered, SetsNoted, objectFrom};
-ghost use Rattle.grouping.specs.steps.Passing.{sectionOffsets};
+ghost use Rattle.grouping.specs.steps.Passing.{Begins};
 ghost use Rattle.sheet.specs.Words.{sheetOf};
 ghost use Rattle.tables.specs.steps.Right.{Owners};
 
@@ -33,7 +33,7 @@ pub fn object_from(s: &[u8], sections: SectionOffsets, from: u16, i: u16) -> u16
 
 // Marks the objects that the programme includes with 1, where 0 stood.
 fn enter_objects(s: &[u8], sections: SectionOffsets, p: u16, included: &mut [u16]) -> bool
-    ensures { λ r. ⌜ (length (now (included .exit)) ≡ length (now (included .entry))) × (r ≡ true → sections ≡ sectionOffsets (sheetOf (now (s .entry))) → ObjectsEntered (sheetOf (now (s .entry))) p (now (included .entry)) (now (included .exit))) ⌝ }
+    ensures { λ r. ⌜ (length (now (included .exit)) ≡ length (now (included .entry))) × (r ≡ true → Begins (sheetOf (now (s .entry))) sections → ObjectsEntered (sheetOf (now (s .entry))) p (now (included .entry)) (now (included .exit))) ⌝ }
 {
     let from = field(s, PROGRAMMES, p, CONTENT_LIST);
     let n = number(s, PROGRAMMES, p, CONTENT_LIST);
@@ -60,7 +60,7 @@ fn enter_sets(
     p: u16,
     included: &mut [u16],
 ) -> bool
-    ensures { λ r. ⌜ (length (now (included .exit)) ≡ length (now (included .entry))) × (r ≡ true → sections ≡ sectionOffsets (sheetOf (now (s .entry))) → Owners (sheetOf (now (s .entry))) (now (owners .entry)) → SetsNoted (sheetOf (now (s .entry))) (now (alike .entry)) p (now (included .entry)) (now (included .exit))) ⌝ }
+    ensures { λ r. ⌜ (length (now (included .exit)) ≡ length (now (included .entry))) × (r ≡ true → Begins (sheetOf (now (s .entry))) sections → Owners (sheetOf (now (s .entry))) (now (owners .entry)) → SetsNoted (sheetOf (now (s .entry))) (now (alike .entry)) p (now (included .entry)) (now (included .exit))) ⌝ }
 {
     let base = sections.references as usize;
     let total = count(s, VALUE_SETS);
@@ -101,7 +101,7 @@ pub fn enter(
     p: u16,
     included: &mut [u16],
 ) -> bool
-    ensures { λ r. ⌜ (length (now (included .exit)) ≡ length (now (included .entry))) × (r ≡ true → sections ≡ sectionOffsets (sheetOf (now (s .entry))) → Owners (sheetOf (now (s .entry))) (now (owners .entry)) → Entered (sheetOf (now (s .entry))) both (now (alike .entry)) p (now (included .entry)) (now (included .exit))) ⌝ }
+    ensures { λ r. ⌜ (length (now (included .exit)) ≡ length (now (included .entry))) × (r ≡ true → Begins (sheetOf (now (s .entry))) sections → Owners (sheetOf (now (s .entry))) (now (owners .entry)) → Entered (sheetOf (now (s .entry))) both (now (alike .entry)) p (now (included .entry)) (now (included .exit))) ⌝ }
 {
     if !enter_objects(s, sections, p, included) {
         return false;

@@ -12,13 +12,13 @@ use sheet::layout::field;
 use sheet::layout::number;
 use sheet::words::word;
 use sheet::words::word_count;
-ghost use Prim.Native.Nat.{ℕ, _+_, _-_, _<_, _≤_};
+ghost use Prim.Native.Nat.{ℕ, _+_, _-_, _<_};
 ghost use lib.ListN.{getD, length};
 ghost use mathlib.Core.Bool.{false, true};
 ghost use mathlib.Core.Logic.{_⊎_};
 ghost use mathlib.Core.Path.{_≡_};
-ghost use Rattle.grouping.specs.steps.Groups.{GroupKept, ListKept, PairKept, manyListed};
-ghost use Rattle.grouping.specs.steps.Passing.{sectionOffsets};
+ghost use Rattle.grouping.specs.steps.Groups.{GroupKept, ListKept, PairKept};
+ghost use Rattle.grouping.specs.steps.Passing.{Begins};
 ghost use Rattle.grouping.specs.steps.Rows.{OnlyComplement, RowAdded, RowsAdded, RowsComplete};
 ghost use Rattle.profile.specs.Rules.{setsDiffer};
 ghost use Rattle.sheet.specs.Fields.{objects, valueSets};
@@ -41,8 +41,8 @@ fn noted_differ(s: &[u8], sets: u16, e: u16, c: u16) -> bool
     sets_differ(s, sets, e - 2, c - 2)
 }
 
-// Of a group whose leader has e in the table, and whose n complements are listed from `first` on: all members are included, sets are
-// named for all or none, and those of the complements have the words of the leader's.
+// Of a group whose leader has e in the table, and whose n complements are listed from `first` on: one member at most is included, or all
+// are, sets are named for all or none, and those of the complements have the words of the leader's.
 fn members_kept(
     s: &[u8],
     sections: SectionOffsets,
@@ -51,7 +51,7 @@ fn members_kept(
     included: &[u16],
     e: u16,
 ) -> bool
-    ensures { λ r. ⌜ (r ≡ true → sections ≡ sectionOffsets (sheetOf (now (s .entry))) → ListKept (sheetOf (now (s .entry))) (now (included .entry)) (sections .references) first n e) ⌝ }
+    ensures { λ r. ⌜ (r ≡ true → Begins (sheetOf (now (s .entry))) sections → ListKept (sheetOf (now (s .entry))) (now (included .entry)) (sections .references) first n e) ⌝ }
 {
     let base = sections.references as usize;
     let sets = sections.sets;
@@ -71,32 +71,7 @@ fn members_kept(
         i += 1;
     }
     let all = n as u32 + 1;
-    (many == all) & ((noted == 0) | (noted == all))
-}
-
-// Whether of such a group one member at most is included.
-fn one_included(
-    s: &[u8],
-    sections: SectionOffsets,
-    first: u16,
-    n: u16,
-    included: &[u16],
-    e: u16,
-) -> bool
-    ensures { λ r. ⌜ (r ≡ true → manyListed (sheetOf (now (s .entry))) (now (included .entry)) (sections .references) first n e ≤ 1) ⌝ }
-{
-    let base = sections.references as usize;
-    if word_count(s) < base + (first as usize + n as usize) {
-        return false;
-    }
-    let mut many: u32 = one(e != 0) as u32;
-    let mut i: u16 = 0;
-    while i < n {
-        let c = at(included, word(s, base + (first as usize + i as usize)));
-        many += one(c != 0) as u32;
-        i += 1;
-    }
-    many <= 1
+    (many <= 1) | (many == all) & ((noted == 0) | (noted == all))
 }
 
 // A group of two, by what the table has for both.
@@ -117,7 +92,7 @@ fn pair_kept(s: &[u8], sets: u16, e: u16, c: u16) -> bool
 
 // The group of a leader, which has m as its complement where it has one.
 pub fn group_kept(s: &[u8], sections: SectionOffsets, included: &[u16], l: u16, m: u16) -> bool
-    ensures { λ r. ⌜ (r ≡ true → sections ≡ sectionOffsets (sheetOf (now (s .entry))) → OnlyComplement (sheetOf (now (s .entry))) l m → GroupKept (sheetOf (now (s .entry))) (now (included .entry)) l) ⌝ }
+    ensures { λ r. ⌜ (r ≡ true → Begins (sheetOf (now (s .entry))) sections → OnlyComplement (sheetOf (now (s .entry))) l m → GroupKept (sheetOf (now (s .entry))) (now (included .entry)) l) ⌝ }
 {
     let n = number(s, OBJECTS, l, COMPLEMENT_LIST);
     let e = at(included, l);
@@ -125,9 +100,6 @@ pub fn group_kept(s: &[u8], sections: SectionOffsets, included: &[u16], l: u16, 
         return pair_kept(s, sections.sets, e, at(included, m));
     }
     let first = field(s, OBJECTS, l, COMPLEMENT_LIST);
-    if one_included(s, sections, first, n, included, e) {
-        return true;
-    }
     members_kept(s, sections, first, n, included, e)
 }
 
@@ -151,7 +123,7 @@ pub fn groups_kept(
     g: u16,
     included: &[u16],
 ) -> bool
-    ensures { λ r. ⌜ (r ≡ true → sections ≡ sectionOffsets (sheetOf (now (s .entry))) → RowsComplete (sheetOf (now (s .entry))) (now (leading .entry)) (now (partners .entry)) g → (l : ℕ) → l < count (sheetOf (now (s .entry))) objects → GroupKept (sheetOf (now (s .entry))) (now (included .entry)) l) ⌝ }
+    ensures { λ r. ⌜ (r ≡ true → Begins (sheetOf (now (s .entry))) sections → RowsComplete (sheetOf (now (s .entry))) (now (leading .entry)) (now (partners .entry)) g → (l : ℕ) → l < count (sheetOf (now (s .entry))) objects → GroupKept (sheetOf (now (s .entry))) (now (included .entry)) l) ⌝ }
 {
     let n = g as usize;
     if g == 65535 {

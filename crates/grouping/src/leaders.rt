@@ -19,7 +19,7 @@ ghost use lib.ListN.{length};
 ghost use mathlib.Core.Bool.{true};
 ghost use mathlib.Core.Path.{_≡_};
 ghost use Rattle.grouping.specs.steps.Leaders.{AllAsked, AskedFor};
-ghost use Rattle.grouping.specs.steps.Passing.{sectionOffsets};
+ghost use Rattle.grouping.specs.steps.Passing.{Begins};
 ghost use Rattle.sheet.specs.Words.{sheetOf};
 ghost use Rattle.tables.specs.steps.Right.{Leaders};
 
@@ -34,7 +34,7 @@ fn group_asked(
     groups: &mut [u16],
 ) -> bool
     requires { ⌜ seen < 65534 ⌝ }
-    ensures { λ r. ⌜ (length (now (groups .exit)) ≡ length (now (groups .entry))) × (r ≡ true → sections ≡ sectionOffsets (sheetOf (now (s .entry))) → AskedFor (sheetOf (now (s .entry))) (now (included .entry)) seen l (now (groups .entry)) (now (groups .exit))) ⌝ }
+    ensures { λ r. ⌜ (length (now (groups .exit)) ≡ length (now (groups .entry))) × (r ≡ true → Begins (sheetOf (now (s .entry))) sections → AskedFor (sheetOf (now (s .entry))) (now (included .entry)) seen l (now (groups .entry)) (now (groups .exit))) ⌝ }
 {
     let h = at(groups, l);
     if seen + 1 < h {
@@ -65,7 +65,7 @@ pub fn groups_asked(
     included: &[u16],
     groups: &mut [u16],
 ) -> bool
-    ensures { λ r. ⌜ (length (now (groups .exit)) ≡ length (now (groups .entry))) × (r ≡ true → sections ≡ sectionOffsets (sheetOf (now (s .entry))) → Leaders (sheetOf (now (s .entry))) (now (leaders .entry)) → AllAsked (sheetOf (now (s .entry))) p (now (included .entry)) (now (groups .entry)) (now (groups .exit))) ⌝ }
+    ensures { λ r. ⌜ (length (now (groups .exit)) ≡ length (now (groups .entry))) × (r ≡ true → Begins (sheetOf (now (s .entry))) sections → Leaders (sheetOf (now (s .entry))) (now (leaders .entry)) → AllAsked (sheetOf (now (s .entry))) p (now (included .entry)) (now (groups .entry)) (now (groups .exit))) ⌝ }
 {
     if 32766 < p {
         return false;

@@ -26,7 +26,7 @@ ghost use lib.ListN.{length};
 ghost use mathlib.Core.Bool.{true};
 ghost use mathlib.Core.Path.{_≡_};
 ghost use Rattle.grouping.specs.steps.Groups.{GroupsGround, KeptTo, ProgrammesKept};
-ghost use Rattle.grouping.specs.steps.Passing.{KeptFrom, SameList, sectionOffsets};
+ghost use Rattle.grouping.specs.steps.Passing.{Begins, KeptFrom, SameList};
 ghost use Rattle.sheet.specs.Fields.{contentList, setList};
 ghost use Rattle.sheet.specs.Words.{sheetOf};
 ghost use Rattle.tables.specs.steps.Right.{Owners};
@@ -74,7 +74,7 @@ fn next_other(s: &[u8], both: bool, p: u16, n: u16) -> u16
 }
 
 fn section_offsets(s: &[u8]) -> SectionOffsets
-    ensures { λ r. ⌜ r ≡ sectionOffsets (sheetOf (now (s .entry))) ⌝ }
+    ensures { λ r. ⌜ Begins (sheetOf (now (s .entry))) r ⌝ }
 {
     SectionOffsets {
         references: offset(s, REFERENCES),

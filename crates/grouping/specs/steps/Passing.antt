@@ -14,8 +14,8 @@ use Rattle.grouping.specs.declared.Wanted.{Wanted}
 use Rattle.grouping.specs.steps.Groups.{GroupsApart, KeptTo, OneSpan}
 
 -- where sections 6, 2 and 7 begin
-abbrev pub sectionOffsets : Sheet → SectionOffsets
-sectionOffsets s = record { references = offset s references; contents = offset s contents; sets = offset s valueSets }
+abbrev pub Begins : Sheet → SectionOffsets → Type 0
+Begins s sections = (sections .references ≡ offset s references) × (sections .contents ≡ offset s contents) × (sections .sets ≡ offset s valueSets)
 
 -- the set that stands for a set by a table: one less than the number at its place, or itself where that is 0 or the table ends before it
 unfoldable pub representative : List ℕ → ℕ → ℕ

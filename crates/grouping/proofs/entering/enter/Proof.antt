@@ -40,8 +40,7 @@ same-length-3 c = c .before .before .enter-sets .ensures .0 ∙ c .before .befor
 
 returns-3 : tie.Need-returns-3
 returns-3 c =
-    let marks = c .before .before .before .before .before .before .before .before .enter-objects in
-    let noted = c .before .before .enter-sets in (
+    let marks = c .before .before .before .before .before .before .before .before .enter-objects in let noted = c .before .before .enter-sets in (
       noted .ensures .0 ∙ marks .ensures .0,
       λ e at owns.
           record {

@@ -8,7 +8,7 @@ use lib.ListN.{length}
 use Rattle.sheet.specs.Words.{sheetOf}
 use Rattle.sheet.specs.Layout.{number}
 use Rattle.sheet.specs.Fields.{programmes, contentList}
-use Rattle.grouping.specs.steps.Passing.{sectionOffsets}
+use Rattle.grouping.specs.steps.Passing.{Begins}
 use Rattle.grouping.specs.steps.Entering.{Changed, objectAt}
 use Rattle.grouping.proofs.PassLaws.{changed-none, changed-more, object-entry}
 use borrow.Author.Needs.{needs}
@@ -16,7 +16,7 @@ use Rattle.grouping.proofs.entering.enter_objects.Statement.{statement}
 use Rattle.grouping.proofs.entering.enter_objects.Tie as tie
 
 abbrev Inv-loop : tie.InvT-loop
-Inv-loop s sections p included₀ from n i₀ included i = (i ≤ n) × (length included ≡ length included₀) × (sections ≡ sectionOffsets (sheetOf s) → Changed (objectAt (sheetOf s) p) i 0 1 included₀ included)
+Inv-loop s sections p included₀ from n i₀ included i = (i ≤ n) × (length included ≡ length included₀) × (Begins (sheetOf s) sections → Changed (objectAt (sheetOf s) p) i 0 1 included₀ included)
 
 abbrev μ-loop : tie.MeasureT-loop
 μ-loop s sections p included₀ from n i₀ included i = n - i
@@ -73,12 +73,8 @@ loop-less c = search needs
 
 loop-again : tie.Need-loop-again Inv-loop μ-loop
 loop-again c =
-    let a = c .before .before .before .before .before .before .before .before .before .before .before .before .before .before .before .args in
-    let here = c .before .before .before .before .before .before .before .loop in
-    let from = c .before .before .before .before .before .before .before .before .before .before .before .before .field in
-    let object = c .before .before .before .before .object-from in
-    let changed = c .before .before .before .change in
-    let now = changed .ensures .1 (not-false _ (c .if2 .left)) in (
+    let a = c .before .before .before .before .before .before .before .before .before .before .before .before .before .before .before .args in let here = c .before .before .before .before .before .before .before .loop in let from = c .before .before .before .before .before .before .before .before .before .before .before .before .field in let object = c .before .before .before .before .object-from in
+    let changed = c .before .before .before .change in let now = changed .ensures .1 (not-false _ (c .if2 .left)) in (
       search needs,
       changed .ensures .0 ∙ here .inv .1,
       λ at.
@@ -92,8 +88,7 @@ same-length-2 c = c .before .loop .inv .1
 
 returns-3 : tie.Need-returns-3 Inv-loop μ-loop
 returns-3 c =
-    let a = c .before .before .before .before .before .before .before .before .before .args in
-    let z : c .before .loop .i ≡ number (sheetOf (a .s .now)) programmes (a .p) contentList = omega (arith, c .before .loop .inv .0, c .before .before .before .before .before .number .ensures, c .loop-test .left) in
+    let a = c .before .before .before .before .before .before .before .before .before .args in let z : c .before .loop .i ≡ number (sheetOf (a .s .now)) programmes (a .p) contentList = omega (arith, c .before .loop .inv .0, c .before .before .before .before .before .number .ensures, c .loop-test .left) in
     (c .before .loop .inv .1, λ e at. rw z at (c .before .loop .inv .2 at))
 
 pub enter-objects-spec : {M : Type 1} → statement M

@@ -1,6 +1,6 @@
 -- The sets passed are noted. Assumes nothing.
 use Prim.Native.Nat.{_-_, _≤_}
-use mathlib.Core.Path.{_≡_, refl, sym, ap, _∙_}
+use mathlib.Core.Path.{_≡_, refl, sym, _∙_}
 use mathlib.Core.Bool.{true≢false}
 use native.Mathlib.Omega.{arith}
 use borrow.Author.Tests.{not-false}
@@ -9,7 +9,6 @@ use Rattle.sheet.specs.Words.{sheetOf}
 use Rattle.sheet.specs.Layout.{number, offset}
 use Rattle.sheet.specs.Fields.{programmes, references, setList}
 use Rattle.tables.specs.steps.Right.{Owners}
-use Rattle.grouping.specs.declared.SectionOffsets.{SectionOffsets}
 use Rattle.grouping.specs.steps.Entering.{SetsNotedTo}
 use Rattle.grouping.proofs.PassLaws.{set-entry, sets-more, sets-none}
 use borrow.Author.Needs.{needs}
@@ -116,12 +115,8 @@ loop-less c = search needs
 
 loop-again : tie.Need-loop-again Inv-loop μ-loop
 loop-again c =
-    let a = c .before .before .before .before .before .before .before .before .before .before .before .before .before .before .before .before .before .before .before .before .before .before .before .args in
-    let here = c .before .before .before .before .before .before .before .before .before .before .before .before .loop in
-    let from = c .before .before .before .before .before .before .before .before .before .before .before .before .before .before .before .before .field in
-    let set = c .before .before .before .before .before .before .before .before .before .before .word in
-    let owner = c .before .before .before .before .before .before .before .before .at in
-    let standing = c .before .before .before .before .before .before .representative in
+    let a = c .before .before .before .before .before .before .before .before .before .before .before .before .before .before .before .before .before .before .before .before .before .before .before .args in let here = c .before .before .before .before .before .before .before .before .before .before .before .before .loop in
+    let from = c .before .before .before .before .before .before .before .before .before .before .before .before .before .before .before .before .field in let set = c .before .before .before .before .before .before .before .before .before .before .word in let owner = c .before .before .before .before .before .before .before .before .at in let standing = c .before .before .before .before .before .before .representative in
     let changed = c .before .before .before .change in (
       search needs,
       changed .ensures .0 ∙ here .inv .1,
@@ -137,9 +132,8 @@ same-length-5 c = c .before .loop .inv .1
 
 returns-6 : tie.Need-returns-6 Inv-loop μ-loop
 returns-6 c =
-    let a = c .before .before .before .before .before .before .before .before .before .before .before .before .args in
-    let z : c .before .loop .j ≡ number (sheetOf (a .s .now)) programmes (a .p) setList = omega (arith, c .before .loop .inv .0, c .before .before .before .before .number .ensures, c .loop-test .left) in
-    (c .before .loop .inv .1, λ e at owns. rw z at (c .before .loop .inv .2 (ap (λ (x : SectionOffsets). x .references) at) owns))
+    let a = c .before .before .before .before .before .before .before .before .before .before .before .before .args in let z : c .before .loop .j ≡ number (sheetOf (a .s .now)) programmes (a .p) setList = omega (arith, c .before .loop .inv .0, c .before .before .before .before .number .ensures, c .loop-test .left) in
+    (c .before .loop .inv .1, λ e at owns. rw z at (c .before .loop .inv .2 (at .0) owns))
 
 pub enter-sets-spec : {M : Type 1} → statement M
 enter-sets-spec =

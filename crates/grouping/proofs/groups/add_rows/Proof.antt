@@ -47,16 +47,12 @@ loop-less c = search needs
 
 loop-again : tie.Need-loop-again Inv-loop μ-loop
 loop-again c =
-    let a = c .before .before .before .before .before .before .before .before .before .before .before .before .before .before .before .args in
-    let here = c .before .before .before .before .before .before .before .before .before .before .loop in
-    let row = c .before .before .before .before .before .add-row in
-    let entry = c .before .before .before .before .before .before .entry in (
+    let a = c .before .before .before .before .before .before .before .before .before .before .before .before .before .before .before .args in let here = c .before .before .before .before .before .before .before .before .before .before .loop in let row = c .before .before .before .before .before .add-row in let entry = c .before .before .before .before .before .before .entry in (
       search needs,
       row .ensures .0 ∙ here .inv .1,
       row .ensures .1 ∙ here .inv .2,
       λ few.
-          let added = row .ensures .2 few in
-          let so = here .inv .3 (omega (arith, few, added .0)) in
+          let added = row .ensures .2 few in let so = here .inv .3 (omega (arith, few, added .0)) in
           (so .0, λ listed. rw (added .0) (listed-row (sheetOf (a .s .now)) (here .leading) (row .last .0) (here .partners) (row .last .1 .0) (here .g) (a .l) (here .j) (entry .result) (entry .ensures) (added .1) (added .2) (omega (arith, c .before .before .before .before .before .before .before .before .before .loop-test .taken, c .before .before .before .before .before .before .before .before .before .before .before .number .ensures)) (so .1 listed))),
     )
 
@@ -68,9 +64,7 @@ same-length-4 c = c .before .loop .inv .2
 
 returns-2 : tie.Need-returns-2 Inv-loop μ-loop
 returns-2 c =
-    let a = c .before .before .before .before .before .before .args in
-    let here = c .before .loop in
-    let z : here .j ≡ number (sheetOf (a .s .now)) objects (a .l) complementList = omega (arith, here .inv .0, c .before .before .number .ensures, c .loop-test .left) in
+    let a = c .before .before .before .before .before .before .args in let here = c .before .loop in let z : here .j ≡ number (sheetOf (a .s .now)) objects (a .l) complementList = omega (arith, here .inv .0, c .before .before .number .ensures, c .loop-test .left) in
     (here .inv .1, here .inv .2, λ few. let so = here .inv .3 few in (so .0, λ listed. listed-next (sheetOf (a .s .now)) (here .leading) (here .partners) (here .g) (a .l) (here .j) z (so .1 listed)))
 
 pub add-rows-spec : {M : Type 1} → statement M

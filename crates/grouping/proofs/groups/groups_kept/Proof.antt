@@ -9,7 +9,7 @@ use borrow.Author.Tests.{not-false}
 use lib.ListN.{getD}
 use Rattle.sheet.specs.Words.{sheetOf}
 use Rattle.grouping.specs.steps.Groups.{GroupKept}
-use Rattle.grouping.specs.steps.Passing.{sectionOffsets}
+use Rattle.grouping.specs.steps.Passing.{Begins}
 use Rattle.grouping.specs.steps.Rows.{RowKept, RowsComplete}
 use Rattle.grouping.proofs.RowLaws.{rows-kept}
 use borrow.Author.Needs.{needs}
@@ -17,7 +17,7 @@ use Rattle.grouping.proofs.groups.groups_kept.Statement.{statement}
 use Rattle.grouping.proofs.groups.groups_kept.Tie as tie
 
 abbrev Inv-loop : tie.InvT-loop
-Inv-loop s sections leading partners g included n asked₀ i₀ asked i = (i ≤ n) × (sections ≡ sectionOffsets (sheetOf s) → RowsComplete (sheetOf s) leading partners g → (asked < 65536 → GroupKept (sheetOf s) included asked) × ((j : ℕ) → j < i → RowKept (sheetOf s) included (getD leading j 0) (getD partners j 0)))
+Inv-loop s sections leading partners g included n asked₀ i₀ asked i = (i ≤ n) × (Begins (sheetOf s) sections → RowsComplete (sheetOf s) leading partners g → (asked < 65536 → GroupKept (sheetOf s) included asked) × ((j : ℕ) → j < i → RowKept (sheetOf s) included (getD leading j 0) (getD partners j 0)))
 
 abbrev μ-loop : tie.MeasureT-loop
 μ-loop s sections leading partners g included n asked₀ i₀ asked i = n - i
@@ -66,10 +66,7 @@ loop-less c = search needs
 
 loop-again : tie.Need-loop-again Inv-loop μ-loop
 loop-again c =
-    let a = c .before .before .before .before .before .before .before .before .before .before .before .before .before .args in
-    let i : ℕ = c .before .before .before .before .before .loop .i in
-    let Kept : ℕ → Type 0 = GroupKept (sheetOf (a .s .now)) (a .included .now) in
-    let P : ℕ → Type 0 = λ j. RowKept (sheetOf (a .s .now)) (a .included .now) (getD (a .leading .now) j 0) (getD (a .partners .now) j 0) in
+    let a = c .before .before .before .before .before .before .before .before .before .before .before .before .before .args in let i : ℕ = c .before .before .before .before .before .loop .i in let Kept : ℕ → Type 0 = GroupKept (sheetOf (a .s .now)) (a .included .now) in let P : ℕ → Type 0 = λ j. RowKept (sheetOf (a .s .now)) (a .included .now) (getD (a .leading .now) j 0) (getD (a .partners .now) j 0) in
     let few : a .g < 65535 = omega arith in (
       search needs,
       λ at listed.
@@ -89,9 +86,7 @@ loop-again c =
 
 returns-5 : tie.Need-returns-5 Inv-loop μ-loop
 returns-5 c =
-    let a = c .before .before .before .before .before .before .before .before .before .args in
-    let here = c .before .loop in
-    let z : here .i ≡ a .g = omega (arith, here .inv .0, c .loop-test .left) in
+    let a = c .before .before .before .before .before .before .before .before .before .args in let here = c .before .loop in let z : here .i ≡ a .g = omega (arith, here .inv .0, c .loop-test .left) in
     λ e at listed. rows-kept (sheetOf (a .s .now)) (a .included .now) (a .leading .now) (a .partners .now) (a .g) (omega arith) listed (rw z at (here .inv .1 at listed .1))
 
 pub groups-kept-spec : {M : Type 1} → statement M

@@ -34,8 +34,7 @@ loop-less c = search needs
 
 loop-again : tie.Need-loop-again Inv-loop μ-loop
 loop-again c =
-    let here = c .before .before .before .before .before .before .before .before .loop in
-    let rows = c .before .before .before .before .add-rows in (
+    let here = c .before .before .before .before .before .before .before .before .loop in let rows = c .before .before .before .before .add-rows in (
       search needs,
       rows .ensures .0 ∙ here .inv .1,
       rows .ensures .1 ∙ here .inv .2,
@@ -50,8 +49,7 @@ same-length-2 c = c .before .loop .inv .2
 
 returns : tie.Need-returns Inv-loop μ-loop
 returns c =
-    let here = c .before .loop in
-    let z : here .l ≡ count (sheetOf (c .before .before .before .before .before .before .args .s .now)) objects = omega (arith, here .inv .0, c .before .before .count .ensures, c .loop-test .left) in
+    let here = c .before .loop in let z : here .l ≡ count (sheetOf (c .before .before .before .before .before .before .args .s .now)) objects = omega (arith, here .inv .0, c .before .before .count .ensures, c .loop-test .left) in
     (here .inv .1, here .inv .2, λ few. rw z at (here .inv .3 few))
 
 pub list-leaders-spec : {M : Type 1} → statement M

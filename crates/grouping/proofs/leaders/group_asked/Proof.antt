@@ -22,8 +22,7 @@ same-length c = search needs
 
 returns : tie.Need-returns
 returns c =
-    let a = c .before .before .before .before .before .before .args in
-    let more : a .seen + 1 < getD (a .groups .now) (a .l) 0 = omega (arith, c .if1 .taken, c .before .at .ensures) in
+    let a = c .before .before .before .before .before .before .args in let more : a .seen + 1 < getD (a .groups .now) (a .l) 0 = omega (arith, c .if1 .taken, c .before .at .ensures) in
     (refl, λ e at. (lies-inside (a .groups .now) (a .l) (omega (arith, more)), λ x k other. refl, inr (inr (more, refl))))
 
 add-change : tie.Need-add-change
@@ -37,8 +36,7 @@ same-length-2 c = search needs
 
 returns-2 : tie.Need-returns-2
 returns-2 c =
-    let a = c .before .before .before .before .before .before .before .before .before .before .before .args in
-    let changed = c .before .before .change in (
+    let a = c .before .before .before .before .before .before .before .before .before .before .before .args in let changed = c .before .before .change in (
       changed .ensures .0,
       λ e at.
           let now = changed .ensures .1 e in
@@ -68,8 +66,7 @@ same-length-4 c = search needs
 
 returns-4 : tie.Need-returns-4
 returns-4 c =
-    let a = c .before .before .before .before .before .before .before .before .before .before .before .before .before .before .args in
-    let changed = c .before .before .change2 in (
+    let a = c .before .before .before .before .before .before .before .before .before .before .before .before .before .before .args in let changed = c .before .before .change2 in (
       changed .ensures .0,
       λ e at.
           let now = changed .ensures .1 e in

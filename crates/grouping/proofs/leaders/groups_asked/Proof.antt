@@ -9,7 +9,7 @@ use Rattle.sheet.specs.Words.{sheetOf}
 use Rattle.sheet.specs.Layout.{number}
 use Rattle.sheet.specs.Fields.{programmes, contentList}
 use Rattle.tables.specs.steps.Right.{Leaders}
-use Rattle.grouping.specs.steps.Passing.{sectionOffsets}
+use Rattle.grouping.specs.steps.Passing.{Begins}
 use Rattle.grouping.specs.steps.Leaders.{Asked}
 use Rattle.grouping.proofs.LeaderLaws.{asked-more, asked-none, group-entry}
 use Rattle.grouping.proofs.PassLaws.{object-entry}
@@ -18,7 +18,7 @@ use Rattle.grouping.proofs.leaders.groups_asked.Statement.{statement}
 use Rattle.grouping.proofs.leaders.groups_asked.Tie as tie
 
 abbrev Inv-loop : tie.InvT-loop
-Inv-loop s sections leaders p included groups₀ seen from n i₀ groups i = (i ≤ n) × (length groups ≡ length groups₀) × (sections ≡ sectionOffsets (sheetOf s) → Leaders (sheetOf s) leaders → Asked (sheetOf s) p included seen i groups₀ groups)
+Inv-loop s sections leaders p included groups₀ seen from n i₀ groups i = (i ≤ n) × (length groups ≡ length groups₀) × (Begins (sheetOf s) sections → Leaders (sheetOf s) leaders → Asked (sheetOf s) p included seen i groups₀ groups)
 
 abbrev μ-loop : tie.MeasureT-loop
 μ-loop s sections leaders p included groups₀ seen from n i₀ groups i = n - i
@@ -63,12 +63,8 @@ loop-less c = search needs
 
 loop-again : tie.Need-loop-again Inv-loop μ-loop
 loop-again c =
-    let a = c .before .before .before .before .before .before .before .before .before .before .before .before .before .before .before .before .args in
-    let here = c .before .before .before .before .before .before .before .before .loop in
-    let from = c .before .before .before .before .before .before .before .before .before .before .field in
-    let object = c .before .before .before .before .before .before .object-from in
-    let leader = c .before .before .before .before .before .leader-by in
-    let asked = c .before .before .before .group-asked in (
+    let a = c .before .before .before .before .before .before .before .before .before .before .before .before .before .before .before .before .args in let here = c .before .before .before .before .before .before .before .before .loop in let from = c .before .before .before .before .before .before .before .before .before .before .field in let object = c .before .before .before .before .before .before .object-from in
+    let leader = c .before .before .before .before .before .leader-by in let asked = c .before .before .before .group-asked in (
       search needs,
       asked .ensures .0 ∙ here .inv .1,
       λ at led.
@@ -83,8 +79,7 @@ same-length-2 c = c .before .loop .inv .1
 
 returns-3 : tie.Need-returns-3 Inv-loop μ-loop
 returns-3 c =
-    let a = c .before .before .before .before .before .before .before .before .before .args in
-    let z : c .before .loop .i ≡ number (sheetOf (a .s .now)) programmes (a .p) contentList = omega (arith, c .before .loop .inv .0, c .before .before .number .ensures, c .loop-test .left) in
+    let a = c .before .before .before .before .before .before .before .before .before .args in let z : c .before .loop .i ≡ number (sheetOf (a .s .now)) programmes (a .p) contentList = omega (arith, c .before .loop .inv .0, c .before .before .number .ensures, c .loop-test .left) in
     (c .before .loop .inv .1, λ e at led. rw z at (c .before .loop .inv .2 at led))
 
 pub groups-asked-spec : {M : Type 1} → statement M

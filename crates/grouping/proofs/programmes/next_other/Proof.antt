@@ -36,9 +36,7 @@ loop-less c = search needs
 
 loop-again : tie.Need-loop-again Inv-loop μ-loop
 loop-again c =
-    let a = c .before .before .before .before .before .args in
-    let here = c .before .before .before .loop in
-    let same = c .before .same-lists .ensures (not-false _ (c .if1 .left)) in (
+    let a = c .before .before .before .before .before .args in let here = c .before .before .before .loop in let same = c .before .same-lists .ensures (not-false _ (c .if1 .left)) in (
       search needs,
       λ before.
           let so = here .inv .1 before in

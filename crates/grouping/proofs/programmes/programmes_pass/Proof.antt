@@ -63,9 +63,7 @@ same-length-3 c = search needs
 
 returns-4 : tie.Need-returns-4
 returns-4 c =
-    let a = c .before .before .before .before .before .before .before .before .before .before .before .before .before .before .before .before .before .before .before .before .before .args in
-    let n = c .before .before .before .before .before .before .before .before .before .before .before .before .before .before .before .count in
-    let kept = c .before .before .before .before .before .before .before .kept-from in (
+    let a = c .before .before .before .before .before .before .before .before .before .before .before .before .before .before .before .before .before .before .before .before .before .args in let n = c .before .before .before .before .before .before .before .before .before .before .before .before .before .before .before .count in let kept = c .before .before .before .before .before .before .before .kept-from in (
       search needs,
       search needs,
       search needs,

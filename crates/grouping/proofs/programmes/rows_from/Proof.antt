@@ -78,9 +78,7 @@ loop-less c = omega (arith, c .next-other .ensures .0, c .before .before .before
 loop-again : tie.Need-loop-again Inv-loop μ-loop
 loop-again c =
     let a = c .before .before .before .before .before .before .before .before .before .before .before .before .before .before .before .before .before .before .before .before .before .before .before .before .before .before .before .before .before .before .before .before .args in
-    let here = c .before .before .before .before .before .before .before .before .before .before .before .before .before .before .before .before .loop in
-    let cleared = c .before .before .before .before .before .before .before .before .before .before .before .before .before .clear in
-    let enter = c .before .before .before .before .before .before .before .before .before .enter in
+    let here = c .before .before .before .before .before .before .before .before .before .before .before .before .before .before .before .before .loop in let cleared = c .before .before .before .before .before .before .before .before .before .before .before .before .before .clear in let enter = c .before .before .before .before .before .before .before .before .before .enter in
     let at = c .before .before .before .before .before .before .before .before .before .before .before .before .before .before .before .before .before .before .before .before .before .before .before .before .before .section-offsets .ensures in (
       enter .ensures .0 ∙ cleared .ensures .0 ∙ here .inv .0,
       λ pass full before.
