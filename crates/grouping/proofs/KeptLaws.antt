@@ -5,6 +5,7 @@ use mathlib.Core.Bool.{Bool, true, false, true≢false, cond, not, _&&_, _||_}
 use mathlib.Core.List.{List}
 use mathlib.Core.Logic.{⊎-elim}
 use native.Mathlib.Omega.{arith}
+use borrow.Author.Count.{below-more}
 use borrow.Author.Tests.{eqb-true, eq-eqb, ne-eqb, leb-true, lt-leb, ltb-true, ltb-false, lt-ltb, not-false}
 use lib.Dec.{eqb, leb, ltb}
 use lib.ListN.{length, getD}
@@ -20,8 +21,8 @@ use Rattle.profile.proofs.GroupLaws.{any-witness, own-leader, leader-lists, mem
 use Rattle.profile.proofs.SumLaws.{any-nowhere, howMany-eq, howMany-all}
 use Rattle.tables.specs.steps.Marks.{Standing}
 use Rattle.grouping.specs.steps.Entering.{Changed, Entered, Noted, objectAt}
-use Rattle.grouping.specs.steps.Groups.{GroupKept, OneSpan, ProgrammeKept, groupWhole, manyIn, setsIn}
-use Rattle.grouping.specs.steps.Passing.{Alike, SameList, representative}
+use Rattle.grouping.specs.steps.Groups.{GroupKept, KeptTo, OneSpan, ProgrammeKept, groupWhole, manyIn, setsIn}
+use Rattle.grouping.specs.steps.Passing.{Alike, Passing, representative, sameList, sameLists}
 use Rattle.grouping.proofs.CountLaws.{Apart, any-eq, two-counted}
 use Rattle.grouping.proofs.MemberLaws.{one-owner}
 use Rattle.grouping.proofs.PassLaws.{past, sets-alike}
@@ -337,20 +338,38 @@ module _ (s : Sheet) (p : ℕ) (both : Bool) (alike t₀ t₂ : List ℕ) (nough
         keeps-22 s p t₀ (entered .marked) t₂ put noughts (entered .long) (sets .0) (entered .objects) (sets .1 .noted) full (spans e) (sets .1 .inside) (λ j l. same (namedSet s p j)) kept,
   )
 
+-- a programme more
+pub programme-more : (s : Sheet) (both : Bool) (owners alike : List ℕ) (p : ℕ) (t t′ : List ℕ) → Passing s both owners alike → Entered s both alike p t t′ → Standing (λ x. 0) t → length t ≡ count s objects
+    → ((l : ℕ) → l < count s objects → GroupKept s t′ l) → KeptTo s both p → KeptTo s both (p + 1)
+programme-more s both owners alike p t t′ pass entered noughts full kept before = below-more (ProgrammeKept s both) p before (entered-kept s p both alike t t′ noughts entered full (pass .2) (pass .1) kept)
+
+-- the two words of a list
+abbrev SameList : Sheet → ℕ → ℕ → ℕ → Type 0
+SameList s p q at = (field s programmes p at ≡ field s programmes q at) × (number s programmes p at ≡ number s programmes q at)
+
+same-words : (s : Sheet) (p q at : ℕ) → sameList s p q at ≡ true → SameList s p q at
+unfolding sameList
+same-words s p q at e =
+    let both = and-both (eqb (field s programmes p at) (field s programmes q at)) (eqb (number s programmes p at) (number s programmes q at)) e in
+    (eqb-true (field s programmes p at) (field s programmes q at) (both .0), eqb-true (number s programmes p at) (number s programmes q at) (both .1))
+
 -- a programme with the lists of another keeps what that keeps
-module _ (s : Sheet) (p q : ℕ) (same : SameList s p q contentList) where
-  same-repeats : repeats s programmes p contentList ≡ repeats s programmes q contentList
+module _ (s : Sheet) (p q : ℕ) where
+  same-repeats : SameList s p q contentList → repeats s programmes p contentList ≡ repeats s programmes q contentList
   unfolding repeats entry
-  same-repeats = rw (same .0, same .1) refl
+  same-repeats same = rw (same .0, same .1) refl
 
-  same-21 : rule21 s programmes p ≡ rule21 s programmes q
+  same-21 : SameList s p q contentList → rule21 s programmes p ≡ rule21 s programmes q
   unfolding rule21 whollyIncluded included includes entry
-  same-21 = rw (same .0, same .1) refl
+  same-21 same = rw (same .0, same .1) refl
 
-  module _ (also : SameList s p q setList) where
-    same-22 : rule22 s programmes p ≡ rule22 s programmes q
-    unfolding rule22 whollyIncluded included includes setsNamed namesSet ownerAt namedSet entry
-    same-22 = rw (same .0, same .1, also .0, also .1) refl
+  same-22 : SameList s p q contentList → SameList s p q setList → rule22 s programmes p ≡ rule22 s programmes q
+  unfolding rule22 whollyIncluded included includes setsNamed namesSet ownerAt namedSet entry
+  same-22 same also = rw (same .0, same .1, also .0, also .1) refl
 
-  pub same-kept : (both : Bool) → (both ≡ true → SameList s p q setList) → ProgrammeKept s both q → ProgrammeKept s both p
-  same-kept both also kept = (same-repeats ∙ kept .0, same-21 ∙ kept .1, λ e. same-22 (also e) ∙ kept .2 e)
+  pub same-kept : (both : Bool) → sameLists s both p q ≡ true → ProgrammeKept s both q → ProgrammeKept s both p
+  unfolding sameLists
+  same-kept both e kept =
+      let lists = and-both (sameList s p q contentList) (not both || sameList s p q setList) e in
+      let same = same-words s p q contentList (lists .0) in
+      (same-repeats same ∙ kept .0, same-21 same ∙ kept .1, λ b. same-22 same (same-words s p q setList (rw b at (lists .1))) ∙ kept .2 b)

@@ -5,4 +5,3 @@ mod LeaderLaws
 mod MemberLaws
 mod PassLaws
 mod RowLaws
-mod StepLaws

@@ -21,41 +21,29 @@ use tables::Naming;
 use tables::marks::clear;
 use tables::marks::first_namers;
 use tables::marks::mark_items;
-ghost use Prim.Native.Nat.{_+_, _-_, _<_};
+ghost use Prim.Native.Nat.{_+_, _<_};
 ghost use lib.ListN.{length};
 ghost use mathlib.Core.Bool.{true};
 ghost use mathlib.Core.Path.{_≡_};
 ghost use Rattle.grouping.specs.steps.Groups.{GroupsGround, KeptTo, ProgrammesKept};
-ghost use Rattle.grouping.specs.steps.Passing.{Begins, KeptFrom, SameList};
-ghost use Rattle.sheet.specs.Fields.{contentList, setList};
+ghost use Rattle.grouping.specs.steps.Passing.{Begins, KeptFrom, sameList, sameLists};
 ghost use Rattle.sheet.specs.Words.{sheetOf};
 ghost use Rattle.tables.specs.steps.Right.{Owners};
 
-// Whether a programme has the same list at a position as the one before it.
-fn same_list(s: &[u8], p: u16, at: u8) -> bool
+// Whether two programmes have the same list at a position.
+fn same_list(s: &[u8], p: u16, q: u16, at: u8) -> bool
     requires { ⌜ at < 8 ⌝ }
-    ensures { λ r. ⌜ (r ≡ true → (0 < p) × SameList (sheetOf (now (s .entry))) p (p - 1) at) ⌝ }
+    ensures { λ r. ⌜ r ≡ sameList (sheetOf (now (s .entry))) p q at ⌝ }
 {
-    if p == 0 {
-        return false;
-    }
-    if field(s, PROGRAMMES, p, at) != field(s, PROGRAMMES, p - 1, at) {
-        return false;
-    }
-    number(s, PROGRAMMES, p, at) == number(s, PROGRAMMES, p - 1, at)
+    (field(s, PROGRAMMES, p, at) == field(s, PROGRAMMES, q, at))
+        & (number(s, PROGRAMMES, p, at) == number(s, PROGRAMMES, q, at))
 }
 
-// Whether it has the same contents and, with `both`, the same sets.
-fn same_lists(s: &[u8], both: bool, p: u16) -> bool
-    ensures { λ r. ⌜ (r ≡ true → (0 < p) × SameList (sheetOf (now (s .entry))) p (p - 1) contentList × (both ≡ true → SameList (sheetOf (now (s .entry))) p (p - 1) setList)) ⌝ }
+// Whether they have the same contents and, with `both`, the same sets.
+fn same_lists(s: &[u8], both: bool, p: u16, q: u16) -> bool
+    ensures { λ r. ⌜ r ≡ sameLists (sheetOf (now (s .entry))) both p q ⌝ }
 {
-    if !same_list(s, p, CONTENT_LIST) {
-        return false;
-    }
-    if !both {
-        return true;
-    }
-    same_list(s, p, SET_LIST)
+    same_list(s, p, q, CONTENT_LIST) & (!both | same_list(s, p, q, SET_LIST))
 }
 
 // The first programme after p that has not the lists of the one before it, n where there is none: up to there all keep what p keeps.
@@ -65,7 +53,7 @@ fn next_other(s: &[u8], both: bool, p: u16, n: u16) -> u16
 {
     let mut q: u16 = p + 1;
     while q < n {
-        if !same_lists(s, both, q) {
+        if !same_lists(s, both, q, q - 1) {
             return q;
         }
         q += 1;
@@ -73,6 +61,7 @@ fn next_other(s: &[u8], both: bool, p: u16, n: u16) -> u16
     q
 }
 
+// Where sections 6, 2 and 7 begin.
 fn section_offsets(s: &[u8]) -> SectionOffsets
     ensures { λ r. ⌜ Begins (sheetOf (now (s .entry))) r ⌝ }
 {
@@ -166,8 +155,8 @@ fn short_lists(s: &[u8]) -> bool {
     entries / (n as u32) < o as u32 / 32
 }
 
-// The same in tables with a place for each object: by the leaders where the content lists are short, else by the rows. The first two
-// serve as what the way asks for.
+// The same in tables with a place for each object: by the leaders where the content lists are short, else by the rows. Which way it is
+// decides what the first two tables hold.
 pub fn kept_from(
     s: &[u8],
     wanted: Wanted,

@@ -1,12 +1,13 @@
 -- What the pass is given, and what it leaves. Assumes nothing.
 use Prim.Native.Nat.{ℕ}
 use mathlib.Core.Path.{_≡_}
-use mathlib.Core.Bool.{Bool, true, false}
+use mathlib.Core.Bool.{Bool, true, false, not, _&&_, _||_}
 use mathlib.Core.List.{List}
+use lib.Dec.{eqb}
 use lib.ListN.{length, getD}
 use Rattle.sheet.specs.Words.{Sheet}
 use Rattle.sheet.specs.Layout.{count, offset, field, number}
-use Rattle.sheet.specs.Fields.{programmes, contents, objects, references, valueSets}
+use Rattle.sheet.specs.Fields.{programmes, contents, objects, references, valueSets, contentList, setList}
 use Rattle.profile.specs.Rules.{setsDiffer}
 use Rattle.tables.specs.steps.Right.{Owners, told}
 use Rattle.grouping.specs.declared.SectionOffsets.{SectionOffsets}
@@ -33,9 +34,13 @@ Passing s both owners alike = Owners s owners × Alike s alike × (both ≡ true
 abbrev pub Full : Sheet → List ℕ → List ℕ → List ℕ → Type 0
 Full s t u v = (length t ≡ count s objects) × (length u ≡ count s objects) × (length v ≡ count s objects)
 
--- a programme has the same list at a position as another
-abbrev pub SameList : Sheet → ℕ → ℕ → ℕ → Type 0
-SameList s p q at = (field s programmes p at ≡ field s programmes q at) × (number s programmes p at ≡ number s programmes q at)
+-- two programmes have the same list at a position
+unfoldable pub sameList : Sheet → ℕ → ℕ → ℕ → Bool
+sameList s p q at = eqb (field s programmes p at) (field s programmes q at) && eqb (number s programmes p at) (number s programmes q at)
+
+-- the same contents and, with both, the same sets
+unfoldable pub sameLists : Sheet → Bool → ℕ → ℕ → Bool
+sameLists s both p q = sameList s p q contentList && (not both || sameList s p q setList)
 
 -- With three tables that keep their lengths: where they have a place for each object, and the programmes before the first that is tested
 -- are kept, those before r are.

@@ -23,13 +23,7 @@ returns-2 c =
     let marks = c .before .before .before .before .enter-objects in (
       marks .ensures .0,
       λ e at owns.
-          record {
-            marked = marks .last .1 .1 .1 .0;
-            long = marks .ensures .0;
-            objects = marks .ensures .1 (not-false _ (c .before .if1 .left)) at;
-            sets = λ f. absurd (true≢false (sym (c .if2 .taken) ∙ ap not f));
-            alone = λ f. refl;
-          },
+          record { marked = marks .last .1 .1 .1 .0; long = marks .ensures .0; objects = marks .ensures .1 (not-false _ (c .before .if1 .left)) at; sets = λ f. absurd (true≢false (sym (c .if2 .taken) ∙ ap not f)); alone = λ f. refl },
     )
 
 enter-sets-requires : tie.Need-enter-sets-requires
@@ -43,13 +37,7 @@ returns-3 c =
     let marks = c .before .before .before .before .before .before .before .before .enter-objects in let noted = c .before .before .enter-sets in (
       noted .ensures .0 ∙ marks .ensures .0,
       λ e at owns.
-          record {
-            marked = marks .last .1 .1 .1 .0;
-            long = marks .ensures .0;
-            objects = marks .ensures .1 (not-false _ (c .before .before .before .before .before .if1 .left)) at;
-            sets = λ f. (noted .ensures .0, noted .ensures .1 e at owns);
-            alone = λ f. absurd (true≢false (sym (not-false _ (c .before .before .before .before .if2 .left)) ∙ f));
-          },
+          record { marked = marks .last .1 .1 .1 .0; long = marks .ensures .0; objects = marks .ensures .1 (not-false _ (c .before .before .before .before .before .if1 .left)) at; sets = λ f. (noted .ensures .0, noted .ensures .1 e at owns); alone = λ f. absurd (true≢false (sym (not-false _ (c .before .before .before .before .if2 .left)) ∙ f)) },
     )
 
 pub enter-spec : {M : Type 1} → statement M

@@ -34,12 +34,7 @@ loop-less c = search needs
 
 loop-again : tie.Need-loop-again Inv-loop μ-loop
 loop-again c =
-    let here = c .before .before .before .before .before .before .before .before .loop in let rows = c .before .before .before .before .add-rows in (
-      search needs,
-      rows .ensures .0 ∙ here .inv .1,
-      rows .ensures .1 ∙ here .inv .2,
-      λ few. let more = rows .ensures .2 few in more .1 (here .inv .3 (more .0)),
-    )
+    let here = c .before .before .before .before .before .before .before .before .loop in let rows = c .before .before .before .before .add-rows in (search needs, rows .ensures .0 ∙ here .inv .1, rows .ensures .1 ∙ here .inv .2, λ few. let more = rows .ensures .2 few in more .1 (here .inv .3 (more .0)))
 
 same-length : tie.Need-same-length Inv-loop μ-loop
 same-length c = c .before .loop .inv .1

@@ -13,7 +13,7 @@ use Rattle.tables.specs.steps.Right.{Leaders}
 use Rattle.grouping.specs.steps.Groups.{GroupsApart, KeptTo}
 use Rattle.grouping.specs.steps.Passing.{Passing}
 use Rattle.grouping.specs.steps.Leaders.{Ready}
-use Rattle.grouping.proofs.StepLaws.{led-more, led-ready}
+use Rattle.grouping.proofs.LeaderLaws.{led-more, led-ready}
 use borrow.Author.Needs.{needs}
 use Rattle.grouping.proofs.programmes.leaders_from.Statement.{statement}
 use Rattle.grouping.proofs.programmes.leaders_from.Tie as tie
@@ -59,11 +59,12 @@ same-length-3 c = c .before .before .before .enter .ensures .0 ∙ c .before .be
 
 returns : tie.Need-returns Inv-loop μ-loop
 returns c =
+    let l = c .before .before .before .before .before .before in
     record {
-      first = c .before .before .before .before .before .before .before .before .before .before .before .before .before .before .before .before .before .before .first-namers .ensures .0 ∙ c .before .before .before .before .before .before .before .before .before .before .before .before .before .before .before .before .before .before .before .before .before .before .clear .ensures .0;
-      second = c .before .before .before .before .before .before .loop .inv .0 ∙ c .before .before .before .before .before .before .before .before .before .before .before .before .before .before .clear2 .ensures .0;
-      third = c .before .before .before .enter .ensures .0 ∙ c .before .before .before .before .before .before .loop .inv .1 ∙ c .before .before .before .before .before .before .before .before .before .before .clear3 .ensures .0;
-      kept = λ pass full apart before. c .before .before .before .before .before .before .loop .inv .2 pass apart (c .before .before .before .before .before .before .before .before .before .before .before .before .before .before .clear2 .ensures .0 ∙ full .1) (c .before .before .before .before .before .before .before .before .before .before .clear3 .ensures .0 ∙ full .2) before .1;
+      first = l .before .before .before .before .before .before .before .before .before .before .before .before .first-namers .ensures .0 ∙ l .before .before .before .before .before .before .before .before .before .before .before .before .before .before .before .before .clear .ensures .0;
+      second = l .loop .inv .0 ∙ l .before .before .before .before .before .before .before .before .clear2 .ensures .0;
+      third = c .before .before .before .enter .ensures .0 ∙ l .loop .inv .1 ∙ l .before .before .before .before .clear3 .ensures .0;
+      kept = λ pass full apart before. l .loop .inv .2 pass apart (l .before .before .before .before .before .before .before .before .clear2 .ensures .0 ∙ full .1) (l .before .before .before .before .clear3 .ensures .0 ∙ full .2) before .1;
     }
 
 groups-asked-requires : tie.Need-groups-asked-requires Inv-loop μ-loop
@@ -80,11 +81,12 @@ same-length-6 c = c .before .before .before .before .before .before .before .bef
 
 returns-2 : tie.Need-returns-2 Inv-loop μ-loop
 returns-2 c =
+    let l = c .before .before .before .before .before .before .before .before .before .before .before .before .before in
     record {
-      first = c .before .before .before .before .before .before .before .before .before .before .before .before .before .before .before .before .before .before .before .before .before .before .before .before .before .first-namers .ensures .0 ∙ c .before .before .before .before .before .before .before .before .before .before .before .before .before .before .before .before .before .before .before .before .before .before .before .before .before .before .before .before .before .clear .ensures .0;
-      second = c .before .before .before .groups-asked .ensures .0 ∙ c .before .before .before .before .before .before .before .before .before .before .before .before .before .loop .inv .0 ∙ c .before .before .before .before .before .before .before .before .before .before .before .before .before .before .before .before .before .before .before .before .before .clear2 .ensures .0;
-      third = c .before .before .before .before .before .before .before .before .before .before .enter .ensures .0 ∙ c .before .before .before .before .before .before .before .before .before .before .before .before .before .loop .inv .1 ∙ c .before .before .before .before .before .before .before .before .before .before .before .before .before .before .before .before .before .clear3 .ensures .0;
-      kept = λ pass full apart before. c .before .before .before .before .before .before .before .before .before .before .before .before .before .loop .inv .2 pass apart (c .before .before .before .before .before .before .before .before .before .before .before .before .before .before .before .before .before .before .before .before .before .clear2 .ensures .0 ∙ full .1) (c .before .before .before .before .before .before .before .before .before .before .before .before .before .before .before .before .before .clear3 .ensures .0 ∙ full .2) before .1;
+      first = l .before .before .before .before .before .before .before .before .before .before .before .before .first-namers .ensures .0 ∙ l .before .before .before .before .before .before .before .before .before .before .before .before .before .before .before .before .clear .ensures .0;
+      second = c .before .before .before .groups-asked .ensures .0 ∙ l .loop .inv .0 ∙ l .before .before .before .before .before .before .before .before .clear2 .ensures .0;
+      third = c .before .before .before .before .before .before .before .before .before .before .enter .ensures .0 ∙ l .loop .inv .1 ∙ l .before .before .before .before .clear3 .ensures .0;
+      kept = λ pass full apart before. l .loop .inv .2 pass apart (l .before .before .before .before .before .before .before .before .clear2 .ensures .0 ∙ full .1) (l .before .before .before .before .clear3 .ensures .0 ∙ full .2) before .1;
     }
 
 mark-items-requires : tie.Need-mark-items-requires Inv-loop μ-loop
@@ -108,8 +110,8 @@ loop-again c =
       cleared .ensures .0 ∙ enter .ensures .0 ∙ here .inv .1,
       λ pass apart full full₂ before.
           let so = here .inv .2 pass apart full full₂ before in let entered = enter .ensures .1 (not-false _ (c .before .before .before .before .before .before .before .before .before .before .before .before .if1 .left)) at (pass .0) in let groups = asked .ensures .1 (not-false _ (c .before .before .before .before .before .if2 .left)) at led in (
-            led-ready (sheetOf (a .s .now)) (a .wanted .both) (a .owners .now) (a .alike .now) (here .p) (here .included) (enter .last .1 .1 .1 .1 .1 .1 .0) pass entered (here .groups) (asked .last .1 .1 .1 .1 .1 .0) (so .0) groups (asked .ensures .0) (c .next-other .result) (cleared .last .1 .1 .1 .1 .0) (c .next-other .ensures .0) (enter .ensures .0) (cleared .ensures .0) (cleared .ensures .1),
-            c .next-other .ensures .1 (led-more (sheetOf (a .s .now)) (a .wanted .both) (a .owners .now) (a .alike .now) (here .p) (here .included) (enter .last .1 .1 .1 .1 .1 .1 .0) pass entered (here .groups) (asked .last .1 .1 .1 .1 .1 .0) (so .0) groups (asked .ensures .0) apart (so .1)),
+            led-ready (sheetOf (a .s .now)) (a .wanted .both) (a .owners .now) (a .alike .now) (here .p) (here .included) (enter .last .1 .1 .1 .1 .1 .1 .0) (here .groups) (asked .last .1 .1 .1 .1 .1 .0) pass entered (so .0) groups (asked .ensures .0) (c .next-other .result) (cleared .last .1 .1 .1 .1 .0) (c .next-other .ensures .0) (enter .ensures .0) (cleared .ensures .0) (cleared .ensures .1),
+            c .next-other .ensures .1 (led-more (sheetOf (a .s .now)) (a .wanted .both) (a .owners .now) (a .alike .now) (here .p) (here .included) (enter .last .1 .1 .1 .1 .1 .1 .0) (here .groups) (asked .last .1 .1 .1 .1 .1 .0) pass entered (so .0) groups (asked .ensures .0) apart (so .1)),
           ),
     )
 
@@ -124,11 +126,12 @@ same-length-9 c = c .before .loop .inv .1 ∙ c .before .before .before .before 
 
 returns-3 : tie.Need-returns-3 Inv-loop μ-loop
 returns-3 c =
+    let l = c .before in
     record {
-      first = c .before .before .before .before .before .before .before .before .before .before .before .before .before .first-namers .ensures .0 ∙ c .before .before .before .before .before .before .before .before .before .before .before .before .before .before .before .before .before .clear .ensures .0;
-      second = c .before .loop .inv .0 ∙ c .before .before .before .before .before .before .before .before .before .clear2 .ensures .0;
-      third = c .before .loop .inv .1 ∙ c .before .before .before .before .before .clear3 .ensures .0;
-      kept = λ pass full apart before. c .before .loop .inv .2 pass apart (c .before .before .before .before .before .before .before .before .before .clear2 .ensures .0 ∙ full .1) (c .before .before .before .before .before .clear3 .ensures .0 ∙ full .2) before .1;
+      first = l .before .before .before .before .before .before .before .before .before .before .before .before .first-namers .ensures .0 ∙ l .before .before .before .before .before .before .before .before .before .before .before .before .before .before .before .before .clear .ensures .0;
+      second = l .loop .inv .0 ∙ l .before .before .before .before .before .before .before .before .clear2 .ensures .0;
+      third = l .loop .inv .1 ∙ l .before .before .before .before .clear3 .ensures .0;
+      kept = λ pass full apart before. l .loop .inv .2 pass apart (l .before .before .before .before .before .before .before .before .clear2 .ensures .0 ∙ full .1) (l .before .before .before .before .clear3 .ensures .0 ∙ full .2) before .1;
     }
 
 pub leaders-from-spec : {M : Type 1} → statement M

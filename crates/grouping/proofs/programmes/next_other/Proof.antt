@@ -1,5 +1,6 @@
 -- The programmes passed have the lists of the one before them. Assumes nothing.
 use Prim.Native.Nat.{_+_, _-_, _<_}
+use mathlib.Core.Path.{sym, _∙_}
 use borrow.Author.Tests.{not-false}
 use native.Mathlib.Omega.{arith}
 use borrow.Author.Count.{below-more}
@@ -22,6 +23,9 @@ add-q c = search needs
 loop-holds : tie.Need-loop-holds Inv-loop μ-loop
 loop-holds c = (search needs, λ before. before)
 
+sub-same-lists : tie.Need-sub-same-lists Inv-loop μ-loop
+sub-same-lists c = search needs
+
 same-lists-requires : tie.Need-same-lists-requires Inv-loop μ-loop
 same-lists-requires c κs = search needs
 
@@ -36,12 +40,12 @@ loop-less c = search needs
 
 loop-again : tie.Need-loop-again Inv-loop μ-loop
 loop-again c =
-    let a = c .before .before .before .before .before .args in let here = c .before .before .before .loop in let same = c .before .same-lists .ensures (not-false _ (c .if1 .left)) in (
+    let a = c .before .before .before .before .before .args in let here = c .before .before .before .loop in (
       search needs,
       λ before.
           let so = here .inv .1 before in
           below-more (ProgrammeKept (sheetOf (a .s .now)) (a .both)) (here .q) so
-          (same-kept (sheetOf (a .s .now)) (here .q) (here .q - 1) (same .1) (a .both) (same .2) (so (here .q - 1) (omega (arith, here .inv .0)))),
+          (same-kept (sheetOf (a .s .now)) (here .q) (here .q - 1) (a .both) (sym (c .before .same-lists .ensures) ∙ not-false _ (c .if1 .left)) (so (here .q - 1) (omega (arith, here .inv .0)))),
     )
 
 returns-2 : tie.Need-returns-2 Inv-loop μ-loop
@@ -55,6 +59,7 @@ next-other-spec =
     μ-loop
     add-q
     loop-holds
+    sub-same-lists
     same-lists-requires
     returns
     add-q-2

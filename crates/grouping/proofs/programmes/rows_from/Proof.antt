@@ -9,7 +9,7 @@ use Rattle.sheet.specs.Layout.{count}
 use Rattle.sheet.specs.Fields.{objects}
 use Rattle.grouping.specs.steps.Groups.{KeptTo}
 use Rattle.grouping.specs.steps.Passing.{Passing}
-use Rattle.grouping.proofs.StepLaws.{programme-more}
+use Rattle.grouping.proofs.KeptLaws.{programme-more}
 use borrow.Author.Needs.{needs}
 use Rattle.grouping.proofs.programmes.rows_from.Statement.{statement}
 use Rattle.grouping.proofs.programmes.rows_from.Tie as tie
