@@ -1,4 +1,5 @@
 // Rules 21 and 22 for large sheets: how many programmes from the first on can be seen to keep them, in passes over the programmes.
+use grouping::Wanted;
 use grouping::alike::fill_alike;
 use grouping::programmes::kept_from;
 use sheet::fields::COMPLEMENT_LIST;
@@ -60,24 +61,28 @@ pub fn grouped_programmes(s: &[u8], from: u16) -> u16
     if 2048 < m {
         return from;
     }
-    let mut list: [u16; 2048] = [0; 2048];
-    let mut partners: [u16; 2048] = [0; 2048];
+    let mut first: [u16; 2048] = [0; 2048];
+    let mut second: [u16; 2048] = [0; 2048];
     let mut included: [u16; 2048] = [0; 2048];
     let none: [u16; 1] = [0];
     let t = &none[..0];
+    let wanted = Wanted {
+        from: from,
+        both: false,
+    };
     kept_from(
         s,
+        wanted,
         t,
         t,
-        false,
-        from,
-        &mut list[..m],
-        &mut partners[..m],
+        &mut first[..m],
+        &mut second[..m],
         &mut included[..m],
     )
 }
 
-// How many can be seen to keep both rules, in one pass for the two.
+// How many can be seen to keep both rules, in one pass for the two. The leaders serve to find sets that are alike; then their table is one
+// of those that the pass writes.
 pub fn kept_programmes(s: &[u8]) -> u16
     ensures { λ r. ⌜ (GroupsApart (sheetOf (now (s .entry))) → KeptBelow (sheetOf (now (s .entry))) r) ⌝ }
 {
@@ -94,16 +99,19 @@ pub fn kept_programmes(s: &[u8]) -> u16
     first_namers(s, Naming::Complements, &mut leaders);
     let mut alike: [u16; 4680] = [0; 4680];
     fill_alike(s, &owners, &leaders, &mut alike);
-    let mut partners: [u16; 2048] = [0; 2048];
+    let mut second: [u16; 2048] = [0; 2048];
     let mut included: [u16; 2048] = [0; 2048];
+    let wanted = Wanted {
+        from: 0,
+        both: true,
+    };
     kept_from(
         s,
+        wanted,
         &owners,
         &alike,
-        true,
-        0,
         &mut leaders[..m],
-        &mut partners[..m],
+        &mut second[..m],
         &mut included[..m],
     )
 }

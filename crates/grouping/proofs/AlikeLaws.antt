@@ -11,7 +11,7 @@ use Rattle.sheet.specs.Words.{Sheet}
 use Rattle.profile.specs.Rules.{setsDiffer}
 use Rattle.tables.specs.steps.Marks.{Standing}
 use Rattle.tables.specs.steps.Right.{told}
-use Rattle.grouping.specs.steps.Groups.{Alike, representative}
+use Rattle.grouping.specs.steps.Passing.{Alike, representative}
 use Rattle.grouping.proofs.PassLaws.{past, sets-own}
 
 -- one more than a number tells it

@@ -5,6 +5,7 @@ use mathlib.Core.Bool.{Bool, true, false, true≢false, cond, not, _&&_, _||_}
 use mathlib.Core.List.{List}
 use mathlib.Core.Logic.{⊎-elim}
 use native.Mathlib.Omega.{arith}
+use borrow.Author.Count.{below-more}
 use borrow.Author.Tests.{eqb-true, eq-eqb, ne-eqb, leb-true, lt-leb, ltb-true, ltb-false, lt-ltb, not-false}
 use lib.Dec.{eqb, leb, ltb}
 use lib.ListN.{length, getD}
@@ -14,12 +15,14 @@ use Rattle.sheet.specs.Fields.{programmes, contents, objects, valueSets, conten
 use Rattle.profile.specs.Counting.{any, howMany, twoOf}
 use Rattle.profile.specs.Relations.{leader, complement, member, members, leaderOf, includes, included, whollyIncluded, hasSet, owner, namedSet, namesSet}
 use Rattle.profile.specs.Rules.{repeats, rule11, rule21, rule22, ownerAt, setsNamed, setsDiffer}
-use Rattle.profile.proofs.BoolLaws.{or-false, or-either, and-both}
-use Rattle.profile.proofs.CountingLaws.{any-none, any-howMany}
+use Rattle.profile.proofs.BoolLaws.{or-either, and-both}
+use Rattle.profile.proofs.CountingLaws.{any-none}
 use Rattle.profile.proofs.GroupLaws.{any-witness, own-leader, leader-lists, member-zero, member-at, no-leader}
 use Rattle.profile.proofs.SumLaws.{any-nowhere, howMany-eq, howMany-all}
 use Rattle.tables.specs.steps.Marks.{Standing}
-use Rattle.grouping.specs.steps.Groups.{Changed, Entered, GroupKept, Kept, Noted, OneSpan, SameList, groupWhole, manyIn, objectAt, setsIn}
+use Rattle.grouping.specs.steps.Entering.{Changed, Entered, Noted, objectAt}
+use Rattle.grouping.specs.steps.Groups.{GroupKept, KeptTo, OneSpan, ProgrammeKept, groupWhole, manyIn, setsIn}
+use Rattle.grouping.specs.steps.Passing.{Alike, Passing, representative, sameList, sameLists}
 use Rattle.grouping.proofs.CountLaws.{Apart, any-eq, two-counted}
 use Rattle.grouping.proofs.MemberLaws.{one-owner}
 use Rattle.grouping.proofs.PassLaws.{past, sets-alike}
@@ -304,45 +307,69 @@ module _ (s : Sheet) (p : ℕ) (t₀ t₁ t₂ : List ℕ) (put : ℕ → ℕ) (
       none-differ
 
 -- a programme that is entered
-module _ (s : Sheet) (p : ℕ) (both : Bool) (put : ℕ → ℕ) (t₀ t₂ : List ℕ) (noughts : Standing (λ x. 0) t₀) (entered : Entered s p both put t₀ t₂) where
+module _ (s : Sheet) (p : ℕ) (both : Bool) (alike t₀ t₂ : List ℕ) (noughts : Standing (λ x. 0) t₀) (entered : Entered s both alike p t₀ t₂) where
+  abbrev put : ℕ → ℕ
+  put j = representative alike (namedSet s p j)
+
   -- no two of its contents have one object
   pub entries-apart : Apart (objectAt s p) (number s programmes p contentList)
-  entries-apart = entered .2 .2
+  entries-apart = entered .objects .2
 
   -- the table tells what it includes
   pub tells-entered : (x : ℕ) → includes s p x ≡ not (eqb (getD t₂ x 0) 0)
   tells-entered =
       (elim both as (λ b. both ≡ b → (x : ℕ) → includes s p x ≡ not (eqb (getD t₂ x 0) 0)) [
-        | true ↦ λ e. tells-included s p t₀ (entered .0) t₂ put (number s programmes p setList) noughts (entered .1) (entered .3 e .0) (entered .2) (entered .3 e .1)
+        | true ↦ λ e.
+            let sets = entered .sets e in
+            tells-included s p t₀ (entered .marked) t₂ put (number s programmes p setList) noughts (entered .long) (sets .0) (entered .objects) (sets .1 .noted)
         | false ↦ λ e.
-            subst (λ (t : List ℕ). (x : ℕ) → includes s p x ≡ not (eqb (getD t x 0) 0)) (sym (entered .4 e))
-            (tells-included s p t₀ (entered .0) (entered .0) put 0 noughts (entered .1) refl (entered .2)
+            subst (λ (t : List ℕ). (x : ℕ) → includes s p x ≡ not (eqb (getD t x 0) 0)) (sym (entered .alone e))
+            (tells-included s p t₀ (entered .marked) (entered .marked) put 0 noughts (entered .long) refl (entered .objects)
             (λ k l. absurd (omega arith), λ k l. absurd (omega arith), λ k l. absurd (omega arith), λ k l. absurd (omega arith), λ x l none. refl))
       ]) refl
 
   -- and it keeps the rules where the groups are kept
-  pub entered-kept : length t₀ ≡ count s objects → (both ≡ true → OneSpan s) → ((j : ℕ) → setsDiffer s (put j) (namedSet s p j) ≡ false)
-      → ((l : ℕ) → l < count s objects → GroupKept s t₂ l) → Kept s both p
+  pub entered-kept : length t₀ ≡ count s objects → (both ≡ true → OneSpan s) → Alike s alike → ((l : ℕ) → l < count s objects → GroupKept s t₂ l) → ProgrammeKept s both p
   entered-kept full spans same kept = (
     no-repeat s p entries-apart,
     keeps-21 s p t₂ tells-entered kept,
-    λ e. let noted = entered .3 e in keeps-22 s p t₀ (entered .0) t₂ put noughts (entered .1) (noted .0) (entered .2) (noted .1) full (spans e) (noted .2) (λ j l. same j) kept,
+    λ e.
+        let sets = entered .sets e in
+        keeps-22 s p t₀ (entered .marked) t₂ put noughts (entered .long) (sets .0) (entered .objects) (sets .1 .noted) full (spans e) (sets .1 .inside) (λ j l. same (namedSet s p j)) kept,
   )
 
+-- a programme more
+pub programme-more : (s : Sheet) (both : Bool) (owners alike : List ℕ) (p : ℕ) (t t′ : List ℕ) → Passing s both owners alike → Entered s both alike p t t′ → Standing (λ x. 0) t → length t ≡ count s objects
+    → ((l : ℕ) → l < count s objects → GroupKept s t′ l) → KeptTo s both p → KeptTo s both (p + 1)
+programme-more s both owners alike p t t′ pass entered noughts full kept before = below-more (ProgrammeKept s both) p before (entered-kept s p both alike t t′ noughts entered full (pass .2) (pass .1) kept)
+
+-- the two words of a list
+abbrev SameList : Sheet → ℕ → ℕ → ℕ → Type 0
+SameList s p q at = (field s programmes p at ≡ field s programmes q at) × (number s programmes p at ≡ number s programmes q at)
+
+same-words : (s : Sheet) (p q at : ℕ) → sameList s p q at ≡ true → SameList s p q at
+unfolding sameList
+same-words s p q at e =
+    let both = and-both (eqb (field s programmes p at) (field s programmes q at)) (eqb (number s programmes p at) (number s programmes q at)) e in
+    (eqb-true (field s programmes p at) (field s programmes q at) (both .0), eqb-true (number s programmes p at) (number s programmes q at) (both .1))
+
 -- a programme with the lists of another keeps what that keeps
-module _ (s : Sheet) (p q : ℕ) (same : SameList s p q contentList) where
-  same-repeats : repeats s programmes p contentList ≡ repeats s programmes q contentList
+module _ (s : Sheet) (p q : ℕ) where
+  same-repeats : SameList s p q contentList → repeats s programmes p contentList ≡ repeats s programmes q contentList
   unfolding repeats entry
-  same-repeats = rw (same .0, same .1) refl
+  same-repeats same = rw (same .0, same .1) refl
 
-  same-21 : rule21 s programmes p ≡ rule21 s programmes q
+  same-21 : SameList s p q contentList → rule21 s programmes p ≡ rule21 s programmes q
   unfolding rule21 whollyIncluded included includes entry
-  same-21 = rw (same .0, same .1) refl
+  same-21 same = rw (same .0, same .1) refl
 
-  module _ (also : SameList s p q setList) where
-    same-22 : rule22 s programmes p ≡ rule22 s programmes q
-    unfolding rule22 whollyIncluded included includes setsNamed namesSet ownerAt namedSet entry
-    same-22 = rw (same .0, same .1, also .0, also .1) refl
+  same-22 : SameList s p q contentList → SameList s p q setList → rule22 s programmes p ≡ rule22 s programmes q
+  unfolding rule22 whollyIncluded included includes setsNamed namesSet ownerAt namedSet entry
+  same-22 same also = rw (same .0, same .1, also .0, also .1) refl
 
-  pub same-kept : (both : Bool) → (both ≡ true → SameList s p q setList) → Kept s both q → Kept s both p
-  same-kept both also kept = (same-repeats ∙ kept .0, same-21 ∙ kept .1, λ e. same-22 (also e) ∙ kept .2 e)
+  pub same-kept : (both : Bool) → sameLists s both p q ≡ true → ProgrammeKept s both q → ProgrammeKept s both p
+  unfolding sameLists
+  same-kept both e kept =
+      let lists = and-both (sameList s p q contentList) (not both || sameList s p q setList) e in
+      let same = same-words s p q contentList (lists .0) in
+      (same-repeats same ∙ kept .0, same-21 same ∙ kept .1, λ b. same-22 same (same-words s p q setList (rw b at (lists .1))) ∙ kept .2 b)

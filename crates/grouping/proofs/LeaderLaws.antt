@@ -1,18 +1,18 @@
 -- Groups by the leaders of a programme's objects. Assumes nothing.
-use Prim.Native.Nat.{ℕ, zero, suc, _+_, _-_, _<_, _≤_}
+use Prim.Native.Nat.{ℕ, zero, suc, _+_, _-_, _*_, _<_, _≤_}
 use mathlib.Core.Path.{_≡_, refl, sym, ap, subst, _∙_}
-use mathlib.Core.Bool.{Bool, true, false, true≢false, cond, not, _&&_, _||_}
+use mathlib.Core.Bool.{Bool, true, false, cond, not, _&&_, _||_}
 use mathlib.Core.List.{List}
-use mathlib.Core.Logic.{_⊎_, ⊎-elim, inl, inr}
+use mathlib.Core.Logic.{_⊎_, ⊎-elim}
 use native.Mathlib.Omega.{arith}
 use native.Mathlib.Numerals.{add-one}
 use borrow.Author.Tests.{eqb-true, eqb-false, eq-eqb, ne-eqb, le-leb, ltb-true, ltb-false, not-false}
-use lib.Dec.{eqb, leb, ltb}
+use lib.Dec.{eqb, ltb}
 use lib.ListN.{length, getD}
 use Rattle.sheet.specs.Words.{Sheet}
 use Rattle.sheet.specs.Layout.{count, number}
 use Rattle.sheet.specs.Fields.{programmes, objects, contentList, complementList}
-use Rattle.profile.specs.Counting.{any, howMany}
+use Rattle.profile.specs.Counting.{howMany}
 use Rattle.profile.specs.Relations.{leader, leaderOf, member, members, includes}
 use Rattle.profile.specs.Rules.{setsDiffer}
 use Rattle.profile.proofs.GroupLaws.{member-zero}
@@ -22,8 +22,12 @@ use Rattle.tables.specs.declared.Mark.the-variants.{Store}
 use Rattle.tables.specs.steps.Marks.{Standing, marked, repeat, timesBy}
 use Rattle.tables.proofs.MarkLaws.{repeat-store}
 use Rattle.tables.proofs.TableLaws.{included-marked}
-use Rattle.grouping.specs.steps.Groups.{Asked, AskedFor, GroupKept, GroupsApart, UpTo, groupAt, groupWhole, manyIn, objectAt, setsIn}
+use Rattle.grouping.specs.steps.Leaders.{AllAsked, Asked, AskedFor, Ready, UpTo, groupAt}
+use Rattle.grouping.specs.steps.Groups.{GroupKept, GroupsApart, KeptTo, groupWhole, manyIn, setsIn}
+use Rattle.grouping.specs.steps.Entering.{Entered, objectAt}
+use Rattle.grouping.specs.steps.Passing.{Passing}
 use Rattle.grouping.proofs.CountLaws.{Apart, two-counted}
+use Rattle.grouping.proofs.KeptLaws.{entries-apart, programme-more, tells-entered}
 use Rattle.grouping.proofs.MemberLaws.{group-count}
 use Rattle.grouping.proofs.PassLaws.{past, sets-own}
 
@@ -179,3 +183,18 @@ module _ (s : Sheet) (p : ℕ) (t t′ : List ℕ) (long : length t′ ≡ lengt
 pub group-entry : (s : Sheet) (p i l o : ℕ) → l ≡ leaderOf s o → o ≡ objectAt s p i → l ≡ groupAt s p i
 unfolding groupAt
 group-entry s p i l o a b = a ∙ ap (leaderOf s) b
+
+-- a programme more, by groups that were asked for, after which the marks of the objects are taken back
+module _ (s : Sheet) (both : Bool) (owners alike : List ℕ) (p : ℕ) (t t′ h h′ : List ℕ) (pass : Passing s both owners alike) (entered : Entered s both alike p t t′) (ready : Ready s p t h)
+    (asked : AllAsked s p t′ h h′) (long : length h′ ≡ length h) where
+  tells : (x : ℕ) → includes s p x ≡ not (eqb (getD t′ x 0) 0)
+  tells = tells-entered s p both alike t t′ (ready .1) entered
+
+  pub led-more : GroupsApart s → KeptTo s both p → KeptTo s both (p + 1)
+  led-more apart =
+      programme-more s both owners alike p t t′ pass entered (ready .1) (ready .0)
+      (asked-kept s p t′ apart (entries-apart s p both alike t t′ (ready .1) entered) tells (2 * p) h h′ (ready .3) (long ∙ ready .2) asked)
+
+  pub led-ready : (q : ℕ) (t″ : List ℕ) → p < q → length t′ ≡ length t → length t″ ≡ length t′
+      → Standing (λ x. repeat (marked (Store 0)) (timesBy s Included p x) (getD t′ x 0)) t″ → Ready s q t″ h′
+  led-ready q t″ more same cleared now = (cleared ∙ same ∙ ready .0, left-empty s p t′ t″ cleared tells now, long ∙ ready .2, λ x l. omega (arith, asked (ready .3) .0 x l))

@@ -13,12 +13,12 @@ use lib.Dec.{eqb, leb, ltb}
 use lib.ListN.{length, getD, set, length-set}
 use Rattle.sheet.specs.Words.{Sheet, sheetOf, word}
 use Rattle.sheet.specs.Layout.{count, offset, start, recordWords, field, number, reference, entry}
-use Rattle.sheet.specs.Fields.{programmes, contents, objects, references, valueSets, contentList, setList, complementList, setGain}
+use Rattle.sheet.specs.Fields.{programmes, objects, references, valueSets, contentList, setList, complementList, setGain}
 use Rattle.sheet.proofs.WordLaws.{at as words-at}
 use Rattle.profile.specs.Counting.{any, howMany}
 use Rattle.profile.specs.Relations.{member, members, namedSet, owner}
-use Rattle.profile.specs.Rules.{setsDiffer}
-use Rattle.profile.proofs.BoolLaws.{or-none, or-either, or-true}
+use Rattle.profile.specs.Rules.{ownerAt, setsDiffer}
+use Rattle.profile.proofs.BoolLaws.{or-none, or-either}
 use Rattle.profile.proofs.CountingLaws.{any-none}
 use Rattle.profile.proofs.GroupLaws.{any-witness}
 use Rattle.profile.proofs.SumLaws.{any-nowhere, howMany-shift}
@@ -27,7 +27,10 @@ use Rattle.tables.specs.steps.Marks.{Standing, firstBy}
 use Rattle.tables.specs.steps.Right.{Owners, told}
 use Rattle.tables.proofs.MarkLaws.{set-standing}
 use Rattle.tables.proofs.TableLaws.{owner-told}
-use Rattle.grouping.specs.steps.Groups.{Changed, GroupKept, Noted, PairKept, groupWhole, manyIn, objectAt, objectFrom, setsIn}
+use Rattle.grouping.specs.steps.Entering.{SetsNotedTo, Changed, Noted, objectAt, objectFrom}
+use Rattle.grouping.specs.declared.SectionOffsets.{SectionOffsets}
+use Rattle.grouping.specs.steps.Passing.{Begins, representative}
+use Rattle.grouping.specs.steps.Groups.{ListKept, manyListed, setsListed, GroupKept, PairKept, groupWhole, manyIn, setsIn}
 
 -- one place is written
 pub written : (t : List ℕ) (y v : ℕ) → Standing (λ z. cond (eqb y z) v (getD t z 0)) (set t y v)
@@ -131,6 +134,22 @@ owner-read s owners v c right e some =
       | false ↦ λ h. absurd (some (e ∙ sym (past owners v (ltb-false v (length owners) h))))
     ]) refl
 
+-- the sets that a programme names
+pub sets-none : (s : Sheet) (alike : List ℕ) (p : ℕ) (t : List ℕ) → SetsNotedTo s alike p 0 t t
+sets-none s alike p t = record { noted = noted-none (ownerAt s p) (λ j. representative alike (namedSet s p j)) t; inside = λ j l. absurd (omega arith) }
+
+-- one more
+pub sets-more : (s : Sheet) (alike owners : List ℕ) (p j v c u : ℕ) (t₀ t t′ : List ℕ) → Owners s owners → v ≡ namedSet s p j → v < count s valueSets → c ≡ getD owners v 0 → (c ≡ 0 → ⊥)
+    → u ≡ representative alike v → length t ≡ length t₀ → length t′ ≡ length t → SetsNotedTo s alike p j t₀ t
+    → (c - 1 < length t) × (getD t (c - 1) 0 ≡ 1) × Standing (λ z. cond (eqb (c - 1) z) (u + 2) (getD t z 0)) t′ → SetsNotedTo s alike p (j + 1) t₀ t′
+unfolding ownerAt
+sets-more s alike owners p j v c u t₀ t t′ owns set small e some stands same long before now =
+    record {
+      noted = noted-more (ownerAt s p) (λ k. representative alike (namedSet s p k)) t₀ t t′ j (c - 1) u (owner-read s owners v c owns e some ∙ ap (owner s) set)
+          (stands ∙ ap (representative alike) set) same long (before .noted) (now .0) (now .1) (now .2);
+      inside = below-more (λ k. namedSet s p k < count s valueSets) j (before .inside) (rw (sym set) small);
+    }
+
 module _ (s : Sheet) where
   -- sets that do not differ have the same words
   same-words : (u v f : ℕ) → setsDiffer s u v ≡ false → f < 7 → field s valueSets u (setGain + f) ≡ field s valueSets v (setGain + f)
@@ -149,9 +168,9 @@ module _ (s : Sheet) where
   sets-own u = same-sets u u (λ f l. refl)
 
 -- an entry of the programme's content list, and of its set list
-pub object-entry : (s : Sheet) (base records from p i : ℕ) → base ≡ offset s references → records ≡ offset s contents → from ≡ field s programmes p contentList → objectFrom s base records from i ≡ objectAt s p i
+pub object-entry : (s : Sheet) (sections : SectionOffsets) (from p i : ℕ) → Begins s sections → from ≡ field s programmes p contentList → objectFrom s sections from i ≡ objectAt s p i
 unfolding objectFrom objectAt entry reference field start recordWords
-object-entry s base records from p i a b c = rw (a, b, c) refl
+object-entry s sections from p i a b = rw (a .0, a .1, b) refl
 
 pub set-entry : (s : Sheet) (base from p j : ℕ) → base ≡ offset s references → from ≡ field s programmes p setList → word s (base + (from + j)) ≡ namedSet s p j
 unfolding namedSet entry reference
@@ -192,30 +211,23 @@ bytes-alike t base u v at a b h = same-sets (sheetOf t) u v each
         word-of u f = set-word (sheetOf t) u f
 
 -- a group by its leader and its list
-module _ (s : Sheet) (t : List ℕ) (base first n e l : ℕ) (a : base ≡ offset s references) (b : first ≡ field s objects l complementList)
+module _ (s : Sheet) (t : List ℕ) (sections : SectionOffsets) (first n e l : ℕ) (a : Begins s sections) (b : first ≡ field s objects l complementList)
     (c : n ≡ number s objects l complementList) (d : e ≡ getD t l 0) where
-  pub many-counted : cond (not (eqb e 0)) 1 0 + howMany (λ i. not (eqb (getD t (word s (base + (first + i))) 0) 0)) n ≡ manyIn s t l
+  many-counted : manyListed s t (sections .references) first n e ≡ manyIn s t l
   unfolding manyIn members member entry reference
-  many-counted = rw (a, b, c, d) (sym (howMany-shift (λ i. not (eqb (getD t (member s l i) 0) 0)) (number s objects l complementList)))
+  many-counted = rw (a .0, b, c, d) (sym (howMany-shift (λ i. not (eqb (getD t (member s l i) 0) 0)) (number s objects l complementList)))
 
-  sets-counted : cond (ltb 1 e) 1 0 + howMany (λ i. ltb 1 (getD t (word s (base + (first + i))) 0)) n ≡ setsIn s t l
+  sets-counted : setsListed s t (sections .references) first n e ≡ setsIn s t l
   unfolding setsIn members member entry reference
-  sets-counted = rw (a, b, c, d) (sym (howMany-shift (λ i. ltb 1 (getD t (member s l i) 0)) (number s objects l complementList)))
+  sets-counted = rw (a .0, b, c, d) (sym (howMany-shift (λ i. ltb 1 (getD t (member s l i) 0)) (number s objects l complementList)))
 
-  pub group-whole : groupWhole (suc n) (cond (not (eqb e 0)) 1 0 + howMany (λ i. not (eqb (getD t (word s (base + (first + i))) 0) 0)) n) (cond (ltb 1 e) 1 0 + howMany (λ i. ltb 1 (getD t (word s (base + (first + i))) 0)) n) ≡ groupWhole (members s l) (manyIn s t l) (setsIn s t l)
-  unfolding members
-  group-whole = rw (many-counted, sets-counted) (ap (λ (k : ℕ). groupWhole (suc k) (manyIn s t l) (setsIn s t l)) c)
-
-  pub group-agrees : (1 < e → (i : ℕ) → i < n → 1 < getD t (word s (base + (first + i))) 0 → setsDiffer s (e - 2) (getD t (word s (base + (first + i))) 0 - 2) ≡ false)
-      → 1 < getD t l 0 → (i : ℕ) → i < members s l → 1 < getD t (member s l i) 0 → setsDiffer s (getD t l 0 - 2) (getD t (member s l i) 0 - 2) ≡ false
+  pub list-kept : ListKept s t (sections .references) first n e → GroupKept s t l
   unfolding members member entry reference
-  group-agrees h k zero m r = sets-own s (getD t l 0 - 2)
-  group-agrees h k (suc i) m r = rw (sym d) (rw (sym a, sym b) (h (rw d k) i (rw c (le-of-suc-le-suc m)) (rw (a, b) r)))
-
--- a group is whole where all members are included, and sets are named for all or none
-pub all-whole : (n many set : ℕ) → (eqb many n && (eqb set 0 || eqb set n)) ≡ true → groupWhole n many set ≡ true
-unfolding groupWhole
-all-whole n many set e = ap (λ (b : Bool). leb many 1 || b) e ∙ or-true (leb many 1)
+  list-kept kept = (ap (λ (k : ℕ). groupWhole (suc k) (manyIn s t l) (setsIn s t l)) (sym c) ∙ ap₂ (groupWhole (suc n)) (sym many-counted) (sym sets-counted) ∙ kept .whole, each)
+    where
+      each : 1 < getD t l 0 → (i : ℕ) → i < members s l → 1 < getD t (member s l i) 0 → setsDiffer s (getD t l 0 - 2) (getD t (member s l i) 0 - 2) ≡ false
+      each k zero m r = sets-own s (getD t l 0 - 2)
+      each k (suc i) m r = rw (sym d) (rw (sym (a .0), sym b) (kept .agreeing (rw d k) i (rw c (le-of-suc-le-suc m)) (rw (a .0, b) r)))
 
 -- a group of two: where both are included, sets are named for both or none
 pair-whole : (a b p q : Bool) → (a ≡ true → b ≡ true → p ≡ q) → groupWhole 2 (cond a 1 0 + cond b 1 0) (cond p 1 0 + cond q 1 0) ≡ true

@@ -19,7 +19,8 @@ use Rattle.profile.specs.Rules.{setsDiffer}
 use Rattle.profile.proofs.CountingLaws.{any-none}
 use Rattle.profile.proofs.GroupLaws.{any-witness}
 use Rattle.profile.proofs.SumLaws.{howMany-eq}
-use Rattle.grouping.specs.steps.Groups.{GroupKept, HasRow, LeadersIn, Listed, PairKept, Partner, RowAdded, RowKept, groupWhole, manyIn, setsIn}
+use Rattle.grouping.specs.steps.Groups.{GroupKept, PairKept, groupWhole, manyIn, setsIn}
+use Rattle.grouping.specs.steps.Rows.{HasRow, OnlyComplement, RowAdded, RowKept, RowsComplete, RowsListed}
 use Rattle.grouping.proofs.PassLaws.{pair-group, sets-own}
 
 -- a row more
@@ -28,22 +29,22 @@ module _ (s : Sheet) (t t′ u u′ : List ℕ) (g l j m : ℕ) (e : m ≡ entry
   stays x y w = (w .0, omega (arith, w .1), leaders .0 (w .0) (w .1) ∙ w .2, complements .0 (w .0) (w .1) ∙ w .3)
 
   -- where there is one complement, it is the first
-  partner : j < number s objects l complementList → Partner s l m
+  partner : j < number s objects l complementList → OnlyComplement s l m
   partner inside one = let z : j ≡ 0 = omega arith in e ∙ ap (entry s objects l complementList) z
 
-  pub listed-row : j < number s objects l complementList → Listed s t u g l j → Listed s t′ u′ (g + 1) l (j + 1)
+  pub listed-row : j < number s objects l complementList → RowsListed s t u g l j → RowsListed s t′ u′ (g + 1) l (j + 1)
   listed-row inside before = (
     λ k r i h. stays k (entry s objects k complementList i) (before .0 k r i h),
     below-more (λ i. HasRow t′ u′ (g + 1) l (entry s objects l complementList i)) j
         (λ i h. stays l (entry s objects l complementList i) (before .1 i h))
         (g, omega arith, leaders .1, complements .1 ∙ e),
-    below-more (λ i. Partner s (getD t′ i 0) (getD u′ i 0)) g
+    below-more (λ i. OnlyComplement s (getD t′ i 0) (getD u′ i 0)) g
         (λ i h. rw (leaders .0 i h, complements .0 i h) (before .2 i h))
         (rw (leaders .1, complements .1) (partner inside)),
   )
 
 -- an object more
-pub listed-next : (s : Sheet) (t u : List ℕ) (g l j : ℕ) → j ≡ number s objects l complementList → Listed s t u g l j → Listed s t u g (l + 1) 0
+pub listed-next : (s : Sheet) (t u : List ℕ) (g l j : ℕ) → j ≡ number s objects l complementList → RowsListed s t u g l j → RowsListed s t u g (l + 1) 0
 listed-next s t u g l j z before = (
   below-more (λ k. (i : ℕ) → i < number s objects k complementList → HasRow t u g k (entry s objects k complementList i)) l (before .0) (rw z at (before .1)),
   λ i h. absurd (omega arith),
@@ -51,7 +52,7 @@ listed-next s t u g l j z before = (
 )
 
 -- the group of a leader with one complement
-pub led-pair : (s : Sheet) (t : List ℕ) (l m : ℕ) → number s objects l complementList ≡ 1 → Partner s l m → PairKept s (getD t l 0) (getD t m 0) → GroupKept s t l
+pub led-pair : (s : Sheet) (t : List ℕ) (l m : ℕ) → number s objects l complementList ≡ 1 → OnlyComplement s l m → PairKept s (getD t l 0) (getD t m 0) → GroupKept s t l
 unfolding members member
 led-pair s t l m one partner kept = pair-group s t l m (sym (partner one)) (ap suc one) kept
 
@@ -94,7 +95,7 @@ module _ (s : Sheet) (t : List ℕ) (l : ℕ) (same : (i : ℕ) → i < number s
   )
 
 -- each group is kept where each row is
-pub rows-kept : (s : Sheet) (t list partners : List ℕ) (g : ℕ) → g < 65535 → LeadersIn s list partners g → ((i : ℕ) → i < g → RowKept s t (getD list i 0) (getD partners i 0))
+pub rows-kept : (s : Sheet) (t list partners : List ℕ) (g : ℕ) → g < 65535 → RowsComplete s list partners g → ((i : ℕ) → i < g → RowKept s t (getD list i 0) (getD partners i 0))
     → (l : ℕ) → l < count s objects → GroupKept s t l
 rows-kept s t list partners g few all rows l k =
     (elim (any other n) as (λ b. any other n ≡ b → GroupKept s t l) [

@@ -14,7 +14,7 @@ ghost use Prim.Native.Nat.{_<_};
 ghost use lib.ListN.{length};
 ghost use mathlib.Core.Bool.{false};
 ghost use mathlib.Core.Path.{_≡_};
-ghost use Rattle.grouping.specs.steps.Groups.{Alike, representative};
+ghost use Rattle.grouping.specs.steps.Passing.{Alike, representative};
 ghost use Rattle.profile.specs.Rules.{setsDiffer};
 ghost use Rattle.sheet.specs.Fields.{valueSets};
 ghost use Rattle.sheet.specs.Layout.{offset};

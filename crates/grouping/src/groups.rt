@@ -1,5 +1,6 @@
 // The groups of a sheet, by what a table has for their members: 0 for an object that the programme does not include, 1 for one that it
 // includes, and where it names a set for it, 2 more than the number of that set.
+use crate::SectionOffsets;
 use crate::marks::at;
 use crate::sets::sets_differ;
 use relations::entries::one;
@@ -11,18 +12,18 @@ use sheet::layout::field;
 use sheet::layout::number;
 use sheet::words::word;
 use sheet::words::word_count;
-ghost use Prim.Native.Nat.{ℕ, suc, _+_, _-_, _<_, _≤_};
-ghost use lib.Dec.{eqb, ltb};
+ghost use Prim.Native.Nat.{ℕ, _+_, _-_, _<_};
 ghost use lib.ListN.{getD, length};
-ghost use mathlib.Core.Bool.{cond, false, not, true};
+ghost use mathlib.Core.Bool.{false, true};
 ghost use mathlib.Core.Logic.{_⊎_};
 ghost use mathlib.Core.Path.{_≡_};
-ghost use Rattle.grouping.specs.steps.Groups.{GroupKept, LeadersIn, Listed, PairKept, Partner, RowAdded, groupWhole};
-ghost use Rattle.profile.specs.Counting.{howMany};
+ghost use Rattle.grouping.specs.steps.Groups.{GroupKept, ListKept, PairKept};
+ghost use Rattle.grouping.specs.steps.Passing.{Begins};
+ghost use Rattle.grouping.specs.steps.Rows.{OnlyComplement, RowAdded, RowsAdded, RowsComplete};
 ghost use Rattle.profile.specs.Rules.{setsDiffer};
-ghost use Rattle.sheet.specs.Fields.{objects, references, valueSets};
+ghost use Rattle.sheet.specs.Fields.{objects, valueSets};
 ghost use Rattle.sheet.specs.Layout.{count, offset};
-ghost use Rattle.sheet.specs.Words.{sheetOf, word};
+ghost use Rattle.sheet.specs.Words.{sheetOf};
 
 // Whether the sets of two members may differ, by what the table has for them; either may have none.
 fn noted_differ(s: &[u8], sets: u16, e: u16, c: u16) -> bool
@@ -40,30 +41,28 @@ fn noted_differ(s: &[u8], sets: u16, e: u16, c: u16) -> bool
     sets_differ(s, sets, e - 2, c - 2)
 }
 
-// Of a group whose leader has e in the table, and whose n complements are listed from `first` on: all members are included, sets are
-// named for all or none, and those of the complements have the words of the leader's. Section 6 begins at `base`, section 7 at `sets`.
+// Of a group whose leader has e in the table, and whose n complements are listed from `first` on: one member at most is included, or all
+// are, sets are named for all or none, and those of the complements have the words of the leader's.
 fn members_kept(
     s: &[u8],
-    base: u16,
-    sets: u16,
+    sections: SectionOffsets,
     first: u16,
     n: u16,
     included: &[u16],
     e: u16,
 ) -> bool
-    ensures { λ r. ⌜ (r ≡ true → sets ≡ offset (sheetOf (now (s .entry))) valueSets → (groupWhole (suc n) (cond (not (eqb e 0)) 1 0 + howMany (λ i. not (eqb (getD (now (included .entry)) (word (sheetOf (now (s .entry))) (base + (first + i))) 0) 0)) n) (cond (ltb 1 e) 1 0 + howMany (λ i. ltb 1 (getD (now (included .entry)) (word (sheetOf (now (s .entry))) (base + (first + i))) 0)) n) ≡ true) × (1 < e → (i : ℕ) → i < n → 1 < getD (now (included .entry)) (word (sheetOf (now (s .entry))) (base + (first + i))) 0 → setsDiffer (sheetOf (now (s .entry))) (e - 2) (getD (now (included .entry)) (word (sheetOf (now (s .entry))) (base + (first + i))) 0 - 2) ≡ false)) ⌝ }
+    ensures { λ r. ⌜ (r ≡ true → Begins (sheetOf (now (s .entry))) sections → ListKept (sheetOf (now (s .entry))) (now (included .entry)) (sections .references) first n e) ⌝ }
 {
-    if word_count(s) < base as usize + (first as usize + n as usize) {
+    let base = sections.references as usize;
+    let sets = sections.sets;
+    if word_count(s) < base + (first as usize + n as usize) {
         return false;
     }
     let mut many: u32 = one(e != 0) as u32;
     let mut noted: u32 = one(1 < e) as u32;
     let mut i: u16 = 0;
     while i < n {
-        let c = at(
-            included,
-            word(s, base as usize + (first as usize + i as usize)),
-        );
+        let c = at(included, word(s, base + (first as usize + i as usize)));
         if noted_differ(s, sets, e, c) {
             return false;
         }
@@ -72,27 +71,7 @@ fn members_kept(
         i += 1;
     }
     let all = n as u32 + 1;
-    (many == all) & ((noted == 0) | (noted == all))
-}
-
-// Whether of such a group one member at most is included.
-fn one_included(s: &[u8], base: u16, first: u16, n: u16, included: &[u16], e: u16) -> bool
-    ensures { λ r. ⌜ (r ≡ true → cond (not (eqb e 0)) 1 0 + howMany (λ i. not (eqb (getD (now (included .entry)) (word (sheetOf (now (s .entry))) (base + (first + i))) 0) 0)) n ≤ 1) ⌝ }
-{
-    if word_count(s) < base as usize + (first as usize + n as usize) {
-        return false;
-    }
-    let mut many: u32 = one(e != 0) as u32;
-    let mut i: u16 = 0;
-    while i < n {
-        let c = at(
-            included,
-            word(s, base as usize + (first as usize + i as usize)),
-        );
-        many += one(c != 0) as u32;
-        i += 1;
-    }
-    many <= 1
+    (many <= 1) | (many == all) & ((noted == 0) | (noted == all))
 }
 
 // A group of two, by what the table has for both.
@@ -112,19 +91,16 @@ fn pair_kept(s: &[u8], sets: u16, e: u16, c: u16) -> bool
 }
 
 // The group of a leader, which has m as its complement where it has one.
-pub fn group_kept(s: &[u8], base: u16, sets: u16, included: &[u16], l: u16, m: u16) -> bool
-    ensures { λ r. ⌜ (r ≡ true → base ≡ offset (sheetOf (now (s .entry))) references → sets ≡ offset (sheetOf (now (s .entry))) valueSets → Partner (sheetOf (now (s .entry))) l m → GroupKept (sheetOf (now (s .entry))) (now (included .entry)) l) ⌝ }
+pub fn group_kept(s: &[u8], sections: SectionOffsets, included: &[u16], l: u16, m: u16) -> bool
+    ensures { λ r. ⌜ (r ≡ true → Begins (sheetOf (now (s .entry))) sections → OnlyComplement (sheetOf (now (s .entry))) l m → GroupKept (sheetOf (now (s .entry))) (now (included .entry)) l) ⌝ }
 {
     let n = number(s, OBJECTS, l, COMPLEMENT_LIST);
     let e = at(included, l);
     if n == 1 {
-        return pair_kept(s, sets, e, at(included, m));
+        return pair_kept(s, sections.sets, e, at(included, m));
     }
     let first = field(s, OBJECTS, l, COMPLEMENT_LIST);
-    if one_included(s, base, first, n, included, e) {
-        return true;
-    }
-    members_kept(s, base, sets, first, n, included, e)
+    members_kept(s, sections, first, n, included, e)
 }
 
 // Whether a row says nothing against the group of its leader: the table has one number for both, or the group was asked for last.
@@ -137,23 +113,23 @@ fn row_passes(included: &[u16], asked: u32, l: u16, m: u16) -> bool
     l as u32 == asked
 }
 
-// The groups of all leaders, by the g rows of two lists. A group is asked for only where the table has two numbers for a row.
+// The groups of all leaders, by g rows, each a leader and a complement. A group is asked for only where the table has two numbers for a
+// row.
 pub fn groups_kept(
     s: &[u8],
-    base: u16,
-    sets: u16,
-    list: &[u16],
+    sections: SectionOffsets,
+    leading: &[u16],
     partners: &[u16],
     g: u16,
     included: &[u16],
 ) -> bool
-    ensures { λ r. ⌜ (r ≡ true → base ≡ offset (sheetOf (now (s .entry))) references → sets ≡ offset (sheetOf (now (s .entry))) valueSets → LeadersIn (sheetOf (now (s .entry))) (now (list .entry)) (now (partners .entry)) g → (l : ℕ) → l < count (sheetOf (now (s .entry))) objects → GroupKept (sheetOf (now (s .entry))) (now (included .entry)) l) ⌝ }
+    ensures { λ r. ⌜ (r ≡ true → Begins (sheetOf (now (s .entry))) sections → RowsComplete (sheetOf (now (s .entry))) (now (leading .entry)) (now (partners .entry)) g → (l : ℕ) → l < count (sheetOf (now (s .entry))) objects → GroupKept (sheetOf (now (s .entry))) (now (included .entry)) l) ⌝ }
 {
     let n = g as usize;
     if g == 65535 {
         return false;
     }
-    if list.len() < n {
+    if leading.len() < n {
         return false;
     }
     if partners.len() < n {
@@ -162,10 +138,10 @@ pub fn groups_kept(
     let mut asked: u32 = 65536;
     let mut i: usize = 0;
     while i < n {
-        let l = list[i];
+        let l = leading[i];
         let m = partners[i];
         if !row_passes(included, asked, l, m) {
-            if !group_kept(s, base, sets, included, l, m) {
+            if !group_kept(s, sections, included, l, m) {
                 return false;
             }
             asked = l as u32;
@@ -176,34 +152,34 @@ pub fn groups_kept(
 }
 
 // Adds a row to g rows, and tells how many there are: 65535 where there is no place for it.
-fn add_row(list: &mut [u16], partners: &mut [u16], g: u16, l: u16, m: u16) -> u16
-    ensures { λ r. ⌜ (length (now (list .exit)) ≡ length (now (list .entry))) × (length (now (partners .exit)) ≡ length (now (partners .entry))) × (r < 65535 → (r ≡ g + 1) × RowAdded (now (list .entry)) (now (list .exit)) g l × RowAdded (now (partners .entry)) (now (partners .exit)) g m) ⌝ }
+fn add_row(leading: &mut [u16], partners: &mut [u16], g: u16, l: u16, m: u16) -> u16
+    ensures { λ r. ⌜ (length (now (leading .exit)) ≡ length (now (leading .entry))) × (length (now (partners .exit)) ≡ length (now (partners .entry))) × (r < 65535 → (r ≡ g + 1) × RowAdded (now (leading .entry)) (now (leading .exit)) g l × RowAdded (now (partners .entry)) (now (partners .exit)) g m) ⌝ }
 {
     let i = g as usize;
     if g == 65535 {
         return g;
     }
-    if list.len() <= i {
+    if leading.len() <= i {
         return 65535;
     }
     if partners.len() <= i {
         return 65535;
     }
-    list[i] = l;
+    leading[i] = l;
     partners[i] = m;
     g + 1
 }
 
 // Adds a row for each complement of an object, as long as there is place.
-fn add_rows(s: &[u8], list: &mut [u16], partners: &mut [u16], before: u16, l: u16) -> u16
-    ensures { λ r. ⌜ (length (now (list .exit)) ≡ length (now (list .entry))) × (length (now (partners .exit)) ≡ length (now (partners .entry))) × (r < 65535 → (before < 65535) × (Listed (sheetOf (now (s .entry))) (now (list .entry)) (now (partners .entry)) before l 0 → Listed (sheetOf (now (s .entry))) (now (list .exit)) (now (partners .exit)) r (l + 1) 0)) ⌝ }
+fn add_rows(s: &[u8], leading: &mut [u16], partners: &mut [u16], before: u16, l: u16) -> u16
+    ensures { λ r. ⌜ (length (now (leading .exit)) ≡ length (now (leading .entry))) × (length (now (partners .exit)) ≡ length (now (partners .entry))) × RowsAdded (sheetOf (now (s .entry))) (now (leading .entry)) (now (partners .entry)) (now (leading .exit)) (now (partners .exit)) before l r ⌝ }
 {
     let n = number(s, OBJECTS, l, COMPLEMENT_LIST);
     let mut g: u16 = before;
     let mut j: u16 = 0;
     while j < n {
         g = add_row(
-            list,
+            leading,
             partners,
             g,
             l,
@@ -218,14 +194,14 @@ fn add_rows(s: &[u8], list: &mut [u16], partners: &mut [u16], before: u16, l: u1
 }
 
 // Lists each leader with each of its complements, and tells how many rows there are: 65535 where there is no place for them.
-pub fn list_leaders(s: &[u8], list: &mut [u16], partners: &mut [u16]) -> u16
-    ensures { λ r. ⌜ (length (now (list .exit)) ≡ length (now (list .entry))) × (length (now (partners .exit)) ≡ length (now (partners .entry))) × LeadersIn (sheetOf (now (s .entry))) (now (list .exit)) (now (partners .exit)) r ⌝ }
+pub fn list_leaders(s: &[u8], leading: &mut [u16], partners: &mut [u16]) -> u16
+    ensures { λ r. ⌜ (length (now (leading .exit)) ≡ length (now (leading .entry))) × (length (now (partners .exit)) ≡ length (now (partners .entry))) × RowsComplete (sheetOf (now (s .entry))) (now (leading .exit)) (now (partners .exit)) r ⌝ }
 {
     let n = count(s, OBJECTS);
     let mut g: u16 = 0;
     let mut l: u16 = 0;
     while l < n {
-        g = add_rows(s, list, partners, g, l);
+        g = add_rows(s, leading, partners, g, l);
         l += 1;
     }
     g

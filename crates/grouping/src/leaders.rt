@@ -1,6 +1,7 @@
 // The groups of a programme by the leaders of its objects: what this takes goes with the programme's lists, not with the sheet's objects.
 // A table has for each leader what was seen of its group: up to a number `seen` nothing in this programme, one more for one object of
 // it, two more where the group was asked for.
+use crate::SectionOffsets;
 use crate::entering::object_from;
 use crate::groups::group_kept;
 use crate::marks::at;
@@ -13,13 +14,12 @@ use sheet::layout::entry;
 use sheet::layout::field;
 use sheet::layout::number;
 use tables::reads::leader_by;
-ghost use Prim.Native.Nat.{_*_, _<_};
+ghost use Prim.Native.Nat.{_<_};
 ghost use lib.ListN.{length};
 ghost use mathlib.Core.Bool.{true};
 ghost use mathlib.Core.Path.{_≡_};
-ghost use Rattle.grouping.specs.steps.Groups.{Asked, AskedFor};
-ghost use Rattle.sheet.specs.Fields.{contentList, contents, programmes, references, valueSets};
-ghost use Rattle.sheet.specs.Layout.{number, offset};
+ghost use Rattle.grouping.specs.steps.Leaders.{AllAsked, AskedFor};
+ghost use Rattle.grouping.specs.steps.Passing.{Begins};
 ghost use Rattle.sheet.specs.Words.{sheetOf};
 ghost use Rattle.tables.specs.steps.Right.{Leaders};
 
@@ -27,15 +27,14 @@ ghost use Rattle.tables.specs.steps.Right.{Leaders};
 // kept, so that no group is walked for a member or two.
 fn group_asked(
     s: &[u8],
-    base: u16,
-    sets: u16,
+    sections: SectionOffsets,
     included: &[u16],
     seen: u16,
     l: u16,
     groups: &mut [u16],
 ) -> bool
     requires { ⌜ seen < 65534 ⌝ }
-    ensures { λ r. ⌜ (length (now (groups .exit)) ≡ length (now (groups .entry))) × (r ≡ true → base ≡ offset (sheetOf (now (s .entry))) references → sets ≡ offset (sheetOf (now (s .entry))) valueSets → AskedFor (sheetOf (now (s .entry))) (now (included .entry)) seen l (now (groups .entry)) (now (groups .exit))) ⌝ }
+    ensures { λ r. ⌜ (length (now (groups .exit)) ≡ length (now (groups .entry))) × (r ≡ true → Begins (sheetOf (now (s .entry))) sections → AskedFor (sheetOf (now (s .entry))) (now (included .entry)) seen l (now (groups .entry)) (now (groups .exit))) ⌝ }
 {
     let h = at(groups, l);
     if seen + 1 < h {
@@ -46,8 +45,7 @@ fn group_asked(
     }
     if !group_kept(
         s,
-        base,
-        sets,
+        sections,
         included,
         l,
         entry(s, OBJECTS, l, COMPLEMENT_LIST, 0),
@@ -61,15 +59,13 @@ fn group_asked(
 // before counts as nothing.
 pub fn groups_asked(
     s: &[u8],
-    base: u16,
-    records: u16,
-    sets: u16,
+    sections: SectionOffsets,
     leaders: &[u16],
     p: u16,
     included: &[u16],
     groups: &mut [u16],
 ) -> bool
-    ensures { λ r. ⌜ (length (now (groups .exit)) ≡ length (now (groups .entry))) × (r ≡ true → base ≡ offset (sheetOf (now (s .entry))) references → records ≡ offset (sheetOf (now (s .entry))) contents → sets ≡ offset (sheetOf (now (s .entry))) valueSets → Leaders (sheetOf (now (s .entry))) (now (leaders .entry)) → Asked (sheetOf (now (s .entry))) p (now (included .entry)) (2 * p) (number (sheetOf (now (s .entry))) programmes p contentList) (now (groups .entry)) (now (groups .exit))) ⌝ }
+    ensures { λ r. ⌜ (length (now (groups .exit)) ≡ length (now (groups .entry))) × (r ≡ true → Begins (sheetOf (now (s .entry))) sections → Leaders (sheetOf (now (s .entry))) (now (leaders .entry)) → AllAsked (sheetOf (now (s .entry))) p (now (included .entry)) (now (groups .entry)) (now (groups .exit))) ⌝ }
 {
     if 32766 < p {
         return false;
@@ -79,8 +75,8 @@ pub fn groups_asked(
     let n = number(s, PROGRAMMES, p, CONTENT_LIST);
     let mut i: u16 = 0;
     while i < n {
-        let l = leader_by(s, leaders, object_from(s, base, records, from, i));
-        if !group_asked(s, base, sets, included, seen, l, groups) {
+        let l = leader_by(s, leaders, object_from(s, sections, from, i));
+        if !group_asked(s, sections, included, seen, l, groups) {
             return false;
         }
         i += 1;

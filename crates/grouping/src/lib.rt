@@ -7,3 +7,16 @@ pub mod leaders;
 pub mod marks;
 pub mod programmes;
 pub mod sets;
+
+// Where sections 6, 2 and 7 begin.
+pub struct SectionOffsets {
+    pub references: u16,
+    pub contents: u16,
+    pub sets: u16,
+}
+
+// What a pass is to show: that the programmes from one on keep rule 21 and, with `both`, rule 22.
+pub struct Wanted {
+    pub from: u16,
+    pub both: bool,
+}

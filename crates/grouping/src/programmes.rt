@@ -1,4 +1,6 @@
 // The programmes one after the other, by the rows of the groups or by the leaders of their objects.
+use crate::SectionOffsets;
+use crate::Wanted;
 use crate::entering::enter;
 use crate::groups::groups_kept;
 use crate::groups::list_leaders;
@@ -19,182 +21,119 @@ use tables::Naming;
 use tables::marks::clear;
 use tables::marks::first_namers;
 use tables::marks::mark_items;
-ghost use Prim.Native.Nat.{_+_, _-_, _<_};
+ghost use Prim.Native.Nat.{_+_, _<_};
 ghost use lib.ListN.{length};
 ghost use mathlib.Core.Bool.{true};
 ghost use mathlib.Core.Path.{_≡_};
-ghost use Rattle.grouping.specs.steps.Groups.{Begins, Full, GroupsApart, GroupsGround, Kept, KeptTo, LeadersIn, Passing, ProgrammesKept, Ready, SameList};
-ghost use Rattle.sheet.specs.Fields.{contentList, objects, setList};
-ghost use Rattle.sheet.specs.Layout.{count};
+ghost use Rattle.grouping.specs.steps.Groups.{GroupsGround, KeptTo, ProgrammesKept};
+ghost use Rattle.grouping.specs.steps.Passing.{Begins, KeptFrom, sameList, sameLists};
 ghost use Rattle.sheet.specs.Words.{sheetOf};
-ghost use Rattle.tables.specs.steps.Right.{Leaders, Owners};
+ghost use Rattle.tables.specs.steps.Right.{Owners};
 
-// Whether a programme has the same list at a position as the one before it.
-fn same_list(s: &[u8], p: u16, at: u8) -> bool
+// Whether two programmes have the same list at a position.
+fn same_list(s: &[u8], p: u16, q: u16, at: u8) -> bool
     requires { ⌜ at < 8 ⌝ }
-    ensures { λ r. ⌜ (r ≡ true → (0 < p) × SameList (sheetOf (now (s .entry))) p (p - 1) at) ⌝ }
+    ensures { λ r. ⌜ r ≡ sameList (sheetOf (now (s .entry))) p q at ⌝ }
 {
-    if p == 0 {
-        return false;
-    }
-    if field(s, PROGRAMMES, p, at) != field(s, PROGRAMMES, p - 1, at) {
-        return false;
-    }
-    number(s, PROGRAMMES, p, at) == number(s, PROGRAMMES, p - 1, at)
+    (field(s, PROGRAMMES, p, at) == field(s, PROGRAMMES, q, at))
+        & (number(s, PROGRAMMES, p, at) == number(s, PROGRAMMES, q, at))
 }
 
-// Whether it has the same contents and, with `both`, the same sets.
-fn same_lists(s: &[u8], both: bool, p: u16) -> bool
-    ensures { λ r. ⌜ (r ≡ true → (0 < p) × SameList (sheetOf (now (s .entry))) p (p - 1) contentList × (both ≡ true → SameList (sheetOf (now (s .entry))) p (p - 1) setList)) ⌝ }
+// Whether they have the same contents and, with `both`, the same sets.
+fn same_lists(s: &[u8], both: bool, p: u16, q: u16) -> bool
+    ensures { λ r. ⌜ r ≡ sameLists (sheetOf (now (s .entry))) both p q ⌝ }
 {
-    if !same_list(s, p, CONTENT_LIST) {
-        return false;
-    }
-    if !both {
-        return true;
-    }
-    same_list(s, p, SET_LIST)
+    same_list(s, p, q, CONTENT_LIST) & (!both | same_list(s, p, q, SET_LIST))
 }
 
-// Whether a programme can be seen to keep rule 21 and, with `both`, rule 22: by the rows of the groups in two lists, or by the programme
-// before it. What stands in the table at the start does not matter.
-fn kept_by_rows(
-    s: &[u8],
-    base: u16,
-    records: u16,
-    sets: u16,
-    owners: &[u16],
-    alike: &[u16],
-    both: bool,
-    list: &[u16],
-    partners: &[u16],
-    g: u16,
-    p: u16,
-    included: &mut [u16],
-) -> bool
-    ensures { λ r. ⌜ (length (now (included .exit)) ≡ length (now (included .entry))) × (r ≡ true → Begins (sheetOf (now (s .entry))) base records sets → Passing (sheetOf (now (s .entry))) both (now (owners .entry)) (now (alike .entry)) → LeadersIn (sheetOf (now (s .entry))) (now (list .entry)) (now (partners .entry)) g → length (now (included .entry)) ≡ count (sheetOf (now (s .entry))) objects → (0 < p → Kept (sheetOf (now (s .entry))) both (p - 1)) → Kept (sheetOf (now (s .entry))) both p) ⌝ }
+// The first programme after p that has not the lists of the one before it, n where there is none: up to there all keep what p keeps.
+fn next_other(s: &[u8], both: bool, p: u16, n: u16) -> u16
+    requires { ⌜ p < n ⌝ }
+    ensures { λ r. ⌜ (p < r) × (KeptTo (sheetOf (now (s .entry))) both (p + 1) → KeptTo (sheetOf (now (s .entry))) both r) ⌝ }
 {
-    if same_lists(s, both, p) {
-        return true;
+    let mut q: u16 = p + 1;
+    while q < n {
+        if !same_lists(s, both, q, q - 1) {
+            return q;
+        }
+        q += 1;
     }
-    clear(included);
-    if !enter(s, base, records, owners, alike, both, p, included) {
-        return false;
-    }
-    groups_kept(s, base, sets, list, partners, g, included)
+    q
 }
 
-// The same by the leaders of its objects. The table of what is included has noughts at the start and in the end.
-fn kept_by_leaders(
-    s: &[u8],
-    base: u16,
-    records: u16,
-    sets: u16,
-    owners: &[u16],
-    alike: &[u16],
-    both: bool,
-    leaders: &[u16],
-    p: u16,
-    included: &mut [u16],
-    groups: &mut [u16],
-) -> bool
-    ensures { λ r. ⌜ (length (now (included .exit)) ≡ length (now (included .entry))) × (length (now (groups .exit)) ≡ length (now (groups .entry))) × (r ≡ true → Begins (sheetOf (now (s .entry))) base records sets → Passing (sheetOf (now (s .entry))) both (now (owners .entry)) (now (alike .entry)) → Leaders (sheetOf (now (s .entry))) (now (leaders .entry)) → GroupsApart (sheetOf (now (s .entry))) → Ready (sheetOf (now (s .entry))) p (now (included .entry)) (now (groups .entry)) → (0 < p → Kept (sheetOf (now (s .entry))) both (p - 1)) → Ready (sheetOf (now (s .entry))) (p + 1) (now (included .exit)) (now (groups .exit)) × Kept (sheetOf (now (s .entry))) both p) ⌝ }
+// Where sections 6, 2 and 7 begin.
+fn section_offsets(s: &[u8]) -> SectionOffsets
+    ensures { λ r. ⌜ Begins (sheetOf (now (s .entry))) r ⌝ }
 {
-    if same_lists(s, both, p) {
-        return true;
+    SectionOffsets {
+        references: offset(s, REFERENCES),
+        contents: offset(s, CONTENTS),
+        sets: offset(s, VALUE_SETS),
     }
-    if !enter(s, base, records, owners, alike, both, p, included) {
-        return false;
-    }
-    if !groups_asked(s, base, records, sets, leaders, p, included, groups) {
-        return false;
-    }
-    mark_items(s, Naming::Included, p, Mark::Store(0), included);
-    true
 }
 
-// How many programmes from the first on can be seen to keep them, by the rows, where those before `from` do.
+// How many programmes from the first on can be seen to keep what is wanted, by the rows of the groups, where those before the first that
+// is tested do.
 fn rows_from(
     s: &[u8],
+    wanted: Wanted,
     owners: &[u16],
     alike: &[u16],
-    both: bool,
-    from: u16,
-    list: &mut [u16],
+    leading: &mut [u16],
     partners: &mut [u16],
     included: &mut [u16],
 ) -> u16
-    ensures { λ r. ⌜ (length (now (list .exit)) ≡ length (now (list .entry))) × (length (now (partners .exit)) ≡ length (now (partners .entry))) × (length (now (included .exit)) ≡ length (now (included .entry))) × (Passing (sheetOf (now (s .entry))) both (now (owners .entry)) (now (alike .entry)) → Full (sheetOf (now (s .entry))) (now (list .entry)) (now (partners .entry)) (now (included .entry)) → GroupsApart (sheetOf (now (s .entry))) → KeptTo (sheetOf (now (s .entry))) both from → KeptTo (sheetOf (now (s .entry))) both r) ⌝ }
+    ensures { λ r. ⌜ KeptFrom (sheetOf (now (s .entry))) wanted (now (owners .entry)) (now (alike .entry)) (now (leading .entry)) (now (partners .entry)) (now (included .entry)) (now (leading .exit)) (now (partners .exit)) (now (included .exit)) r ⌝ }
 {
-    let base = offset(s, REFERENCES);
-    let records = offset(s, CONTENTS);
-    let sets = offset(s, VALUE_SETS);
-    let g = list_leaders(s, list, partners);
+    let sections = section_offsets(s);
+    let both = wanted.both;
+    let g = list_leaders(s, leading, partners);
     let n = count(s, PROGRAMMES);
-    let mut p: u16 = from;
+    let mut p: u16 = wanted.from;
     while p < n {
-        if !kept_by_rows(
-            s,
-            base,
-            records,
-            sets,
-            owners,
-            alike,
-            both,
-            list,
-            partners,
-            g,
-            p,
-            included,
-        ) {
+        clear(included);
+        if !enter(s, sections, owners, alike, both, p, included) {
             return p;
         }
-        p += 1;
+        if !groups_kept(s, sections, leading, partners, g, included) {
+            return p;
+        }
+        p = next_other(s, both, p, n);
     }
-    n
+    p
 }
 
-// The same by the leaders.
+// The same by the leaders of their objects. The table of what is included has noughts before each programme.
 fn leaders_from(
     s: &[u8],
+    wanted: Wanted,
     owners: &[u16],
     alike: &[u16],
-    both: bool,
-    from: u16,
     leaders: &mut [u16],
     groups: &mut [u16],
     included: &mut [u16],
 ) -> u16
-    ensures { λ r. ⌜ (length (now (leaders .exit)) ≡ length (now (leaders .entry))) × (length (now (groups .exit)) ≡ length (now (groups .entry))) × (length (now (included .exit)) ≡ length (now (included .entry))) × (Passing (sheetOf (now (s .entry))) both (now (owners .entry)) (now (alike .entry)) → Full (sheetOf (now (s .entry))) (now (leaders .entry)) (now (groups .entry)) (now (included .entry)) → GroupsApart (sheetOf (now (s .entry))) → KeptTo (sheetOf (now (s .entry))) both from → KeptTo (sheetOf (now (s .entry))) both r) ⌝ }
+    ensures { λ r. ⌜ KeptFrom (sheetOf (now (s .entry))) wanted (now (owners .entry)) (now (alike .entry)) (now (leaders .entry)) (now (groups .entry)) (now (included .entry)) (now (leaders .exit)) (now (groups .exit)) (now (included .exit)) r ⌝ }
 {
-    let base = offset(s, REFERENCES);
-    let records = offset(s, CONTENTS);
-    let sets = offset(s, VALUE_SETS);
+    let sections = section_offsets(s);
+    let both = wanted.both;
     clear(leaders);
     first_namers(s, Naming::Complements, leaders);
     clear(groups);
     clear(included);
     let n = count(s, PROGRAMMES);
-    let mut p: u16 = from;
+    let mut p: u16 = wanted.from;
     while p < n {
-        if !kept_by_leaders(
-            s,
-            base,
-            records,
-            sets,
-            owners,
-            alike,
-            both,
-            leaders,
-            p,
-            included,
-            groups,
-        ) {
+        if !enter(s, sections, owners, alike, both, p, included) {
             return p;
         }
-        p += 1;
+        if !groups_asked(s, sections, leaders, p, included, groups) {
+            return p;
+        }
+        mark_items(s, Naming::Included, p, Mark::Store(0), included);
+        p = next_other(s, both, p, n);
     }
-    n
+    p
 }
 
 // Whether the content lists have, one with another, less than an entry for 32 objects. Nothing rests on this but time.
@@ -216,23 +155,23 @@ fn short_lists(s: &[u8]) -> bool {
     entries / (n as u32) < o as u32 / 32
 }
 
-// The same in tables with a place for each object: by the leaders where the content lists are short, else by the rows.
+// The same in tables with a place for each object: by the leaders where the content lists are short, else by the rows. Which way it is
+// decides what the first two tables hold.
 pub fn kept_from(
     s: &[u8],
+    wanted: Wanted,
     owners: &[u16],
     alike: &[u16],
-    both: bool,
-    from: u16,
-    list: &mut [u16],
-    partners: &mut [u16],
+    first: &mut [u16],
+    second: &mut [u16],
     included: &mut [u16],
 ) -> u16
-    ensures { λ r. ⌜ (length (now (list .exit)) ≡ length (now (list .entry))) × (length (now (partners .exit)) ≡ length (now (partners .entry))) × (length (now (included .exit)) ≡ length (now (included .entry))) × (Passing (sheetOf (now (s .entry))) both (now (owners .entry)) (now (alike .entry)) → Full (sheetOf (now (s .entry))) (now (list .entry)) (now (partners .entry)) (now (included .entry)) → GroupsApart (sheetOf (now (s .entry))) → KeptTo (sheetOf (now (s .entry))) both from → KeptTo (sheetOf (now (s .entry))) both r) ⌝ }
+    ensures { λ r. ⌜ KeptFrom (sheetOf (now (s .entry))) wanted (now (owners .entry)) (now (alike .entry)) (now (first .entry)) (now (second .entry)) (now (included .entry)) (now (first .exit)) (now (second .exit)) (now (included .exit)) r ⌝ }
 {
     if short_lists(s) {
-        return leaders_from(s, owners, alike, both, from, list, partners, included);
+        return leaders_from(s, wanted, owners, alike, first, second, included);
     }
-    rows_from(s, owners, alike, both, from, list, partners, included)
+    rows_from(s, wanted, owners, alike, first, second, included)
 }
 
 // Whether all programmes can be seen to keep rules 21 and 22 and to name no content twice. What stands in the last three tables at the
@@ -241,29 +180,32 @@ pub fn programmes_pass(
     s: &[u8],
     owners: &[u16],
     included: &mut [u16],
-    list: &mut [u16],
-    partners: &mut [u16],
+    first: &mut [u16],
+    second: &mut [u16],
 ) -> bool
-    ensures { λ r. ⌜ (length (now (included .exit)) ≡ length (now (included .entry))) × (length (now (list .exit)) ≡ length (now (list .entry))) × (length (now (partners .exit)) ≡ length (now (partners .entry))) × (r ≡ true → Owners (sheetOf (now (s .entry))) (now (owners .entry)) → GroupsGround (sheetOf (now (s .entry))) → ProgrammesKept (sheetOf (now (s .entry)))) ⌝ }
+    ensures { λ r. ⌜ (length (now (included .exit)) ≡ length (now (included .entry))) × (length (now (first .exit)) ≡ length (now (first .entry))) × (length (now (second .exit)) ≡ length (now (second .entry))) × (r ≡ true → Owners (sheetOf (now (s .entry))) (now (owners .entry)) → GroupsGround (sheetOf (now (s .entry))) → ProgrammesKept (sheetOf (now (s .entry)))) ⌝ }
 {
     let n = count(s, OBJECTS) as usize;
     if included.len() < n {
         return false;
     }
-    if list.len() < n {
+    if first.len() < n {
         return false;
     }
-    if partners.len() < n {
+    if second.len() < n {
         return false;
     }
+    let wanted = Wanted {
+        from: 0,
+        both: true,
+    };
     kept_from(
         s,
+        wanted,
         owners,
         &owners[..0],
-        true,
-        0,
-        &mut list[..n],
-        &mut partners[..n],
+        &mut first[..n],
+        &mut second[..n],
         &mut included[..n],
     )
         == count(s, PROGRAMMES)

@@ -39,14 +39,14 @@ array-share-prefix-none c = search needs
 slice-aggregate-t : tie.Need-slice-aggregate-t
 slice-aggregate-t c = search needs
 
-array-borrow-prefix-list : tie.Need-array-borrow-prefix-list
-array-borrow-prefix-list c = search needs
+array-borrow-prefix-first : tie.Need-array-borrow-prefix-first
+array-borrow-prefix-first c = search needs
 
 slice-aggregate-kept-from : tie.Need-slice-aggregate-kept-from
 slice-aggregate-kept-from c = sym (length-take-le (c .before .before .before .count2 .result) (replicate 2048 0) (omega (arith, c .before .before .if3 .left)))
 
-array-borrow-prefix-partners : tie.Need-array-borrow-prefix-partners
-array-borrow-prefix-partners c = search needs
+array-borrow-prefix-second : tie.Need-array-borrow-prefix-second
+array-borrow-prefix-second c = search needs
 
 slice-aggregate-kept-from-2 : tie.Need-slice-aggregate-kept-from-2
 slice-aggregate-kept-from-2 c = sym (length-take-le (c .before .before .before .before .count2 .result) (replicate 2048 0) (omega (arith, c .before .before .before .if3 .left)))
@@ -61,7 +61,11 @@ kept-from-requires : tie.Need-kept-from-requires
 kept-from-requires c κs = search needs
 
 returns-4 : tie.Need-returns-4
-returns-4 c = λ kept apart p l. let full = length-take-le {A = ℕ} (c .before .before .before .before .before .before .before .before .before .count2 .result) (replicate 2048 0) (omega (arith, c .before .before .before .before .before .before .before .before .if3 .left)) ∙ c .before .before .before .before .before .before .before .before .before .count2 .ensures in c .before .before .before .kept-from .ensures .3 (λ x h. absurd (omega (arith, h)), alike-empty (sheetOf (c .before .before .before .before .before .before .before .before .before .before .before .before .before .before .before .args .s .now)), λ f. absurd (true≢false (sym f))) (full, full, full) apart (λ q h. (kept q h .0, kept q h .1, λ f. absurd (true≢false (sym f)))) p l .1
+returns-4 c = λ kept apart p l.
+    let objects = c .before .before .before .before .before .before .before .before .before .count2 in
+    let full = length-take-le {A = ℕ} (objects .result) (replicate 2048 0) (omega (arith, c .before .before .before .before .before .before .before .before .if3 .left)) ∙ objects .ensures in
+    c .before .before .before .kept-from .ensures .kept (λ x h. absurd (omega (arith, h)), alike-empty (sheetOf (c .before .before .before .before .before .before .before .before .before .before .before .before .before .before .before .args .s .now)), λ f. absurd (true≢false (sym f))) (full, full, full) apart
+    (λ q h. (kept q h .0, kept q h .1, λ f. absurd (true≢false (sym f)))) p l .1
 
 pub grouped-programmes-spec : {M : Type 1} → statement M
 grouped-programmes-spec =
@@ -76,9 +80,9 @@ grouped-programmes-spec =
     returns-3
     array-share-prefix-none
     slice-aggregate-t
-    array-borrow-prefix-list
+    array-borrow-prefix-first
     slice-aggregate-kept-from
-    array-borrow-prefix-partners
+    array-borrow-prefix-second
     slice-aggregate-kept-from-2
     array-borrow-prefix-included
     slice-aggregate-kept-from-3

@@ -64,8 +64,8 @@ array-borrow-prefix-leaders c = search needs
 slice-aggregate-kept-from-3 : tie.Need-slice-aggregate-kept-from-3
 slice-aggregate-kept-from-3 c = sym (length-take-le (c .before .before .before .before .before .before .before .before .before .before .before .before .before .before .before .before .before .count .result) (c .before .before .before .before .before .before .before .before .before .first-namers2 .last .1 .1 .0) (omega (arith, c .before .before .before .before .before .before .before .before .before .before .before .before .before .before .before .before .if1 .left, c .before .before .before .before .before .before .before .before .before .first-namers2 .ensures .0)))
 
-array-borrow-prefix-partners : tie.Need-array-borrow-prefix-partners
-array-borrow-prefix-partners c = search needs
+array-borrow-prefix-second : tie.Need-array-borrow-prefix-second
+array-borrow-prefix-second c = search needs
 
 slice-aggregate-kept-from-4 : tie.Need-slice-aggregate-kept-from-4
 slice-aggregate-kept-from-4 c = sym (length-take-le (c .before .before .before .before .before .before .before .before .before .before .before .before .before .before .before .before .before .before .count .result) (replicate 2048 0) (omega (arith, c .before .before .before .before .before .before .before .before .before .before .before .before .before .before .before .before .before .if1 .left)))
@@ -80,7 +80,16 @@ kept-from-requires : tie.Need-kept-from-requires
 kept-from-requires c κs = search needs
 
 returns-3 : tie.Need-returns-3
-returns-3 c = λ apart. let full = length-take-le {A = ℕ} (c .before .before .before .before .before .before .before .before .before .before .before .before .before .before .before .before .before .before .before .before .before .before .before .count .result) (replicate 2048 0) (omega (arith, c .before .before .before .before .before .before .before .before .before .before .before .before .before .before .before .before .before .before .before .before .before .before .if1 .left)) ∙ c .before .before .before .before .before .before .before .before .before .before .before .before .before .before .before .before .before .before .before .before .before .before .before .count .ensures in c .before .before .before .kept-from .ensures .3 ((firsts-made (sheetOf (c .before .before .before .before .before .before .before .before .before .before .before .before .before .before .before .before .before .before .before .before .before .before .before .before .before .args .s .now)) (replicate 4680 0) (λ x h. nought 4680 x) SetSpans (c .before .before .before .before .before .before .before .before .before .before .before .before .before .before .before .before .before .before .first-namers .last .1 .1 .0) (c .before .before .before .before .before .before .before .before .before .before .before .before .before .before .before .before .before .before .first-namers .ensures .0) (c .before .before .before .before .before .before .before .before .before .before .before .before .before .before .before .before .before .before .first-namers .ensures .1)), c .before .before .before .before .before .before .before .before .before .before .fill-alike .ensures .1 (λ x h. nought 4680 x), λ f. c .before .before .before .before .before .before .before .before .before .before .before .before .before .before .before .before .before .before .before .before .before .sets-once .ensures (not-false _ (c .before .before .before .before .before .before .before .before .before .before .before .before .before .before .before .before .before .before .before .before .if2 .left))) (length-take-le (c .before .before .before .before .before .before .before .before .before .before .before .before .before .before .before .before .before .before .before .before .before .before .before .count .result) (c .before .before .before .before .before .before .before .before .before .before .before .before .before .before .before .first-namers2 .last .1 .1 .0) (omega (arith, c .before .before .before .before .before .before .before .before .before .before .before .before .before .before .before .before .before .before .before .before .before .before .if1 .left, c .before .before .before .before .before .before .before .before .before .before .before .before .before .before .before .first-namers2 .ensures .0)) ∙ c .before .before .before .before .before .before .before .before .before .before .before .before .before .before .before .before .before .before .before .before .before .before .before .count .ensures, full, full) apart (λ q h. absurd (omega (arith, h)))
+returns-3 c = λ apart.
+    let objects = c .before .before .before .before .before .before .before .before .before .before .before .before .before .before .before .before .before .before .before .before .before .before .before .count in
+    let owners = c .before .before .before .before .before .before .before .before .before .before .before .before .before .before .before .before .before .before .first-namers in
+    let leaders = c .before .before .before .before .before .before .before .before .before .before .before .before .before .before .before .first-namers2 in
+    let full = length-take-le {A = ℕ} (objects .result) (replicate 2048 0) (omega (arith, c .before .before .before .before .before .before .before .before .before .before .before .before .before .before .before .before .before .before .before .before .before .before .if1 .left)) ∙ objects .ensures in
+    c .before .before .before .kept-from .ensures .kept (
+      firsts-made (sheetOf (c .before .before .before .before .before .before .before .before .before .before .before .before .before .before .before .before .before .before .before .before .before .before .before .before .before .args .s .now)) (replicate 4680 0) (λ x h. nought 4680 x) SetSpans (owners .last .1 .1 .0) (owners .ensures .0) (owners .ensures .1),
+      c .before .before .before .before .before .before .before .before .before .before .fill-alike .ensures .1 (λ x h. nought 4680 x),
+      λ f. c .before .before .before .before .before .before .before .before .before .before .before .before .before .before .before .before .before .before .before .before .before .sets-once .ensures (not-false _ (c .before .before .before .before .before .before .before .before .before .before .before .before .before .before .before .before .before .before .before .before .if2 .left)),
+    ) (length-take-le (objects .result) (leaders .last .1 .1 .0) (omega (arith, c .before .before .before .before .before .before .before .before .before .before .before .before .before .before .before .before .before .before .before .before .before .before .if1 .left, leaders .ensures .0)) ∙ objects .ensures, full, full) apart (λ q h. absurd (omega (arith, h)))
 
 pub kept-programmes-spec : {M : Type 1} → statement M
 kept-programmes-spec =
@@ -103,7 +112,7 @@ kept-programmes-spec =
     slice-aggregate-kept-from-2
     array-borrow-prefix-leaders
     slice-aggregate-kept-from-3
-    array-borrow-prefix-partners
+    array-borrow-prefix-second
     slice-aggregate-kept-from-4
     array-borrow-prefix-included
     slice-aggregate-kept-from-5

@@ -6,7 +6,7 @@ use native.Mathlib.Omega.{arith}
 use lib.ListN.{length}
 use Rattle.sheet.specs.Words.{sheetOf}
 use Rattle.tables.specs.steps.Marks.{Standing}
-use Rattle.grouping.specs.steps.Groups.{Alike}
+use Rattle.grouping.specs.steps.Passing.{Alike}
 use Rattle.grouping.proofs.AlikeLaws.{alike-none, alike-more}
 use Rattle.grouping.proofs.alike.fill_alike.Statement.{statement}
 use Rattle.grouping.proofs.alike.fill_alike.Tie as tie

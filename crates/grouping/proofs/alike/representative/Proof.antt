@@ -2,7 +2,7 @@
 use mathlib.Core.Path.{refl, sym}
 use borrow.Author.Tests.{ne-eqb}
 use Rattle.tables.specs.steps.Right.{told}
-use Rattle.grouping.specs.steps.Groups.{representative}
+use Rattle.grouping.specs.steps.Passing.{representative}
 use borrow.Author.Needs.{needs}
 use Rattle.grouping.proofs.alike.representative.Statement.{statement}
 use Rattle.grouping.proofs.alike.representative.Tie as tie

@@ -1,7 +1,6 @@
 -- The objects, and the sets where they are wanted. Assumes nothing.
 use mathlib.Core.Path.{refl, sym, ap, _∙_}
 use mathlib.Core.Bool.{true≢false, not}
-use native.Mathlib.Omega.{arith}
 use borrow.Author.Tests.{not-false}
 use borrow.Author.Needs.{needs}
 use Rattle.grouping.proofs.entering.enter.Statement.{statement}
@@ -20,19 +19,26 @@ same-length-2 : tie.Need-same-length-2
 same-length-2 c = search needs
 
 returns-2 : tie.Need-returns-2
-returns-2 c = (c .before .before .before .before .enter-objects .ensures .0, λ e a b owns. (c .before .before .before .before .enter-objects .last .1 .1 .1 .1 .0, c .before .before .before .before .enter-objects .ensures .0, c .before .before .before .before .enter-objects .ensures .1 (not-false _ (c .before .if1 .left)) a b, λ f. absurd (true≢false (sym (c .if2 .taken) ∙ ap not f)), λ f. refl))
-
-count-requires : tie.Need-count-requires
-count-requires c κs = search needs
+returns-2 c =
+    let marks = c .before .before .before .before .enter-objects in (
+      marks .ensures .0,
+      λ e at owns.
+          record { marked = marks .last .1 .1 .1 .0; long = marks .ensures .0; objects = marks .ensures .1 (not-false _ (c .before .if1 .left)) at; sets = λ f. absurd (true≢false (sym (c .if2 .taken) ∙ ap not f)); alone = λ f. refl },
+    )
 
 enter-sets-requires : tie.Need-enter-sets-requires
 enter-sets-requires c κs = search needs
 
 same-length-3 : tie.Need-same-length-3
-same-length-3 c = c .before .before .enter-sets .ensures .0 ∙ c .before .before .before .before .before .before .before .before .before .enter-objects .ensures .0
+same-length-3 c = c .before .before .enter-sets .ensures .0 ∙ c .before .before .before .before .before .before .before .before .enter-objects .ensures .0
 
 returns-3 : tie.Need-returns-3
-returns-3 c = (c .before .before .enter-sets .ensures .0 ∙ c .before .before .before .before .before .before .before .before .before .enter-objects .ensures .0, λ e a b owns. let sets = c .before .before .enter-sets .ensures .1 e a owns in (c .before .before .before .before .before .before .before .before .before .enter-objects .last .1 .1 .1 .1 .0, c .before .before .before .before .before .before .before .before .before .enter-objects .ensures .0, c .before .before .before .before .before .before .before .before .before .enter-objects .ensures .1 (not-false _ (c .before .before .before .before .before .before .if1 .left)) a b, λ f. (c .before .before .enter-sets .ensures .0, sets .0, λ j l. omega (arith, sets .1 j l, c .before .before .before .before .count .ensures)), λ f. absurd (true≢false (sym (not-false _ (c .before .before .before .before .before .if2 .left)) ∙ f))))
+returns-3 c =
+    let marks = c .before .before .before .before .before .before .before .before .enter-objects in let noted = c .before .before .enter-sets in (
+      noted .ensures .0 ∙ marks .ensures .0,
+      λ e at owns.
+          record { marked = marks .last .1 .1 .1 .0; long = marks .ensures .0; objects = marks .ensures .1 (not-false _ (c .before .before .before .before .before .if1 .left)) at; sets = λ f. (noted .ensures .0, noted .ensures .1 e at owns); alone = λ f. absurd (true≢false (sym (not-false _ (c .before .before .before .before .if2 .left)) ∙ f)) },
+    )
 
 pub enter-spec : {M : Type 1} → statement M
 enter-spec =
@@ -43,7 +49,6 @@ enter-spec =
     returns
     same-length-2
     returns-2
-    count-requires
     enter-sets-requires
     same-length-3
     returns-3)

@@ -1,8 +1,11 @@
 -- By its parts. Assumes nothing.
-use Rattle.grouping.specs.steps.Groups.{objectFrom}
+use Rattle.grouping.specs.steps.Entering.{objectFrom}
 use borrow.Author.Needs.{needs}
 use Rattle.grouping.proofs.entering.object_from.Statement.{statement}
 use Rattle.grouping.proofs.entering.object_from.Tie as tie
+
+cast-word : tie.Need-cast-word
+cast-word c = search needs
 
 add-word : tie.Need-add-word
 add-word c = search needs
@@ -13,8 +16,11 @@ add-word-2 c = search needs
 word-requires : tie.Need-word-requires
 word-requires c κs = search needs
 
-cast-word : tie.Need-cast-word
-cast-word c = search needs
+cast-word-2 : tie.Need-cast-word-2
+cast-word-2 c = search needs
+
+cast-word-3 : tie.Need-cast-word-3
+cast-word-3 c = search needs
 
 mul-word : tie.Need-mul-word
 mul-word c = search needs
@@ -30,16 +36,18 @@ word-requires-2 c κs = search needs
 
 returns : tie.Need-returns
 unfolding objectFrom
-returns c = simp (c .word2 .ensures, c .before .word .ensures)
+returns c = simp (c .word2 .ensures, c .before .before .word .ensures)
 
 pub object-from-spec : {M : Type 1} → statement M
 object-from-spec =
     tie.close
     (tie.spec
+    cast-word
     add-word
     add-word-2
     word-requires
-    cast-word
+    cast-word-2
+    cast-word-3
     mul-word
     add-word-3
     add-word-4

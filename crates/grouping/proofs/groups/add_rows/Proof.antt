@@ -1,5 +1,4 @@
 -- The complements passed have rows. Assumes nothing.
-use borrow.Author.Needs.{needs}
 use Prim.Native.Nat.{_-_, _≤_, _<_}
 use mathlib.Core.Path.{_≡_, refl, _∙_}
 use native.Mathlib.Omega.{arith}
@@ -7,16 +6,17 @@ use lib.ListN.{length}
 use Rattle.sheet.specs.Words.{sheetOf}
 use Rattle.sheet.specs.Layout.{number}
 use Rattle.sheet.specs.Fields.{objects, complementList}
-use Rattle.grouping.specs.steps.Groups.{Listed}
+use Rattle.grouping.specs.steps.Rows.{RowsListed}
 use Rattle.grouping.proofs.RowLaws.{listed-row, listed-next}
+use borrow.Author.Needs.{needs}
 use Rattle.grouping.proofs.groups.add_rows.Statement.{statement}
 use Rattle.grouping.proofs.groups.add_rows.Tie as tie
 
 abbrev Inv-loop : tie.InvT-loop
-Inv-loop s list₀ partners₀ before l n g₀ j₀ list partners g j = (j ≤ n) × (length list ≡ length list₀) × (length partners ≡ length partners₀) × (g < 65535 → (before < 65535) × (Listed (sheetOf s) list₀ partners₀ before l 0 → Listed (sheetOf s) list partners g l j))
+Inv-loop s leading₀ partners₀ before l n g₀ j₀ leading partners g j = (j ≤ n) × (length leading ≡ length leading₀) × (length partners ≡ length partners₀) × (g < 65535 → (before < 65535) × (RowsListed (sheetOf s) leading₀ partners₀ before l 0 → RowsListed (sheetOf s) leading partners g l j))
 
 abbrev μ-loop : tie.MeasureT-loop
-μ-loop s list₀ partners₀ before l n g₀ j₀ list partners g j = n - j
+μ-loop s leading₀ partners₀ before l n g₀ j₀ leading partners g j = n - j
 
 number-requires : tie.Need-number-requires Inv-loop μ-loop
 number-requires c κs = search needs
@@ -46,7 +46,15 @@ loop-less : tie.Need-loop-less Inv-loop μ-loop
 loop-less c = search needs
 
 loop-again : tie.Need-loop-again Inv-loop μ-loop
-loop-again c = (search needs, c .before .before .before .before .before .add-row .ensures .0 ∙ c .before .before .before .before .before .before .before .before .before .before .loop .inv .1, c .before .before .before .before .before .add-row .ensures .1 ∙ c .before .before .before .before .before .before .before .before .before .before .loop .inv .2, λ few. let added = c .before .before .before .before .before .add-row .ensures .2 few in let so = c .before .before .before .before .before .before .before .before .before .before .loop .inv .3 (omega (arith, few, added .0)) in (so .0, λ listed. rw (added .0) (listed-row (sheetOf (c .before .before .before .before .before .before .before .before .before .before .before .before .before .before .before .args .s .now)) (c .before .before .before .before .before .before .before .before .before .before .loop .list) (c .before .before .before .before .before .add-row .last .0) (c .before .before .before .before .before .before .before .before .before .before .loop .partners) (c .before .before .before .before .before .add-row .last .1 .0) (c .before .before .before .before .before .before .before .before .before .before .loop .g) (c .before .before .before .before .before .before .before .before .before .before .before .before .before .before .before .args .l) (c .before .before .before .before .before .before .before .before .before .before .loop .j) (c .before .before .before .before .before .before .entry .result) (c .before .before .before .before .before .before .entry .ensures) (added .1) (added .2) (omega (arith, c .before .before .before .before .before .before .before .before .before .loop-test .taken, c .before .before .before .before .before .before .before .before .before .before .before .number .ensures)) (so .1 listed))))
+loop-again c =
+    let a = c .before .before .before .before .before .before .before .before .before .before .before .before .before .before .before .args in let here = c .before .before .before .before .before .before .before .before .before .before .loop in let row = c .before .before .before .before .before .add-row in let entry = c .before .before .before .before .before .before .entry in (
+      search needs,
+      row .ensures .0 ∙ here .inv .1,
+      row .ensures .1 ∙ here .inv .2,
+      λ few.
+          let added = row .ensures .2 few in let so = here .inv .3 (omega (arith, few, added .0)) in
+          (so .0, λ listed. rw (added .0) (listed-row (sheetOf (a .s .now)) (here .leading) (row .last .0) (here .partners) (row .last .1 .0) (here .g) (a .l) (here .j) (entry .result) (entry .ensures) (added .1) (added .2) (omega (arith, c .before .before .before .before .before .before .before .before .before .loop-test .taken, c .before .before .before .before .before .before .before .before .before .before .before .number .ensures)) (so .1 listed))),
+    )
 
 same-length-3 : tie.Need-same-length-3 Inv-loop μ-loop
 same-length-3 c = c .before .loop .inv .1
@@ -55,7 +63,9 @@ same-length-4 : tie.Need-same-length-4 Inv-loop μ-loop
 same-length-4 c = c .before .loop .inv .2
 
 returns-2 : tie.Need-returns-2 Inv-loop μ-loop
-returns-2 c = let z : c .before .loop .j ≡ number (sheetOf (c .before .before .before .before .before .before .args .s .now)) objects (c .before .before .before .before .before .before .args .l) complementList = omega (arith, c .before .loop .inv .0, c .before .before .number .ensures, c .loop-test .left) in (c .before .loop .inv .1, c .before .loop .inv .2, λ few. let so = c .before .loop .inv .3 few in (so .0, λ listed. listed-next (sheetOf (c .before .before .before .before .before .before .args .s .now)) (c .before .loop .list) (c .before .loop .partners) (c .before .loop .g) (c .before .before .before .before .before .before .args .l) (c .before .loop .j) z (so .1 listed)))
+returns-2 c =
+    let a = c .before .before .before .before .before .before .args in let here = c .before .loop in let z : here .j ≡ number (sheetOf (a .s .now)) objects (a .l) complementList = omega (arith, here .inv .0, c .before .before .number .ensures, c .loop-test .left) in
+    (here .inv .1, here .inv .2, λ few. let so = here .inv .3 few in (so .0, λ listed. listed-next (sheetOf (a .s .now)) (here .leading) (here .partners) (here .g) (a .l) (here .j) z (so .1 listed)))
 
 pub add-rows-spec : {M : Type 1} → statement M
 add-rows-spec =

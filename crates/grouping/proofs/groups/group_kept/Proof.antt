@@ -1,9 +1,7 @@
--- As a group of two, by one member at most, or by its list. Assumes nothing.
+-- As a group of two, or by its list. Assumes nothing.
 use mathlib.Core.Path.{sym, _∙_}
-use native.Mathlib.Omega.{arith}
 use Rattle.sheet.specs.Words.{sheetOf}
-use Rattle.grouping.proofs.LeaderLaws.{one-kept}
-use Rattle.grouping.proofs.PassLaws.{group-whole, group-agrees, many-counted}
+use Rattle.grouping.proofs.PassLaws.{list-kept}
 use Rattle.grouping.proofs.RowLaws.{led-pair}
 use borrow.Author.Needs.{needs}
 use Rattle.grouping.proofs.groups.group_kept.Statement.{statement}
@@ -22,22 +20,20 @@ pair-kept-requires : tie.Need-pair-kept-requires
 pair-kept-requires c κs = search needs
 
 returns : tie.Need-returns
-returns c = λ e a b partner. led-pair (sheetOf (c .before .before .before .before .before .before .before .args .s .now)) (c .before .before .before .before .before .before .before .args .included .now) (c .before .before .before .before .before .before .before .args .l) (c .before .before .before .before .before .before .before .args .m) (sym (c .before .before .before .before .number .ensures) ∙ c .before .before .if1 .taken) partner (rw (sym (c .before .before .before .at .ensures), sym (c .before .at2 .ensures)) (c .pair-kept .ensures e b))
+returns c =
+    let a = c .before .before .before .before .before .before .before .args in
+    λ e at only. led-pair (sheetOf (a .s .now)) (a .included .now) (a .l) (a .m) (sym (c .before .before .before .before .number .ensures) ∙ c .before .before .if1 .taken) only (rw (sym (c .before .before .before .at .ensures), sym (c .before .at2 .ensures)) (c .pair-kept .ensures e (at .2)))
 
 field-requires : tie.Need-field-requires
 field-requires c κs = search needs
 
-one-included-requires : tie.Need-one-included-requires
-one-included-requires c κs = search needs
-
-returns-2 : tie.Need-returns-2
-returns-2 c = λ e a b partner. one-kept (sheetOf (c .before .before .before .before .before .before .before .before .args .s .now)) (c .before .before .before .before .before .before .before .before .args .included .now) (c .before .before .before .before .before .before .before .before .args .l) (omega (arith, c .before .one-included .ensures (c .if2 .taken), many-counted (sheetOf (c .before .before .before .before .before .before .before .before .args .s .now)) (c .before .before .before .before .before .before .before .before .args .included .now) (c .before .before .before .before .before .before .before .before .args .base) (c .before .before .field .result) (c .before .before .before .before .before .number .result) (c .before .before .before .before .at .result) (c .before .before .before .before .before .before .before .before .args .l) a (c .before .before .field .ensures) (c .before .before .before .before .before .number .ensures) (c .before .before .before .before .at .ensures)))
-
 members-kept-requires : tie.Need-members-kept-requires
 members-kept-requires c κs = search needs
 
-returns-3 : tie.Need-returns-3
-returns-3 c = λ e a b partner. let kept = c .members-kept .ensures e b in (sym (group-whole (sheetOf (c .before .before .before .before .before .before .before .before .before .args .s .now)) (c .before .before .before .before .before .before .before .before .before .args .included .now) (c .before .before .before .before .before .before .before .before .before .args .base) (c .before .before .before .field .result) (c .before .before .before .before .before .before .number .result) (c .before .before .before .before .before .at .result) (c .before .before .before .before .before .before .before .before .before .args .l) a (c .before .before .before .field .ensures) (c .before .before .before .before .before .before .number .ensures) (c .before .before .before .before .before .at .ensures)) ∙ kept .0, group-agrees (sheetOf (c .before .before .before .before .before .before .before .before .before .args .s .now)) (c .before .before .before .before .before .before .before .before .before .args .included .now) (c .before .before .before .before .before .before .before .before .before .args .base) (c .before .before .before .field .result) (c .before .before .before .before .before .before .number .result) (c .before .before .before .before .before .at .result) (c .before .before .before .before .before .before .before .before .before .args .l) a (c .before .before .before .field .ensures) (c .before .before .before .before .before .before .number .ensures) (c .before .before .before .before .before .at .ensures) (kept .1))
+returns-2 : tie.Need-returns-2
+returns-2 c =
+    let a = c .before .before .before .before .before .before .before .args in let n = c .before .before .before .before .number in let e = c .before .before .before .at in let first = c .before .field in
+    λ t at only. list-kept (sheetOf (a .s .now)) (a .included .now) (a .sections) (first .result) (n .result) (e .result) (a .l) at (first .ensures) (n .ensures) (e .ensures) (c .members-kept .ensures t at)
 
 pub group-kept-spec : {M : Type 1} → statement M
 group-kept-spec =
@@ -49,7 +45,5 @@ group-kept-spec =
     pair-kept-requires
     returns
     field-requires
-    one-included-requires
-    returns-2
     members-kept-requires
-    returns-3)
+    returns-2)

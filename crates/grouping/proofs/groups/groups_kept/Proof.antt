@@ -1,5 +1,4 @@
 -- The rows passed are kept. Assumes nothing.
-use borrow.Author.Needs.{needs}
 use Prim.Native.Nat.{ℕ, _-_, _≤_, _<_}
 use mathlib.Core.Path.{_≡_, sym, subst}
 use mathlib.Core.Bool.{true≢false}
@@ -9,18 +8,19 @@ use borrow.Author.Count.{below-more}
 use borrow.Author.Tests.{not-false}
 use lib.ListN.{getD}
 use Rattle.sheet.specs.Words.{sheetOf}
-use Rattle.sheet.specs.Layout.{offset}
-use Rattle.sheet.specs.Fields.{references, valueSets}
-use Rattle.grouping.specs.steps.Groups.{GroupKept, LeadersIn, RowKept}
+use Rattle.grouping.specs.steps.Groups.{GroupKept}
+use Rattle.grouping.specs.steps.Passing.{Begins}
+use Rattle.grouping.specs.steps.Rows.{RowKept, RowsComplete}
 use Rattle.grouping.proofs.RowLaws.{rows-kept}
+use borrow.Author.Needs.{needs}
 use Rattle.grouping.proofs.groups.groups_kept.Statement.{statement}
 use Rattle.grouping.proofs.groups.groups_kept.Tie as tie
 
 abbrev Inv-loop : tie.InvT-loop
-Inv-loop s base sets list partners g included n asked₀ i₀ asked i = (i ≤ n) × (base ≡ offset (sheetOf s) references → sets ≡ offset (sheetOf s) valueSets → LeadersIn (sheetOf s) list partners g → (asked < 65536 → GroupKept (sheetOf s) included asked) × ((j : ℕ) → j < i → RowKept (sheetOf s) included (getD list j 0) (getD partners j 0)))
+Inv-loop s sections leading partners g included n asked₀ i₀ asked i = (i ≤ n) × (Begins (sheetOf s) sections → RowsComplete (sheetOf s) leading partners g → (asked < 65536 → GroupKept (sheetOf s) included asked) × ((j : ℕ) → j < i → RowKept (sheetOf s) included (getD leading j 0) (getD partners j 0)))
 
 abbrev μ-loop : tie.MeasureT-loop
-μ-loop s base sets list partners g included n asked₀ i₀ asked i = n - i
+μ-loop s sections leading partners g included n asked₀ i₀ asked i = n - i
 
 returns : tie.Need-returns Inv-loop μ-loop
 returns c = λ e. absurd (true≢false (sym e))
@@ -32,7 +32,7 @@ returns-3 : tie.Need-returns-3 Inv-loop μ-loop
 returns-3 c = λ e. absurd (true≢false (sym e))
 
 loop-holds : tie.Need-loop-holds Inv-loop μ-loop
-loop-holds c = (search needs, λ a b listed. (λ few. absurd (omega arith), λ j h. absurd (omega arith)))
+loop-holds c = (search needs, λ at listed. (λ few. absurd (omega arith), λ j h. absurd (omega arith)))
 
 mul-l : tie.Need-mul-l Inv-loop μ-loop
 mul-l c = search needs
@@ -66,28 +66,28 @@ loop-less c = search needs
 
 loop-again : tie.Need-loop-again Inv-loop μ-loop
 loop-again c =
-    let i : ℕ = c .before .before .before .before .before .loop .i in
-    let l : ℕ = getD (c .before .before .before .before .before .before .before .before .before .before .before .before .before .args .list .now) i 0 in
-    let P : ℕ → Type 0 = λ j. RowKept (sheetOf (c .before .before .before .before .before .before .before .before .before .before .before .before .before .args .s .now)) (c .before .before .before .before .before .before .before .before .before .before .before .before .before .args .included .now) (getD (c .before .before .before .before .before .before .before .before .before .before .before .before .before .args .list .now) j 0) (getD (c .before .before .before .before .before .before .before .before .before .before .before .before .before .args .partners .now) j 0) in
-    let few : c .before .before .before .before .before .before .before .before .before .before .before .before .before .args .g < 65535 = omega arith in (
+    let a = c .before .before .before .before .before .before .before .before .before .before .before .before .before .args in let i : ℕ = c .before .before .before .before .before .loop .i in let Kept : ℕ → Type 0 = GroupKept (sheetOf (a .s .now)) (a .included .now) in let P : ℕ → Type 0 = λ j. RowKept (sheetOf (a .s .now)) (a .included .now) (getD (a .leading .now) j 0) (getD (a .partners .now) j 0) in
+    let few : a .g < 65535 = omega arith in (
       search needs,
-      λ a b listed.
-          let so = c .before .before .before .before .before .loop .inv .1 a b listed in
+      λ at listed.
+          let so = c .before .before .before .before .before .loop .inv .1 at listed in
           ⊎-elim
           (λ w.
-          let kept = w .1 .ensures (not-false _ (w .2 .left)) a b (listed few .2 i (c .before .before .before .before .loop-test .taken)) in
-          (subst (λ (x : ℕ). x < 65536 → GroupKept (sheetOf (c .before .before .before .before .before .before .before .before .before .before .before .before .before .args .s .now)) (c .before .before .before .before .before .before .before .before .before .before .before .before .before .args .included .now) x) (sym (w .3)) (λ small. kept), below-more P i (so .1) (inr kept)))
+          let kept = w .1 .ensures (not-false _ (w .2 .left)) at (listed few .2 i (c .before .before .before .before .loop-test .taken)) in
+          (subst (λ (x : ℕ). x < 65536 → Kept x) (sym (w .3)) (λ small. kept), below-more P i (so .1) (inr kept)))
           (λ v. (
-            subst (λ (x : ℕ). x < 65536 → GroupKept (sheetOf (c .before .before .before .before .before .before .before .before .before .before .before .before .before .args .s .now)) (c .before .before .before .before .before .before .before .before .before .before .before .before .before .args .included .now) x) (sym (v .1)) (so .0),
+            subst (λ (x : ℕ). x < 65536 → Kept x) (sym (v .1)) (so .0),
             below-more P i (so .1) (⊎-elim (λ q. inl q)
-                (λ q. let z : l ≡ c .before .before .before .before .before .loop .asked = q in inr (subst (λ (x : ℕ). GroupKept (sheetOf (c .before .before .before .before .before .before .before .before .before .before .before .before .before .args .s .now)) (c .before .before .before .before .before .before .before .before .before .before .before .before .before .args .included .now) x) (sym z) (so .0 (omega (arith, z, c .before .before .before .shared-slice-known5 .given i)))))
+                (λ q. let z : getD (a .leading .now) i 0 ≡ c .before .before .before .before .before .loop .asked = q in inr (subst Kept (sym z) (so .0 (omega (arith, z, c .before .before .before .shared-slice-known5 .given i)))))
                 (c .before .row-passes .ensures (not-false _ (v .0 .left)))),
           ))
           (c .if4 .came),
     )
 
 returns-5 : tie.Need-returns-5 Inv-loop μ-loop
-returns-5 c = let z : c .before .loop .i ≡ c .before .before .before .before .before .before .before .before .before .args .g = omega (arith, c .before .loop .inv .0, c .loop-test .left) in λ e a b listed. rows-kept (sheetOf (c .before .before .before .before .before .before .before .before .before .args .s .now)) (c .before .before .before .before .before .before .before .before .before .args .included .now) (c .before .before .before .before .before .before .before .before .before .args .list .now) (c .before .before .before .before .before .before .before .before .before .args .partners .now) (c .before .before .before .before .before .before .before .before .before .args .g) (omega arith) listed (rw z at (c .before .loop .inv .1 a b listed .1))
+returns-5 c =
+    let a = c .before .before .before .before .before .before .before .before .before .args in let here = c .before .loop in let z : here .i ≡ a .g = omega (arith, here .inv .0, c .loop-test .left) in
+    λ e at listed. rows-kept (sheetOf (a .s .now)) (a .included .now) (a .leading .now) (a .partners .now) (a .g) (omega arith) listed (rw z at (here .inv .1 at listed .1))
 
 pub groups-kept-spec : {M : Type 1} → statement M
 groups-kept-spec =

@@ -1,28 +1,30 @@
 -- The members passed are counted, and their sets agree. Assumes nothing.
-use borrow.Author.Needs.{needs}
 use Prim.Native.Nat.{ℕ, _+_, _-_, _≤_, _<_}
 use mathlib.Core.Path.{_≡_, sym, ap, _∙_}
-use mathlib.Core.Bool.{cond, false, not, true≢false}
+use mathlib.Core.Bool.{false, true≢false}
 use native.Mathlib.Omega.{arith}
 use native.Mathlib.Numerals.{add-one}
-use lib.Dec.{eqb, ltb}
-use lib.ListN.{getD}
 use native.Mathlib.Nat.{add-zero}
 use borrow.Author.Count.{below-more}
-use Rattle.sheet.specs.Words.{sheetOf, word}
+use lib.ListN.{getD}
+use Rattle.sheet.specs.Words.{sheetOf}
 use Rattle.sheet.specs.Layout.{offset}
 use Rattle.sheet.specs.Fields.{valueSets}
 use Rattle.profile.specs.Counting.{howMany}
 use Rattle.profile.specs.Rules.{setsDiffer}
-use Rattle.grouping.proofs.PassLaws.{all-whole}
+use Rattle.grouping.specs.steps.Groups.{groupWhole, listedIn, manyListed, setsListed}
+use borrow.Author.Needs.{needs}
 use Rattle.grouping.proofs.groups.members_kept.Statement.{statement}
 use Rattle.grouping.proofs.groups.members_kept.Tie as tie
 
 abbrev Inv-loop : tie.InvT-loop
-Inv-loop s base sets first n included e many₀ noted₀ i₀ many noted i = (i ≤ n) × (many ≤ i + 1) × (noted ≤ i + 1) × (many ≡ cond (not (eqb e 0)) 1 0 + howMany (λ j. not (eqb (getD included (word (sheetOf s) (base + (first + j))) 0) 0)) i) × (noted ≡ cond (ltb 1 e) 1 0 + howMany (λ j. ltb 1 (getD included (word (sheetOf s) (base + (first + j))) 0)) i) × (sets ≡ offset (sheetOf s) valueSets → 1 < e → (j : ℕ) → j < i → 1 < getD included (word (sheetOf s) (base + (first + j))) 0 → setsDiffer (sheetOf s) (e - 2) (getD included (word (sheetOf s) (base + (first + j))) 0 - 2) ≡ false)
+Inv-loop s first n included e base sets many₀ noted₀ i₀ many noted i = (i ≤ n) × (many ≤ i + 1) × (noted ≤ i + 1) × (many ≡ manyListed (sheetOf s) included base first i e) × (noted ≡ setsListed (sheetOf s) included base first i e) × (sets ≡ offset (sheetOf s) valueSets → 1 < e → (j : ℕ) → j < i → 1 < listedIn (sheetOf s) included base first j → setsDiffer (sheetOf s) (e - 2) (listedIn (sheetOf s) included base first j - 2) ≡ false)
 
 abbrev μ-loop : tie.MeasureT-loop
-μ-loop s base sets first n included e many₀ noted₀ i₀ many noted i = n - i
+μ-loop s first n included e base sets many₀ noted₀ i₀ many noted i = n - i
+
+cast-base : tie.Need-cast-base Inv-loop μ-loop
+cast-base c = search needs
 
 word-count-requires : tie.Need-word-count-requires Inv-loop μ-loop
 word-count-requires c κs = search needs
@@ -99,13 +101,29 @@ loop-less c = search needs
 
 loop-again : tie.Need-loop-again Inv-loop μ-loop
 unfolding howMany
-loop-again c = (search needs, omega (arith, c .before .before .before .before .before .before .before .loop .inv .1, c .before .one3 .ensures .1), omega (arith, c .before .before .before .before .before .before .before .loop .inv .2, c .one4 .ensures .1), rw (add-one, c .before .one3 .ensures .0, c .before .before .before .before .before .before .before .loop .inv .3, c .before .before .before .before .at .ensures, c .before .before .before .before .before .word .ensures) (omega arith), rw (add-one, c .one4 .ensures .0, c .before .before .before .before .before .before .before .loop .inv .4, c .before .before .before .before .at .ensures, c .before .before .before .before .before .word .ensures) (omega arith), λ at k. below-more (λ j. 1 < getD (c .before .before .before .before .before .before .before .before .before .before .before .before .before .before .args .included .now) (word (sheetOf (c .before .before .before .before .before .before .before .before .before .before .before .before .before .before .args .s .now)) (c .before .before .before .before .before .before .before .before .before .before .before .before .before .before .args .base + (c .before .before .before .before .before .before .before .before .before .before .before .before .before .before .args .first + j))) 0 → setsDiffer (sheetOf (c .before .before .before .before .before .before .before .before .before .before .before .before .before .before .args .s .now)) (c .before .before .before .before .before .before .before .before .before .before .before .before .before .before .args .e - 2) (getD (c .before .before .before .before .before .before .before .before .before .before .before .before .before .before .args .included .now) (word (sheetOf (c .before .before .before .before .before .before .before .before .before .before .before .before .before .before .args .s .now)) (c .before .before .before .before .before .before .before .before .before .before .before .before .before .before .args .base + (c .before .before .before .before .before .before .before .before .before .before .before .before .before .before .args .first + j))) 0 - 2) ≡ false) (c .before .before .before .before .before .before .before .loop .i) (c .before .before .before .before .before .before .before .loop .inv .5 at k) (λ l. let z = c .before .before .before .before .at .ensures ∙ ap (λ (x : ℕ). getD (c .before .before .before .before .before .before .before .before .before .before .before .before .before .before .args .included .now) x 0) (c .before .before .before .before .before .word .ensures) in rw (sym z) (c .before .before .before .noted-differ .ensures (c .before .before .if2 .left) at k (rw z l))))
+loop-again c =
+    let a = c .before .before .before .before .before .before .before .before .before .before .before .before .before .before .before .args in let before = c .before .before .before .before .before .before .before .loop .inv in let read = c .before .before .before .before .at in let word = c .before .before .before .before .before .word in
+    let had : ℕ → ℕ = listedIn (sheetOf (a .s .now)) (a .included .now) (a .sections .references) (a .first) in (
+      search needs,
+      omega (arith, before .1, c .before .one3 .ensures .1),
+      omega (arith, before .2, c .one4 .ensures .1),
+      rw (add-one, c .before .one3 .ensures .0, before .3, read .ensures, word .ensures) (omega arith),
+      rw (add-one, c .one4 .ensures .0, before .4, read .ensures, word .ensures) (omega arith),
+      λ at k.
+          below-more (λ j. 1 < had j → setsDiffer (sheetOf (a .s .now)) (a .e - 2) (had j - 2) ≡ false) (c .before .before .before .before .before .before .before .loop .i) (before .5 at k)
+          (λ l.
+          let z = read .ensures ∙ ap (λ (x : ℕ). getD (a .included .now) x 0) (word .ensures) in
+          rw (sym z) (c .before .before .before .noted-differ .ensures (c .before .before .if2 .left) at k (rw z l))),
+    )
 
 add-all : tie.Need-add-all Inv-loop μ-loop
 add-all c = search needs
 
 returns-3 : tie.Need-returns-3 Inv-loop μ-loop
-returns-3 c = let z : c .before .loop .i ≡ c .before .before .before .before .before .before .before .before .args .n = omega (arith, c .before .loop .inv .0, c .loop-test .left) in λ e at. (all-whole _ _ _ (rw (c .before .loop .inv .3, c .before .loop .inv .4, z, add-one) at e), rw z at (c .before .loop .inv .5 at))
+unfolding groupWhole
+returns-3 c =
+    let here = c .before .loop in let z : here .i ≡ c .before .before .before .before .before .before .before .before .before .args .n = omega (arith, here .inv .0, c .loop-test .left) in
+    λ e at. record { whole = rw (here .inv .3, here .inv .4, z, add-one) at e; agreeing = rw z at (here .inv .5 (at .2)) }
 
 pub members-kept-spec : {M : Type 1} → statement M
 members-kept-spec =
@@ -113,6 +131,7 @@ members-kept-spec =
     (tie.spec
     Inv-loop
     μ-loop
+    cast-base
     word-count-requires
     add-if1
     add-if1-2

@@ -21,7 +21,9 @@ same-length : tie.Need-same-length
 same-length c = search needs
 
 returns : tie.Need-returns
-returns c = let more : c .before .before .before .before .before .before .args .seen + 1 < getD (c .before .before .before .before .before .before .args .groups .now) (c .before .before .before .before .before .before .args .l) 0 = omega (arith, c .if1 .taken, c .before .at .ensures) in (refl, λ e a b. (lies-inside (c .before .before .before .before .before .before .args .groups .now) (c .before .before .before .before .before .before .args .l) (omega (arith, more)), λ x k other. refl, inr (inr (more, refl))))
+returns c =
+    let a = c .before .before .before .before .before .before .args in let more : a .seen + 1 < getD (a .groups .now) (a .l) 0 = omega (arith, c .if1 .taken, c .before .at .ensures) in
+    (refl, λ e at. (lies-inside (a .groups .now) (a .l) (omega (arith, more)), λ x k other. refl, inr (inr (more, refl))))
 
 add-change : tie.Need-add-change
 add-change c = search needs
@@ -33,7 +35,13 @@ same-length-2 : tie.Need-same-length-2
 same-length-2 c = search needs
 
 returns-2 : tie.Need-returns-2
-returns-2 c = (c .before .before .change .ensures .0, λ e a b. let now = c .before .before .change .ensures .1 e in (now .0, others (c .before .before .before .before .before .before .before .before .before .before .before .args .groups .now) (c .before .before .change .last .0) (c .before .before .before .before .before .before .before .before .before .before .before .args .l) (c .before .before .before .before .before .before .before .before .before .before .before .args .seen + 1) (c .before .before .change .ensures .0) (now .2), inl (omega (arith, c .before .before .before .before .before .before .at .ensures, c .before .before .before .before .if2 .taken), put (c .before .before .before .before .before .before .before .before .before .before .before .args .groups .now) (c .before .before .change .last .0) (c .before .before .before .before .before .before .before .before .before .before .before .args .l) (c .before .before .before .before .before .before .before .before .before .before .before .args .seen + 1) (c .before .before .change .ensures .0) (now .2) (now .0))))
+returns-2 c =
+    let a = c .before .before .before .before .before .before .before .before .before .before .before .args in let changed = c .before .before .change in (
+      changed .ensures .0,
+      λ e at.
+          let now = changed .ensures .1 e in
+          (now .0, others (a .groups .now) (changed .last .0) (a .l) (a .seen + 1) (changed .ensures .0) (now .2), inl (omega (arith, c .before .before .before .before .before .before .at .ensures, c .before .before .before .before .if2 .taken), put (a .groups .now) (changed .last .0) (a .l) (a .seen + 1) (changed .ensures .0) (now .2) (now .0))),
+    )
 
 entry-requires : tie.Need-entry-requires
 entry-requires c κs = search needs
@@ -57,7 +65,13 @@ same-length-4 : tie.Need-same-length-4
 same-length-4 c = search needs
 
 returns-4 : tie.Need-returns-4
-returns-4 c = (c .before .before .change2 .ensures .0, λ e a b. let now = c .before .before .change2 .ensures .1 e in (now .0, others (c .before .before .before .before .before .before .before .before .before .before .before .before .before .before .args .groups .now) (c .before .before .change2 .last .0) (c .before .before .before .before .before .before .before .before .before .before .before .before .before .before .args .l) (c .before .before .before .before .before .before .before .before .before .before .before .before .before .before .args .seen + 2) (c .before .before .change2 .ensures .0) (now .2), inr (inl (c .before .before .before .before .before .group-kept .ensures (not-false _ (c .before .before .before .before .if3 .left)) a b (λ one. c .before .before .before .before .before .before .entry .ensures), put (c .before .before .before .before .before .before .before .before .before .before .before .before .before .before .args .groups .now) (c .before .before .change2 .last .0) (c .before .before .before .before .before .before .before .before .before .before .before .before .before .before .args .l) (c .before .before .before .before .before .before .before .before .before .before .before .before .before .before .args .seen + 2) (c .before .before .change2 .ensures .0) (now .2) (now .0)))))
+returns-4 c =
+    let a = c .before .before .before .before .before .before .before .before .before .before .before .before .before .before .args in let changed = c .before .before .change2 in (
+      changed .ensures .0,
+      λ e at.
+          let now = changed .ensures .1 e in
+          (now .0, others (a .groups .now) (changed .last .0) (a .l) (a .seen + 2) (changed .ensures .0) (now .2), inr (inl (c .before .before .before .before .before .group-kept .ensures (not-false _ (c .before .before .before .before .if3 .left)) at (λ one. c .before .before .before .before .before .before .entry .ensures), put (a .groups .now) (changed .last .0) (a .l) (a .seen + 2) (changed .ensures .0) (now .2) (now .0)))),
+    )
 
 pub group-asked-spec : {M : Type 1} → statement M
 group-asked-spec =

@@ -2,7 +2,6 @@
 use Prim.Native.Nat.{_-_}
 use mathlib.Core.Path.{_≡_, refl, ap, _∙_}
 use native.Mathlib.Omega.{arith}
-use borrow.Author.Count.{below-more}
 use borrow.Author.Tests.{not-false}
 use lib.ListN.{length}
 use Rattle.sheet.specs.Words.{sheetOf}
@@ -11,25 +10,22 @@ use Rattle.sheet.specs.Fields.{objects}
 use Rattle.tables.specs.declared.Naming.the-variants.{Complements}
 use Rattle.tables.specs.steps.Marks.{firstBy}
 use Rattle.tables.specs.steps.Right.{Leaders}
-use Rattle.grouping.specs.steps.Groups.{GroupsApart, Kept, KeptTo, Passing, Ready}
+use Rattle.grouping.specs.steps.Groups.{GroupsApart, KeptTo}
+use Rattle.grouping.specs.steps.Passing.{Passing}
+use Rattle.grouping.specs.steps.Leaders.{Ready}
+use Rattle.grouping.proofs.LeaderLaws.{led-more, led-ready}
 use borrow.Author.Needs.{needs}
 use Rattle.grouping.proofs.programmes.leaders_from.Statement.{statement}
 use Rattle.grouping.proofs.programmes.leaders_from.Tie as tie
 
 abbrev Inv-loop : tie.InvT-loop
-Inv-loop s owners alike both from leaders groups₀ included₀ base records sets n p₀ groups included p = (length groups ≡ length groups₀) × (length included ≡ length included₀) × (Passing (sheetOf s) both owners alike → Leaders (sheetOf s) leaders → GroupsApart (sheetOf s) → length groups₀ ≡ count (sheetOf s) objects → length included₀ ≡ count (sheetOf s) objects → KeptTo (sheetOf s) both from → Ready (sheetOf s) p included groups × KeptTo (sheetOf s) both p)
+Inv-loop s owners alike leaders groups₀ included₀ sections both n p₀ groups included p = (length groups ≡ length groups₀) × (length included ≡ length included₀) × (Passing (sheetOf s) both owners alike → GroupsApart (sheetOf s) → length groups₀ ≡ count (sheetOf s) objects → length included₀ ≡ count (sheetOf s) objects → KeptTo (sheetOf s) both p₀ → Ready (sheetOf s) p included groups × KeptTo (sheetOf s) both p)
 
 abbrev μ-loop : tie.MeasureT-loop
-μ-loop s owners alike both from leaders groups₀ included₀ base records sets n p₀ groups included p = n - p
+μ-loop s owners alike leaders groups₀ included₀ sections both n p₀ groups included p = n - p
 
-offset-requires : tie.Need-offset-requires Inv-loop μ-loop
-offset-requires c κs = search needs
-
-offset-requires-2 : tie.Need-offset-requires-2 Inv-loop μ-loop
-offset-requires-2 c κs = search needs
-
-offset-requires-3 : tie.Need-offset-requires-3 Inv-loop μ-loop
-offset-requires-3 c κs = search needs
+section-offsets-requires : tie.Need-section-offsets-requires Inv-loop μ-loop
+section-offsets-requires c κs = search needs
 
 clear-requires : tie.Need-clear-requires Inv-loop μ-loop
 clear-requires c κs = search needs
@@ -47,43 +43,96 @@ count-requires : tie.Need-count-requires Inv-loop μ-loop
 count-requires c κs = search needs
 
 loop-holds : tie.Need-loop-holds Inv-loop μ-loop
-loop-holds c = (refl, refl, λ pass led apart a b before. ((b, c .before .before .before .clear3 .ensures .1, a, λ x l. omega (arith, c .before .before .before .before .before .before .before .clear2 .ensures .1 x l)), before))
+loop-holds c = (refl, refl, λ pass apart a b before. ((b, c .before .before .before .clear3 .ensures .1, a, λ x l. omega (arith, c .before .before .before .before .before .before .before .clear2 .ensures .1 x l)), before))
 
-kept-by-leaders-requires : tie.Need-kept-by-leaders-requires Inv-loop μ-loop
-kept-by-leaders-requires c κs = search needs
+enter-requires : tie.Need-enter-requires Inv-loop μ-loop
+enter-requires c κs = search needs
 
 same-length : tie.Need-same-length Inv-loop μ-loop
-same-length c = c .before .before .before .before .before .before .before .before .before .before .before .before .before .before .before .before .before .before .before .before .before .before .first-namers .ensures .0 ∙ c .before .before .before .before .before .before .before .before .before .before .before .before .before .before .before .before .before .before .before .before .before .before .before .before .before .before .clear .ensures .0
+same-length c = c .before .before .before .before .before .before .before .before .before .before .before .before .before .before .before .before .before .before .first-namers .ensures .0 ∙ c .before .before .before .before .before .before .before .before .before .before .before .before .before .before .before .before .before .before .before .before .before .before .clear .ensures .0
 
 same-length-2 : tie.Need-same-length-2 Inv-loop μ-loop
-same-length-2 c = c .before .before .before .before .before .kept-by-leaders .ensures .1 ∙ c .before .before .before .before .before .before .before .before .before .before .loop .inv .0 ∙ c .before .before .before .before .before .before .before .before .before .before .before .before .before .before .before .before .before .before .clear2 .ensures .0
+same-length-2 c = c .before .before .before .before .before .before .loop .inv .0 ∙ c .before .before .before .before .before .before .before .before .before .before .before .before .before .before .clear2 .ensures .0
 
 same-length-3 : tie.Need-same-length-3 Inv-loop μ-loop
-same-length-3 c = c .before .before .before .before .before .kept-by-leaders .ensures .0 ∙ c .before .before .before .before .before .before .before .before .before .before .loop .inv .1 ∙ c .before .before .before .before .before .before .before .before .before .before .before .before .before .before .clear3 .ensures .0
+same-length-3 c = c .before .before .before .enter .ensures .0 ∙ c .before .before .before .before .before .before .loop .inv .1 ∙ c .before .before .before .before .before .before .before .before .before .before .clear3 .ensures .0
 
 returns : tie.Need-returns Inv-loop μ-loop
-returns c = (c .before .before .before .before .before .before .before .before .before .before .before .before .before .before .before .before .before .before .before .before .before .before .first-namers .ensures .0 ∙ c .before .before .before .before .before .before .before .before .before .before .before .before .before .before .before .before .before .before .before .before .before .before .before .before .before .before .clear .ensures .0, c .before .before .before .before .before .kept-by-leaders .ensures .1 ∙ c .before .before .before .before .before .before .before .before .before .before .loop .inv .0 ∙ c .before .before .before .before .before .before .before .before .before .before .before .before .before .before .before .before .before .before .clear2 .ensures .0, c .before .before .before .before .before .kept-by-leaders .ensures .0 ∙ c .before .before .before .before .before .before .before .before .before .before .loop .inv .1 ∙ c .before .before .before .before .before .before .before .before .before .before .before .before .before .before .clear3 .ensures .0, λ pass full apart before. c .before .before .before .before .before .before .before .before .before .before .loop .inv .2 pass (λ x l. c .before .before .before .before .before .before .before .before .before .before .before .before .before .before .before .before .before .before .before .before .before .before .first-namers .ensures .1 x l ∙ ap (firstBy (sheetOf (c .before .before .before .before .before .before .before .before .before .before .before .before .before .before .before .before .before .before .before .before .before .before .before .before .before .before .before .before .before .before .before .before .before .before .before .before .before .args .s .now)) Complements x) (c .before .before .before .before .before .before .before .before .before .before .before .before .before .before .before .before .before .before .before .before .before .before .before .before .before .before .clear .ensures .1 x (rw (c .before .before .before .before .before .before .before .before .before .before .before .before .before .before .before .before .before .before .before .before .before .before .first-namers .ensures .0) at l))) apart (c .before .before .before .before .before .before .before .before .before .before .before .before .before .before .before .before .before .before .clear2 .ensures .0 ∙ full .1) (c .before .before .before .before .before .before .before .before .before .before .before .before .before .before .clear3 .ensures .0 ∙ full .2) before .1)
+returns c =
+    let l = c .before .before .before .before .before .before in
+    record {
+      first = l .before .before .before .before .before .before .before .before .before .before .before .before .first-namers .ensures .0 ∙ l .before .before .before .before .before .before .before .before .before .before .before .before .before .before .before .before .clear .ensures .0;
+      second = l .loop .inv .0 ∙ l .before .before .before .before .before .before .before .before .clear2 .ensures .0;
+      third = c .before .before .before .enter .ensures .0 ∙ l .loop .inv .1 ∙ l .before .before .before .before .clear3 .ensures .0;
+      kept = λ pass full apart before. l .loop .inv .2 pass apart (l .before .before .before .before .before .before .before .before .clear2 .ensures .0 ∙ full .1) (l .before .before .before .before .clear3 .ensures .0 ∙ full .2) before .1;
+    }
 
-add-p : tie.Need-add-p Inv-loop μ-loop
-add-p c = search needs
-
-loop-less : tie.Need-loop-less Inv-loop μ-loop
-loop-less c = search needs
-
-loop-again : tie.Need-loop-again Inv-loop μ-loop
-loop-again c = (c .before .before .before .before .before .kept-by-leaders .ensures .1 ∙ c .before .before .before .before .before .before .before .before .before .before .loop .inv .0, c .before .before .before .before .before .kept-by-leaders .ensures .0 ∙ c .before .before .before .before .before .before .before .before .before .before .loop .inv .1, λ pass led apart a b before. let so = c .before .before .before .before .before .before .before .before .before .before .loop .inv .2 pass led apart a b before in let next = c .before .before .before .before .before .kept-by-leaders .ensures .2 (not-false _ (c .if1 .left)) (c .before .before .before .before .before .before .before .before .before .before .before .before .before .before .before .before .before .before .before .before .before .before .before .before .before .before .before .before .before .before .offset .ensures, c .before .before .before .before .before .before .before .before .before .before .before .before .before .before .before .before .before .before .before .before .before .before .before .before .before .before .before .before .before .offset2 .ensures, c .before .before .before .before .before .before .before .before .before .before .before .before .before .before .before .before .before .before .before .before .before .before .before .before .before .before .before .before .offset3 .ensures) pass led apart (so .0) (λ l. so .1 (c .before .before .before .before .before .before .before .before .before .before .loop .p - 1) (omega arith)) in (next .0, below-more (Kept (sheetOf (c .before .before .before .before .before .before .before .before .before .before .before .before .before .before .before .before .before .before .before .before .before .before .before .before .before .before .before .before .before .before .before .before .before .before .before .before .before .args .s .now)) (c .before .before .before .before .before .before .before .before .before .before .before .before .before .before .before .before .before .before .before .before .before .before .before .before .before .before .before .before .before .before .before .before .before .before .before .before .before .args .both)) (c .before .before .before .before .before .before .before .before .before .before .loop .p) (so .1) (next .1)))
+groups-asked-requires : tie.Need-groups-asked-requires Inv-loop μ-loop
+groups-asked-requires c κs = search needs
 
 same-length-4 : tie.Need-same-length-4 Inv-loop μ-loop
-same-length-4 c = c .before .before .before .before .before .before .before .before .before .before .before .before .before .first-namers .ensures .0 ∙ c .before .before .before .before .before .before .before .before .before .before .before .before .before .before .before .before .before .clear .ensures .0
+same-length-4 c = c .before .before .before .before .before .before .before .before .before .before .before .before .before .before .before .before .before .before .before .before .before .before .before .before .before .first-namers .ensures .0 ∙ c .before .before .before .before .before .before .before .before .before .before .before .before .before .before .before .before .before .before .before .before .before .before .before .before .before .before .before .before .before .clear .ensures .0
 
 same-length-5 : tie.Need-same-length-5 Inv-loop μ-loop
-same-length-5 c = c .before .loop .inv .0 ∙ c .before .before .before .before .before .before .before .before .before .clear2 .ensures .0
+same-length-5 c = c .before .before .before .groups-asked .ensures .0 ∙ c .before .before .before .before .before .before .before .before .before .before .before .before .before .loop .inv .0 ∙ c .before .before .before .before .before .before .before .before .before .before .before .before .before .before .before .before .before .before .before .before .before .clear2 .ensures .0
 
 same-length-6 : tie.Need-same-length-6 Inv-loop μ-loop
-same-length-6 c = c .before .loop .inv .1 ∙ c .before .before .before .before .before .clear3 .ensures .0
+same-length-6 c = c .before .before .before .before .before .before .before .before .before .before .enter .ensures .0 ∙ c .before .before .before .before .before .before .before .before .before .before .before .before .before .loop .inv .1 ∙ c .before .before .before .before .before .before .before .before .before .before .before .before .before .before .before .before .before .clear3 .ensures .0
 
 returns-2 : tie.Need-returns-2 Inv-loop μ-loop
-returns-2 c = (c .before .before .before .before .before .before .before .before .before .before .before .before .before .first-namers .ensures .0 ∙ c .before .before .before .before .before .before .before .before .before .before .before .before .before .before .before .before .before .clear .ensures .0, c .before .loop .inv .0 ∙ c .before .before .before .before .before .before .before .before .before .clear2 .ensures .0, c .before .loop .inv .1 ∙ c .before .before .before .before .before .clear3 .ensures .0, λ pass full apart before q l. c .before .loop .inv .2 pass (λ x l. c .before .before .before .before .before .before .before .before .before .before .before .before .before .first-namers .ensures .1 x l ∙ ap (firstBy (sheetOf (c .before .before .before .before .before .before .before .before .before .before .before .before .before .before .before .before .before .before .before .before .before .before .before .before .before .before .before .before .args .s .now)) Complements x) (c .before .before .before .before .before .before .before .before .before .before .before .before .before .before .before .before .before .clear .ensures .1 x (rw (c .before .before .before .before .before .before .before .before .before .before .before .before .before .first-namers .ensures .0) at l))) apart (c .before .before .before .before .before .before .before .before .before .clear2 .ensures .0 ∙ full .1) (c .before .before .before .before .before .clear3 .ensures .0 ∙ full .2) before .1 q (omega (arith, l, c .loop-test .left)))
+returns-2 c =
+    let l = c .before .before .before .before .before .before .before .before .before .before .before .before .before in
+    record {
+      first = l .before .before .before .before .before .before .before .before .before .before .before .before .first-namers .ensures .0 ∙ l .before .before .before .before .before .before .before .before .before .before .before .before .before .before .before .before .clear .ensures .0;
+      second = c .before .before .before .groups-asked .ensures .0 ∙ l .loop .inv .0 ∙ l .before .before .before .before .before .before .before .before .clear2 .ensures .0;
+      third = c .before .before .before .before .before .before .before .before .before .before .enter .ensures .0 ∙ l .loop .inv .1 ∙ l .before .before .before .before .clear3 .ensures .0;
+      kept = λ pass full apart before. l .loop .inv .2 pass apart (l .before .before .before .before .before .before .before .before .clear2 .ensures .0 ∙ full .1) (l .before .before .before .before .clear3 .ensures .0 ∙ full .2) before .1;
+    }
+
+mark-items-requires : tie.Need-mark-items-requires Inv-loop μ-loop
+mark-items-requires c κs = search needs
+
+next-other-requires : tie.Need-next-other-requires Inv-loop μ-loop
+next-other-requires c κs = search needs
+
+loop-less : tie.Need-loop-less Inv-loop μ-loop
+loop-less c = omega (arith, c .next-other .ensures .0, c .before .before .before .before .before .before .before .before .before .before .before .before .before .before .before .before .before .loop-test .taken)
+
+loop-again : tie.Need-loop-again Inv-loop μ-loop
+loop-again c =
+    let a = c .before .before .before .before .before .before .before .before .before .before .before .before .before .before .before .before .before .before .before .before .before .before .before .before .before .before .before .before .before .before .before .before .before .before .before .before .before .before .before .before .before .before .before .args in
+    let here = c .before .before .before .before .before .before .before .before .before .before .before .before .before .before .before .before .before .before .loop in
+    let named = c .before .before .before .before .before .before .before .before .before .before .before .before .before .before .before .before .before .before .before .before .before .before .before .before .before .before .before .before .before .before .first-namers in let enter = c .before .before .before .before .before .before .before .before .before .before .before .before .before .before .before .enter in
+    let asked = c .before .before .before .before .before .before .before .before .groups-asked in let cleared = c .before .before .before .mark-items in
+    let at = c .before .before .before .before .before .before .before .before .before .before .before .before .before .before .before .before .before .before .before .before .before .before .before .before .before .before .before .before .before .before .before .before .before .before .before .before .section-offsets .ensures in
+    let led : Leaders (sheetOf (a .s .now)) (named .last .1 .1 .0) = λ x l. named .ensures .1 x l ∙ ap (firstBy (sheetOf (a .s .now)) Complements x) (c .before .before .before .before .before .before .before .before .before .before .before .before .before .before .before .before .before .before .before .before .before .before .before .before .before .before .before .before .before .before .before .before .before .before .clear .ensures .1 x (rw (named .ensures .0) at l)) in (
+      asked .ensures .0 ∙ here .inv .0,
+      cleared .ensures .0 ∙ enter .ensures .0 ∙ here .inv .1,
+      λ pass apart full full₂ before.
+          let so = here .inv .2 pass apart full full₂ before in let entered = enter .ensures .1 (not-false _ (c .before .before .before .before .before .before .before .before .before .before .before .before .if1 .left)) at (pass .0) in let groups = asked .ensures .1 (not-false _ (c .before .before .before .before .before .if2 .left)) at led in (
+            led-ready (sheetOf (a .s .now)) (a .wanted .both) (a .owners .now) (a .alike .now) (here .p) (here .included) (enter .last .1 .1 .1 .1 .1 .1 .0) (here .groups) (asked .last .1 .1 .1 .1 .1 .0) pass entered (so .0) groups (asked .ensures .0) (c .next-other .result) (cleared .last .1 .1 .1 .1 .0) (c .next-other .ensures .0) (enter .ensures .0) (cleared .ensures .0) (cleared .ensures .1),
+            c .next-other .ensures .1 (led-more (sheetOf (a .s .now)) (a .wanted .both) (a .owners .now) (a .alike .now) (here .p) (here .included) (enter .last .1 .1 .1 .1 .1 .1 .0) (here .groups) (asked .last .1 .1 .1 .1 .1 .0) pass entered (so .0) groups (asked .ensures .0) apart (so .1)),
+          ),
+    )
+
+same-length-7 : tie.Need-same-length-7 Inv-loop μ-loop
+same-length-7 c = c .before .before .before .before .before .before .before .before .before .before .before .before .before .first-namers .ensures .0 ∙ c .before .before .before .before .before .before .before .before .before .before .before .before .before .before .before .before .before .clear .ensures .0
+
+same-length-8 : tie.Need-same-length-8 Inv-loop μ-loop
+same-length-8 c = c .before .loop .inv .0 ∙ c .before .before .before .before .before .before .before .before .before .clear2 .ensures .0
+
+same-length-9 : tie.Need-same-length-9 Inv-loop μ-loop
+same-length-9 c = c .before .loop .inv .1 ∙ c .before .before .before .before .before .clear3 .ensures .0
+
+returns-3 : tie.Need-returns-3 Inv-loop μ-loop
+returns-3 c =
+    let l = c .before in
+    record {
+      first = l .before .before .before .before .before .before .before .before .before .before .before .before .first-namers .ensures .0 ∙ l .before .before .before .before .before .before .before .before .before .before .before .before .before .before .before .before .clear .ensures .0;
+      second = l .loop .inv .0 ∙ l .before .before .before .before .before .before .before .before .clear2 .ensures .0;
+      third = l .loop .inv .1 ∙ l .before .before .before .before .clear3 .ensures .0;
+      kept = λ pass full apart before. l .loop .inv .2 pass apart (l .before .before .before .before .before .before .before .before .clear2 .ensures .0 ∙ full .1) (l .before .before .before .before .clear3 .ensures .0 ∙ full .2) before .1;
+    }
 
 pub leaders-from-spec : {M : Type 1} → statement M
 leaders-from-spec =
@@ -91,24 +140,28 @@ leaders-from-spec =
     (tie.spec
     Inv-loop
     μ-loop
-    offset-requires
-    offset-requires-2
-    offset-requires-3
+    section-offsets-requires
     clear-requires
     first-namers-requires
     clear-requires-2
     clear-requires-3
     count-requires
     loop-holds
-    kept-by-leaders-requires
+    enter-requires
     same-length
     same-length-2
     same-length-3
     returns
-    add-p
-    loop-less
-    loop-again
+    groups-asked-requires
     same-length-4
     same-length-5
     same-length-6
-    returns-2)
+    returns-2
+    mark-items-requires
+    next-other-requires
+    loop-less
+    loop-again
+    same-length-7
+    same-length-8
+    same-length-9
+    returns-3)

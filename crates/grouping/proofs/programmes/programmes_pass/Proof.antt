@@ -32,13 +32,13 @@ slice-relend-prefix-kept-from : tie.Need-slice-relend-prefix-kept-from
 slice-relend-prefix-kept-from c = search needs
 
 slice-aggregate-kept-from-2 : tie.Need-slice-aggregate-kept-from-2
-slice-aggregate-kept-from-2 c = sym (length-take-le (c .before .before .before .before .before .count .result) (c .before .before .before .before .before .before .before .before .before .before .before .args .list .now) (c .before .before .before .if2 .left))
+slice-aggregate-kept-from-2 c = sym (length-take-le (c .before .before .before .before .before .count .result) (c .before .before .before .before .before .before .before .before .before .before .before .args .first .now) (c .before .before .before .if2 .left))
 
 slice-relend-prefix-kept-from-2 : tie.Need-slice-relend-prefix-kept-from-2
 slice-relend-prefix-kept-from-2 c = search needs
 
 slice-aggregate-kept-from-3 : tie.Need-slice-aggregate-kept-from-3
-slice-aggregate-kept-from-3 c = sym (length-take-le (c .before .before .before .before .before .before .count .result) (c .before .before .before .before .before .before .before .before .before .before .before .before .args .partners .now) (c .before .before .before .if3 .left))
+slice-aggregate-kept-from-3 c = sym (length-take-le (c .before .before .before .before .before .before .count .result) (c .before .before .before .before .before .before .before .before .before .before .before .before .args .second .now) (c .before .before .before .if3 .left))
 
 slice-relend-prefix-kept-from-3 : tie.Need-slice-relend-prefix-kept-from-3
 slice-relend-prefix-kept-from-3 c = search needs
@@ -62,7 +62,16 @@ same-length-3 : tie.Need-same-length-3
 same-length-3 c = search needs
 
 returns-4 : tie.Need-returns-4
-returns-4 c = (search needs, search needs, search needs, λ e owns ground p l. c .before .before .before .before .before .before .before .kept-from .ensures .3 (owns, alike-empty (sheetOf (c .before .before .before .before .before .before .before .before .before .before .before .before .before .before .before .before .before .before .before .before .before .args .s .now)), λ f. ground .0) ((length-take-le (c .before .before .before .before .before .before .before .before .before .before .before .before .before .before .before .count .result) (c .before .before .before .before .before .before .before .before .before .before .before .before .before .before .before .before .before .before .before .before .before .args .list .now) (c .before .before .before .before .before .before .before .before .before .before .before .before .before .if2 .left) ∙ c .before .before .before .before .before .before .before .before .before .before .before .before .before .before .before .count .ensures), (length-take-le (c .before .before .before .before .before .before .before .before .before .before .before .before .before .before .before .count .result) (c .before .before .before .before .before .before .before .before .before .before .before .before .before .before .before .before .before .before .before .before .before .args .partners .now) (c .before .before .before .before .before .before .before .before .before .before .before .before .if3 .left) ∙ c .before .before .before .before .before .before .before .before .before .before .before .before .before .before .before .count .ensures), (length-take-le (c .before .before .before .before .before .before .before .before .before .before .before .before .before .before .before .count .result) (c .before .before .before .before .before .before .before .before .before .before .before .before .before .before .before .before .before .before .before .before .before .args .included .now) (c .before .before .before .before .before .before .before .before .before .before .before .before .before .before .if1 .left) ∙ c .before .before .before .before .before .before .before .before .before .before .before .before .before .before .before .count .ensures)) (ground .1) (λ q l. absurd (omega arith)) p (omega (arith, eqb-true (c .before .before .before .before .before .before .before .kept-from .result) (c .count2 .result) e, c .count2 .ensures, l)))
+returns-4 c =
+    let a = c .before .before .before .before .before .before .before .before .before .before .before .before .before .before .before .before .before .before .before .before .before .args in let n = c .before .before .before .before .before .before .before .before .before .before .before .before .before .before .before .count in let kept = c .before .before .before .before .before .before .before .kept-from in (
+      search needs,
+      search needs,
+      search needs,
+      λ e owns ground p l.
+          kept .ensures .kept (owns, alike-empty (sheetOf (a .s .now)), λ f. ground .0)
+          (length-take-le (n .result) (a .first .now) (c .before .before .before .before .before .before .before .before .before .before .before .before .before .if2 .left) ∙ n .ensures, length-take-le (n .result) (a .second .now) (c .before .before .before .before .before .before .before .before .before .before .before .before .if3 .left) ∙ n .ensures, length-take-le (n .result) (a .included .now) (c .before .before .before .before .before .before .before .before .before .before .before .before .before .before .if1 .left) ∙ n .ensures)
+          (ground .1) (λ q l. absurd (omega arith)) p (omega (arith, eqb-true (kept .result) (c .count2 .result) e, c .count2 .ensures, l)),
+    )
 
 pub programmes-pass-spec : {M : Type 1} → statement M
 programmes-pass-spec =

@@ -2,31 +2,26 @@
 use Prim.Native.Nat.{_-_}
 use mathlib.Core.Path.{_≡_, refl, _∙_}
 use native.Mathlib.Omega.{arith}
-use borrow.Author.Count.{below-more}
 use borrow.Author.Tests.{not-false}
 use lib.ListN.{length}
 use Rattle.sheet.specs.Words.{sheetOf}
 use Rattle.sheet.specs.Layout.{count}
 use Rattle.sheet.specs.Fields.{objects}
-use Rattle.grouping.specs.steps.Groups.{Kept, KeptTo, LeadersIn, Passing}
+use Rattle.grouping.specs.steps.Groups.{KeptTo}
+use Rattle.grouping.specs.steps.Passing.{Passing}
+use Rattle.grouping.proofs.KeptLaws.{programme-more}
 use borrow.Author.Needs.{needs}
 use Rattle.grouping.proofs.programmes.rows_from.Statement.{statement}
 use Rattle.grouping.proofs.programmes.rows_from.Tie as tie
 
 abbrev Inv-loop : tie.InvT-loop
-Inv-loop s owners alike both from list partners included₀ base records sets g n p₀ included p = (length included ≡ length included₀) × (Passing (sheetOf s) both owners alike → LeadersIn (sheetOf s) list partners g → length included₀ ≡ count (sheetOf s) objects → KeptTo (sheetOf s) both from → KeptTo (sheetOf s) both p)
+Inv-loop s owners alike leading partners included₀ sections both g n p₀ included p = (length included ≡ length included₀) × (Passing (sheetOf s) both owners alike → length included₀ ≡ count (sheetOf s) objects → KeptTo (sheetOf s) both p₀ → KeptTo (sheetOf s) both p)
 
 abbrev μ-loop : tie.MeasureT-loop
-μ-loop s owners alike both from list partners included₀ base records sets g n p₀ included p = n - p
+μ-loop s owners alike leading partners included₀ sections both g n p₀ included p = n - p
 
-offset-requires : tie.Need-offset-requires Inv-loop μ-loop
-offset-requires c κs = search needs
-
-offset-requires-2 : tie.Need-offset-requires-2 Inv-loop μ-loop
-offset-requires-2 c κs = search needs
-
-offset-requires-3 : tie.Need-offset-requires-3 Inv-loop μ-loop
-offset-requires-3 c κs = search needs
+section-offsets-requires : tie.Need-section-offsets-requires Inv-loop μ-loop
+section-offsets-requires c κs = search needs
 
 list-leaders-requires : tie.Need-list-leaders-requires Inv-loop μ-loop
 list-leaders-requires c κs = search needs
@@ -35,43 +30,77 @@ count-requires : tie.Need-count-requires Inv-loop μ-loop
 count-requires c κs = search needs
 
 loop-holds : tie.Need-loop-holds Inv-loop μ-loop
-loop-holds c = (refl, λ pass listed full before. before)
+loop-holds c = (refl, λ pass full before. before)
 
-kept-by-rows-requires : tie.Need-kept-by-rows-requires Inv-loop μ-loop
-kept-by-rows-requires c κs = search needs
+clear-requires : tie.Need-clear-requires Inv-loop μ-loop
+clear-requires c κs = search needs
+
+enter-requires : tie.Need-enter-requires Inv-loop μ-loop
+enter-requires c κs = search needs
 
 same-length : tie.Need-same-length Inv-loop μ-loop
-same-length c = c .before .before .before .before .before .before .before .before .before .before .before .before .before .before .list-leaders .ensures .0
+same-length c = c .before .before .before .before .before .before .before .before .before .before .before .before .before .before .before .before .list-leaders .ensures .0
 
 same-length-2 : tie.Need-same-length-2 Inv-loop μ-loop
-same-length-2 c = c .before .before .before .before .before .before .before .before .before .before .before .before .before .before .list-leaders .ensures .1
+same-length-2 c = c .before .before .before .before .before .before .before .before .before .before .before .before .before .before .before .before .list-leaders .ensures .1
 
 same-length-3 : tie.Need-same-length-3 Inv-loop μ-loop
-same-length-3 c = c .before .before .before .kept-by-rows .ensures .0 ∙ c .before .before .before .before .before .before .before .before .loop .inv .0
+same-length-3 c = c .before .before .before .enter .ensures .0 ∙ c .before .before .before .before .before .before .before .clear .ensures .0 ∙ c .before .before .before .before .before .before .before .before .before .before .loop .inv .0
 
 returns : tie.Need-returns Inv-loop μ-loop
-returns c = (c .before .before .before .before .before .before .before .before .before .before .before .before .before .before .list-leaders .ensures .0, c .before .before .before .before .before .before .before .before .before .before .before .before .before .before .list-leaders .ensures .1, c .before .before .before .kept-by-rows .ensures .0 ∙ c .before .before .before .before .before .before .before .before .loop .inv .0, λ pass full apart. c .before .before .before .before .before .before .before .before .loop .inv .1 pass (c .before .before .before .before .before .before .before .before .before .before .before .before .before .before .list-leaders .ensures .2) (full .2))
+returns c =
+    let rows = c .before .before .before .before .before .before .before .before .before .before .before .before .before .before .before .before .list-leaders .ensures in
+    record { first = rows .0; second = rows .1; third = c .before .before .before .enter .ensures .0 ∙ c .before .before .before .before .before .before .before .clear .ensures .0 ∙ c .before .before .before .before .before .before .before .before .before .before .loop .inv .0; kept = λ pass full apart. c .before .before .before .before .before .before .before .before .before .before .loop .inv .1 pass (full .2) }
 
-add-p : tie.Need-add-p Inv-loop μ-loop
-add-p c = search needs
-
-loop-less : tie.Need-loop-less Inv-loop μ-loop
-loop-less c = search needs
-
-loop-again : tie.Need-loop-again Inv-loop μ-loop
-loop-again c = (c .before .before .before .kept-by-rows .ensures .0 ∙ c .before .before .before .before .before .before .before .before .loop .inv .0, λ pass listed full before. let so = c .before .before .before .before .before .before .before .before .loop .inv .1 pass listed full before in below-more (Kept (sheetOf (c .before .before .before .before .before .before .before .before .before .before .before .before .before .before .before .before .before .before .before .before .before .before .before .before .before .before .args .s .now)) (c .before .before .before .before .before .before .before .before .before .before .before .before .before .before .before .before .before .before .before .before .before .before .before .before .before .before .args .both)) (c .before .before .before .before .before .before .before .before .loop .p) so (c .before .before .before .kept-by-rows .ensures .1 (not-false _ (c .if1 .left)) (c .before .before .before .before .before .before .before .before .before .before .before .before .before .before .before .before .before .before .before .offset .ensures, c .before .before .before .before .before .before .before .before .before .before .before .before .before .before .before .before .before .before .offset2 .ensures, c .before .before .before .before .before .before .before .before .before .before .before .before .before .before .before .before .before .offset3 .ensures) pass listed (c .before .before .before .before .before .before .before .before .loop .inv .0 ∙ full) (λ l. so (c .before .before .before .before .before .before .before .before .loop .p - 1) (omega arith))))
+groups-kept-requires : tie.Need-groups-kept-requires Inv-loop μ-loop
+groups-kept-requires c κs = search needs
 
 same-length-4 : tie.Need-same-length-4 Inv-loop μ-loop
-same-length-4 c = c .before .before .before .before .before .before .before .list-leaders .ensures .0
+same-length-4 c = c .before .before .before .before .before .before .before .before .before .before .before .before .before .before .before .before .before .before .before .before .before .list-leaders .ensures .0
 
 same-length-5 : tie.Need-same-length-5 Inv-loop μ-loop
-same-length-5 c = c .before .before .before .before .before .before .before .list-leaders .ensures .1
+same-length-5 c = c .before .before .before .before .before .before .before .before .before .before .before .before .before .before .before .before .before .before .before .before .before .list-leaders .ensures .1
 
 same-length-6 : tie.Need-same-length-6 Inv-loop μ-loop
-same-length-6 c = c .before .loop .inv .0
+same-length-6 c = c .before .before .before .before .before .before .before .before .enter .ensures .0 ∙ c .before .before .before .before .before .before .before .before .before .before .before .before .clear .ensures .0 ∙ c .before .before .before .before .before .before .before .before .before .before .before .before .before .before .before .loop .inv .0
 
 returns-2 : tie.Need-returns-2 Inv-loop μ-loop
-returns-2 c = (c .before .before .before .before .before .before .before .list-leaders .ensures .0, c .before .before .before .before .before .before .before .list-leaders .ensures .1, c .before .loop .inv .0, λ pass full apart before q l. c .before .loop .inv .1 pass (c .before .before .before .before .before .before .before .list-leaders .ensures .2) (full .2) before q (omega (arith, l, c .loop-test .left)))
+returns-2 c =
+    let rows = c .before .before .before .before .before .before .before .before .before .before .before .before .before .before .before .before .before .before .before .before .before .list-leaders .ensures in
+    record { first = rows .0; second = rows .1; third = c .before .before .before .before .before .before .before .before .enter .ensures .0 ∙ c .before .before .before .before .before .before .before .before .before .before .before .before .clear .ensures .0 ∙ c .before .before .before .before .before .before .before .before .before .before .before .before .before .before .before .loop .inv .0; kept = λ pass full apart. c .before .before .before .before .before .before .before .before .before .before .before .before .before .before .before .loop .inv .1 pass (full .2) }
+
+next-other-requires : tie.Need-next-other-requires Inv-loop μ-loop
+next-other-requires c κs = search needs
+
+loop-less : tie.Need-loop-less Inv-loop μ-loop
+loop-less c = omega (arith, c .next-other .ensures .0, c .before .before .before .before .before .before .before .before .before .before .before .before .before .before .before .loop-test .taken)
+
+loop-again : tie.Need-loop-again Inv-loop μ-loop
+loop-again c =
+    let a = c .before .before .before .before .before .before .before .before .before .before .before .before .before .before .before .before .before .before .before .before .before .before .before .before .before .before .before .before .before .before .before .before .args in
+    let here = c .before .before .before .before .before .before .before .before .before .before .before .before .before .before .before .before .loop in let cleared = c .before .before .before .before .before .before .before .before .before .before .before .before .before .clear in let enter = c .before .before .before .before .before .before .before .before .before .enter in
+    let at = c .before .before .before .before .before .before .before .before .before .before .before .before .before .before .before .before .before .before .before .before .before .before .before .before .before .section-offsets .ensures in (
+      enter .ensures .0 ∙ cleared .ensures .0 ∙ here .inv .0,
+      λ pass full before.
+          c .next-other .ensures .1
+          (programme-more (sheetOf (a .s .now)) (a .wanted .both) (a .owners .now) (a .alike .now) (here .p) (cleared .last .0) (enter .last .1 .1 .1 .1 .1 .1 .0) pass
+          (enter .ensures .1 (not-false _ (c .before .before .before .before .before .before .if1 .left)) at (pass .0)) (cleared .ensures .1) (cleared .ensures .0 ∙ here .inv .0 ∙ full)
+          (c .before .before .groups-kept .ensures (not-false _ (c .before .if2 .left)) at (c .before .before .before .before .before .before .before .before .before .before .before .before .before .before .before .before .before .before .before .before .before .before .list-leaders .ensures .2)) (here .inv .1 pass full before)),
+    )
+
+same-length-7 : tie.Need-same-length-7 Inv-loop μ-loop
+same-length-7 c = c .before .before .before .before .before .before .before .list-leaders .ensures .0
+
+same-length-8 : tie.Need-same-length-8 Inv-loop μ-loop
+same-length-8 c = c .before .before .before .before .before .before .before .list-leaders .ensures .1
+
+same-length-9 : tie.Need-same-length-9 Inv-loop μ-loop
+same-length-9 c = c .before .loop .inv .0
+
+returns-3 : tie.Need-returns-3 Inv-loop μ-loop
+returns-3 c =
+    let rows = c .before .before .before .before .before .before .before .list-leaders .ensures in
+    record { first = rows .0; second = rows .1; third = c .before .loop .inv .0; kept = λ pass full apart. c .before .loop .inv .1 pass (full .2) }
 
 pub rows-from-spec : {M : Type 1} → statement M
 rows-from-spec =
@@ -79,21 +108,25 @@ rows-from-spec =
     (tie.spec
     Inv-loop
     μ-loop
-    offset-requires
-    offset-requires-2
-    offset-requires-3
+    section-offsets-requires
     list-leaders-requires
     count-requires
     loop-holds
-    kept-by-rows-requires
+    clear-requires
+    enter-requires
     same-length
     same-length-2
     same-length-3
     returns
-    add-p
-    loop-less
-    loop-again
+    groups-kept-requires
     same-length-4
     same-length-5
     same-length-6
-    returns-2)
+    returns-2
+    next-other-requires
+    loop-less
+    loop-again
+    same-length-7
+    same-length-8
+    same-length-9
+    returns-3)

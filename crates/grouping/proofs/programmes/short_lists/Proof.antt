@@ -1,6 +1,5 @@
 -- The sum stays in its bounds. Assumes nothing.
 use Prim.Native.Nat.{_-_, _*_, _≤_}
-use native.Mathlib.Omega.{arith}
 use borrow.Author.Needs.{needs}
 use Rattle.grouping.proofs.programmes.short_lists.Statement.{statement}
 use Rattle.grouping.proofs.programmes.short_lists.Tie as tie
