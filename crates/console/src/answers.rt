@@ -2,6 +2,7 @@
 use libc::STDOUT_FILENO;
 use listener::Answer;
 use listener::Refusal;
+use listener::STATE_OBJECTS;
 use listener::Setting;
 use listener::State;
 use listener::settings::is_resting;
@@ -111,7 +112,7 @@ pub fn say_state(state: State) {
     say_number(state.programme as u64);
     say(b"\n");
     let mut o: usize = 0;
-    while o < 84 {
+    while o < STATE_OBJECTS {
         let x = state.objects[o];
         if !is_resting(x) {
             say_setting(o as u64, x);

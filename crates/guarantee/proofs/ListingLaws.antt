@@ -10,7 +10,7 @@ use lib.Dec.{eqb}
 use lib.ListN.{length, length-append}
 use borrow.Author.Tests.{ltb-true, ltb-false, eqb-true, eq-eqb}
 use Rattle.sheet.specs.Words.{Sheet}
-use Rattle.sheet.specs.Layout.{level, count, field, number, entry}
+use Rattle.sheet.specs.Layout.{count, field, number, entry}
 use Rattle.sheet.specs.Fields.{programmes, contents, objects, contentList, contentObject, trackList, childList}
 use Rattle.profile.specs.Counting.{any, howMany, sum, concatBelow}
 use Rattle.profile.specs.Relations.{hasPack, hasChildren, top, leader, complement, member, members, leaderOf, lone, includes, included, whollyIncluded, size, share, countedTracks, channels, trackAt}
@@ -24,7 +24,7 @@ use Rattle.listener.specs.State.{stateObjects, setting, active}
 use Rattle.granted.specs.Granted.{inWholeGroup}
 use Rattle.listener.specs.Sound.{activeMembers, soundActivity, sound}
 use Rattle.listener.specs.Listing.{ownEntries, objectEntries, entries}
-use Rattle.guarantee.proofs.SoundLaws.{few-objects, sound-programme, sound-object, included-parts, rest-parts}
+use Rattle.guarantee.proofs.SoundLaws.{sound-programme, sound-object, included-parts, rest-parts}
 use Rattle.guarantee.proofs.ValueLaws.{resting-parts}
 
 -- how long a list is that an active object gives
@@ -142,7 +142,7 @@ lone-share s o t e =
           | false ↦ λ c. c
         ]) refl
 
-module _ (s : Sheet) (a : AcceptedSheet s) (above : level s ≡ 0 → ⊥) (st : State) (h : sound s st ≡ true) where
+module _ (s : Sheet) (a : AcceptedSheet s) (few : count s objects ≤ stateObjects) (st : State) (h : sound s st ≡ true) where
   abbrev p : ℕ
   p = st .programme
 
@@ -169,14 +169,14 @@ module _ (s : Sheet) (a : AcceptedSheet s) (above : level s ≡ 0 → ⊥) (st :
       ]) refl
 
   small : (o : ℕ) → o < count s objects → o < stateObjects
-  small o l = omega (arith, few-objects s a above)
+  small o l = omega (arith, few)
 
   -- the listing is as long as the active objects are large
   pub listing-length : length (entries s st) ≡ sum (λ o. cond (active st o) (size s o) 0) (count s objects)
   unfolding entries
   listing-length =
       length-concat (λ o. cond (active st o) (objectEntries s o) []) stateObjects
-      ∙ sum-more (λ o. length (cond (active st o) (objectEntries s o) [])) (count s objects) stateObjects (few-objects s a above)
+      ∙ sum-more (λ o. length (cond (active st o) (objectEntries s o) [])) (count s objects) stateObjects (few)
       (λ o g k. when-length (active st o) (objectEntries s o) ∙ rw (inactive-past o g k))
       ∙ sum-eq (λ o. length (cond (active st o) (objectEntries s o) [])) (λ o. cond (active st o) (size s o) 0) (count s objects)
       (λ o l. when-length (active st o) (objectEntries s o) ∙ ap (λ (n : ℕ). cond (active st o) n 0) (object-length s a o l))

@@ -1,5 +1,6 @@
 // Host players call "the listing of a programme's start, directly on byte slices and numbers".
 use listener::Answer;
+use listener::MOST_ENTRIES;
 use listener::Refusal;
 use listener::writing::list_start;
 ghost use Prim.Native.Nat.{_%_, _*_, _/_, _≤_};
@@ -61,7 +62,7 @@ fn write_words(words: &[u16], buffer: &mut [u8])
 pub extern "C" fn sheet_start_listing(sheet: &[u8], programme: u32, buffer: &mut [u8]) -> i32
     ensures { λ r. ⌜ (r ≡ hostListed (sheetOf (now (sheet .entry))) programme (length (now (buffer .entry)))) × (now (buffer .exit) ≡ hostBuffered (sheetOf (now (sheet .entry))) programme (now (buffer .entry))) ⌝ }
 {
-    let mut words: [u16; 28] = [0; 28];
+    let mut words: [u16; MOST_ENTRIES] = [0; MOST_ENTRIES];
     let listing = list_start(sheet, programme, &mut words);
     let answer = listing.answer;
     match answer {

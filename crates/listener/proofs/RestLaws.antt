@@ -97,7 +97,7 @@ pub rest-start : (s : Sheet) (p k : ℕ) → includes s p k ≡ false → restin
 unfolding startSetting
 rest-start s p k e = rw e refl
 
--- one more than the highest number below 84 that f gives so far: what is higher is none of them
+-- one more than the highest number below `stateObjects` that f gives so far: what is higher is none of them
 abbrev pub Past : (ℕ → ℕ) → ℕ → ℕ → Type 0
 Past f i past = (o : ℕ) → past ≤ o → o < stateObjects → any (λ k. eqb (f k) o) i ≡ false
 

@@ -2,6 +2,7 @@
 use crate::Answer;
 use crate::Refusal;
 use crate::Reply;
+use crate::STATE_OBJECTS;
 use crate::Setting;
 use crate::State;
 use crate::programme::started;
@@ -50,7 +51,7 @@ fn resting_state() -> State
     let x = resting();
     State {
         programme: 0,
-        objects: [x; 84],
+        objects: [x; STATE_OBJECTS],
     }
 }
 
@@ -196,9 +197,9 @@ fn moved_by(s: &[u8], state: State, leaders: &[u16], o: u16) -> State
     ensures { λ r. ⌜ (Leaders (sheetOf (now (s .entry))) (now (leaders .entry)) → r ≡ moved (sheetOf (now (s .entry))) state o) ⌝ }
 {
     let rest = resting();
-    let mut objects = [rest; 84];
+    let mut objects = [rest; STATE_OBJECTS];
     let mut q: usize = 0;
-    while q < 84 {
+    while q < STATE_OBJECTS {
         let x = state.objects[q];
         objects[q] = moved_setting(s, leaders, o, q as u16, x);
         q += 1;
@@ -212,7 +213,7 @@ fn moved_by(s: &[u8], state: State, leaders: &[u16], o: u16) -> State
 fn moved(s: &[u8], state: State, o: u16) -> State
     ensures { λ r. ⌜ r ≡ moved (sheetOf (now (s .entry))) state o ⌝ }
 {
-    let mut leaders: [u16; 84] = [0; 84];
+    let mut leaders: [u16; STATE_OBJECTS] = [0; STATE_OBJECTS];
     find_leaders(s, &mut leaders);
     moved_by(s, state, &leaders, o)
 }
@@ -267,7 +268,7 @@ impl State {
             Answer::Refused(Refusal::NotAccepted)
         };
         let i = o as usize;
-        if is_done(answer) & (i < 84) {
+        if is_done(answer) & (i < STATE_OBJECTS) {
             let x = self.objects[i];
             self.objects[i] = Setting {
                 active: x.active,
@@ -296,7 +297,7 @@ impl State {
             Answer::Refused(Refusal::NotAccepted)
         };
         let i = o as usize;
-        if is_done(answer) & (i < 84) {
+        if is_done(answer) & (i < STATE_OBJECTS) {
             let x = self.objects[i];
             let kept = x.gain;
             self.objects[i] = Setting {

@@ -2,6 +2,7 @@
 use crate::Answer;
 use crate::Listing;
 use crate::Refusal;
+use crate::STATE_END;
 use crate::State;
 use crate::calls::behind;
 use crate::calls::opens;
@@ -46,7 +47,7 @@ fn state_number(s: &[u8], state: State) -> u64
 {
     let mut total: u64 = 0;
     let mut o: u16 = 0;
-    while o < 84 {
+    while o < STATE_END {
         let x = state.objects[o as usize];
         total += number_when(s, x.active, o);
         o += 1;
@@ -113,7 +114,7 @@ fn write_state(s: &[u8], state: State, buffer: &mut [u16]) -> usize
 {
     let mut pos: usize = 0;
     let mut o: u16 = 0;
-    while o < 84 {
+    while o < STATE_END {
         let x = state.objects[o as usize];
         pos = write_when(s, x.active, o, buffer, pos);
         o += 1;

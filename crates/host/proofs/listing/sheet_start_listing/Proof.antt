@@ -1,4 +1,4 @@
--- The listing on 28 words, which are always enough, as bytes. Assumes nothing.
+-- The listing on words, which are always enough, as bytes. Assumes nothing.
 use mathlib.Core.Path.{_≡_, sym, ap, _∙_}
 use native.Mathlib.Omega.{arith}
 use lib.IntN.{ℤ}

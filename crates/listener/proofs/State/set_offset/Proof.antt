@@ -35,18 +35,18 @@ mul-x : tie.Need-mul-x
 mul-x c = search needs
 
 element-copy-out-x : tie.Need-element-copy-out-x
-element-copy-out-x c = omega (arith, ltb-true (c .before .before .before .before .before .args .o) 84 (and-both (c .before .is-done .result) (ltb (c .before .before .before .before .before .args .o) 84) (c .if3 .taken) .1))
+element-copy-out-x c = omega (arith, ltb-true (c .before .before .before .before .before .args .o) stateObjects (and-both (c .before .is-done .result) (ltb (c .before .before .before .before .before .args .o) stateObjects) (c .if3 .taken) .1))
 
 mul-t21 : tie.Need-mul-t21
 mul-t21 c = search needs
 
 element-set-from-self : tie.Need-element-set-from-self
-element-set-from-self c = omega (arith, ltb-true (c .before .before .before .before .before .before .args .o) 84 (and-both (c .before .before .is-done .result) (ltb (c .before .before .before .before .before .before .args .o) 84) (c .before .if3 .taken) .1))
+element-set-from-self c = omega (arith, ltb-true (c .before .before .before .before .before .before .args .o) stateObjects (and-both (c .before .before .is-done .result) (ltb (c .before .before .before .before .before .before .args .o) stateObjects) (c .before .if3 .taken) .1))
 
 returns : tie.Need-returns
 unfolding offsetSet withOffset
 returns c =
-    let l : c .before .before .before .before .before .before .args .o < stateObjects = ltb-true _ _ (and-both (c .before .before .is-done .result) (ltb (c .before .before .before .before .before .before .args .o) 84) (c .before .if3 .taken) .1) in
+    let l : c .before .before .before .before .before .before .args .o < stateObjects = ltb-true _ _ (and-both (c .before .before .is-done .result) (ltb (c .before .before .before .before .before .before .args .o) stateObjects) (c .before .if3 .taken) .1) in
     let p : toZ w16 (ofZ w16 (c .before .before .before .before .before .before .args .offset)) ≡ c .before .before .before .before .before .before .args .offset = search needs in
     let e : (c .before .before .before .if1 .answer) ≡ behind (sheetOf (c .before .before .before .before .before .before .args .s .now)) (c .before .before .before .before .before .before .args .t1) (rangeAnswer (sheetOf (c .before .before .before .before .before .before .args .s .now)) (c .before .before .before .before .before .before .args .t1 .programme) (c .before .before .before .before .before .before .args .o) Offsets (offsetFits (sheetOf (c .before .before .before .before .before .before .args .s .now)) (c .before .before .before .before .before .before .args .t1 .programme) (c .before .before .before .before .before .before .args .o) (c .before .before .before .before .before .before .args .offset))) = ⊎-elim (λ h. behind-sound (sheetOf (c .before .before .before .before .before .before .args .s .now)) (c .before .before .before .before .before .before .args .t1) (rangeAnswer (sheetOf (c .before .before .before .before .before .before .args .s .now)) (c .before .before .before .before .before .before .args .t1 .programme) (c .before .before .before .before .before .before .args .o) Offsets (offsetFits (sheetOf (c .before .before .before .before .before .before .args .s .now)) (c .before .before .before .before .before .before .args .t1 .programme) (c .before .before .before .before .before .before .args .o) (c .before .before .before .before .before .before .args .offset))) (c .before .before .before .if1 .answer) (sym (c .before .before .before .before .opens .ensures) ∙ h .0 .taken) (sym (h .1 .ensures) ∙ h .2 .taken) (h .4 ∙ rw p at (h .3 .ensures))) (λ k. ⊎-elim (λ h. behind-unsound (sheetOf (c .before .before .before .before .before .before .args .s .now)) (c .before .before .before .before .before .before .args .t1) (rangeAnswer (sheetOf (c .before .before .before .before .before .before .args .s .now)) (c .before .before .before .before .before .before .args .t1 .programme) (c .before .before .before .before .before .before .args .o) Offsets (offsetFits (sheetOf (c .before .before .before .before .before .before .args .s .now)) (c .before .before .before .before .before .before .args .t1 .programme) (c .before .before .before .before .before .before .args .o) (c .before .before .before .before .before .before .args .offset))) (c .before .before .before .if1 .answer) (sym (c .before .before .before .before .opens .ensures) ∙ h .0 .taken) (sym (h .1 .ensures) ∙ h .2 .left) (h .3)) (λ h. behind-shut (sheetOf (c .before .before .before .before .before .before .args .s .now)) (c .before .before .before .before .before .before .args .t1) (rangeAnswer (sheetOf (c .before .before .before .before .before .before .args .s .now)) (c .before .before .before .before .before .before .args .t1 .programme) (c .before .before .before .before .before .before .args .o) Offsets (offsetFits (sheetOf (c .before .before .before .before .before .before .args .s .now)) (c .before .before .before .before .before .before .args .t1 .programme) (c .before .before .before .before .before .before .args .o) (c .before .before .before .before .before .before .args .offset))) (c .before .before .before .if1 .answer) (sym (c .before .before .before .before .opens .ensures) ∙ h .0 .left) (h .1)) k) (c .before .before .before .if1 .came) in
     rw (p, element-setting (c .before .before .before .before .before .before .args .t1) (c .before .before .before .before .before .before .args .o) l) (value-stored (sheetOf (c .before .before .before .before .before .before .args .s .now)) (c .before .before .before .before .before .before .args .t1) (c .before .before .before .before .before .before .args .o) Offsets (offsetFits (sheetOf (c .before .before .before .before .before .before .args .s .now)) (c .before .before .before .before .before .before .args .t1 .programme) (c .before .before .before .before .before .before .args .o) (c .before .before .before .before .before .before .args .offset)) (record { active = setting (c .before .before .before .before .before .before .args .t1) (c .before .before .before .before .before .before .args .o) .active; gain = setting (c .before .before .before .before .before .before .args .t1) (c .before .before .before .before .before .before .args .o) .gain; offset = c .before .before .before .before .before .before .args .offset }) (c .before .before .before .if1 .answer) e (rw (← c .before .before .is-done .ensures) (c .before .if3 .taken)))

@@ -1,5 +1,6 @@
 -- By the table, as by search. Assumes nothing.
 use Rattle.sheet.specs.Words.{sheetOf}
+use Rattle.listener.specs.State.{stateObjects}
 use Rattle.listener.proofs.StepLaws.{leaders-made}
 use borrow.Author.Needs.{needs}
 use Rattle.listener.proofs.calls.moved.Statement.{statement}
@@ -18,7 +19,7 @@ moved-by-requires : tie.Need-moved-by-requires
 moved-by-requires c κs = search needs
 
 returns : tie.Need-returns
-returns c = c .moved-by .ensures (leaders-made (sheetOf (c .before .before .before .before .before .before .args .s .now)) 84 (c .before .before .before .find-leaders .last .1 .0) (c .before .before .before .find-leaders .ensures .1))
+returns c = c .moved-by .ensures (leaders-made (sheetOf (c .before .before .before .before .before .before .args .s .now)) stateObjects (c .before .before .before .find-leaders .last .1 .0) (c .before .before .before .find-leaders .ensures .1))
 
 pub moved-spec : {M : Type 1} → statement M
 moved-spec =

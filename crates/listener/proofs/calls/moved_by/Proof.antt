@@ -5,7 +5,7 @@ use native.Mathlib.Omega.{arith}
 use borrow.Author.Count.{below-none}
 use Rattle.sheet.specs.Words.{sheetOf}
 use Rattle.tables.specs.steps.Right.{Leaders}
-use Rattle.listener.specs.State.{blank}
+use Rattle.listener.specs.State.{stateObjects, blank}
 use Rattle.listener.specs.Calls.{movedSetting, moved}
 use Rattle.listener.specs.steps.Settings.{movedFrom}
 use Rattle.listener.proofs.FillLaws.{Filled, filled-more, filled-all}
@@ -15,10 +15,10 @@ use Rattle.listener.proofs.calls.moved_by.Statement.{statement}
 use Rattle.listener.proofs.calls.moved_by.Tie as tie
 
 abbrev Inv-loop : tie.InvT-loop
-Inv-loop s leaders o state objects₀ q₀ objects q = (q ≤ 84) × (Leaders (sheetOf s) leaders → Filled 84 (movedSetting (sheetOf s) state o) blank objects q)
+Inv-loop s leaders o state objects₀ q₀ objects q = (q ≤ stateObjects) × (Leaders (sheetOf s) leaders → Filled stateObjects (movedSetting (sheetOf s) state o) blank objects q)
 
 abbrev μ-loop : tie.MeasureT-loop
-μ-loop s leaders o state objects₀ q₀ objects q = 84 - q
+μ-loop s leaders o state objects₀ q₀ objects q = stateObjects - q
 
 resting-requires : tie.Need-resting-requires Inv-loop μ-loop
 resting-requires c κs = search needs

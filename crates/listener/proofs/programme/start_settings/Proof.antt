@@ -3,7 +3,7 @@ use Prim.Native.Nat.{_-_, _≤_}
 use native.Mathlib.Omega.{arith}
 use Rattle.sheet.specs.Words.{sheetOf}
 use Rattle.tables.specs.steps.Right.{Included, Leaders}
-use Rattle.listener.specs.State.{blank, resting}
+use Rattle.listener.specs.State.{stateObjects, blank, resting}
 use Rattle.listener.specs.Programme.{startSetting, started}
 use Rattle.listener.proofs.FillLaws.{Begun, begun-none, begun-more, begun-all}
 use Rattle.listener.proofs.RestLaws.{rest-start}
@@ -12,7 +12,7 @@ use Rattle.listener.proofs.programme.start_settings.Statement.{statemen
 use Rattle.listener.proofs.programme.start_settings.Tie as tie
 
 abbrev Inv-loop : tie.InvT-loop
-Inv-loop s p leaders marks n objects₀ o₀ objects o = (o ≤ n) × (Leaders (sheetOf s) leaders → Included (sheetOf s) p marks → Begun 84 (startSetting (sheetOf s) p) blank resting objects o)
+Inv-loop s p leaders marks n objects₀ o₀ objects o = (o ≤ n) × (Leaders (sheetOf s) leaders → Included (sheetOf s) p marks → Begun stateObjects (startSetting (sheetOf s) p) blank resting objects o)
 
 abbrev μ-loop : tie.MeasureT-loop
 μ-loop s p leaders marks n objects₀ o₀ objects o = n - o
@@ -21,7 +21,7 @@ resting-requires : tie.Need-resting-requires Inv-loop μ-loop
 resting-requires c κs = search needs
 
 loop-holds : tie.Need-loop-holds Inv-loop μ-loop
-loop-holds c = (search needs, λ led right. rw (c .resting .ensures) (begun-none 84 (startSetting (sheetOf (c .before .before .before .before .args .s .now)) (c .before .before .before .before .args .p)) blank resting))
+loop-holds c = (search needs, λ led right. rw (c .resting .ensures) (begun-none stateObjects (startSetting (sheetOf (c .before .before .before .before .args .s .now)) (c .before .before .before .before .args .p)) blank resting))
 
 start-setting-requires : tie.Need-start-setting-requires Inv-loop μ-loop
 start-setting-requires c κs = search needs

@@ -1,6 +1,7 @@
 -- By the tables, as by search. Assumes nothing.
 use Rattle.sheet.specs.Words.{sheetOf}
 use Rattle.tables.proofs.MarkLaws.{nought}
+use Rattle.listener.specs.State.{stateObjects}
 use Rattle.listener.proofs.StepLaws.{leaders-made}
 use borrow.Author.Needs.{needs}
 use Rattle.listener.proofs.programme.started.Statement.{statement}
@@ -28,7 +29,7 @@ start-settings-requires : tie.Need-start-settings-requires
 start-settings-requires c κs = (c .before .before .before .enter-included .ensures .1, c .before .before .before .enter-included .ensures .2)
 
 returns : tie.Need-returns
-returns c = c .start-settings .ensures (leaders-made (sheetOf (c .before .before .before .before .before .before .before .before .before .before .args .s .now)) 84 (c .before .before .before .before .before .before .before .find-leaders .last .1 .0) (c .before .before .before .before .before .before .before .find-leaders .ensures .1)) (c .before .before .before .before .enter-included .ensures .3 (λ x l. nought 84 x))
+returns c = c .start-settings .ensures (leaders-made (sheetOf (c .before .before .before .before .before .before .before .before .before .before .args .s .now)) stateObjects (c .before .before .before .before .before .before .before .find-leaders .last .1 .0) (c .before .before .before .before .before .before .before .find-leaders .ensures .1)) (c .before .before .before .before .enter-included .ensures .3 (λ x l. nought stateObjects x))
 
 pub started-spec : {M : Type 1} → statement M
 started-spec =

@@ -19,12 +19,13 @@ use Rattle.tables.specs.steps.Namings.{item}
 use Rattle.tables.specs.steps.Marks.{Standing, marked, repeat, timesBy}
 use Rattle.tables.proofs.MarkLaws.{items-more}
 use Rattle.tables.proofs.TableLaws.{included-marked}
+use Rattle.listener.specs.State.{stateObjects}
 use Rattle.listener.proofs.RestLaws.{Past, past-raised, past-left}
 use Rattle.listener.proofs.sounding.enter_included.Statement.{statement}
 use Rattle.listener.proofs.sounding.enter_included.Tie as tie
 
 abbrev Inv-loop : tie.InvT-loop
-Inv-loop s p marks₀ n past₀ i₀ marks past i = (i ≤ n) × (past ≤ 84) × Past (item (sheetOf s) Included p) i past × (length marks ≡ length marks₀) × Standing (λ x. repeat (marked (Store 1)) (howMany (λ j. eqb (item (sheetOf s) Included p j) x) i) (getD marks₀ x 0)) marks
+Inv-loop s p marks₀ n past₀ i₀ marks past i = (i ≤ n) × (past ≤ stateObjects) × Past (item (sheetOf s) Included p) i past × (length marks ≡ length marks₀) × Standing (λ x. repeat (marked (Store 1)) (howMany (λ j. eqb (item (sheetOf s) Included p j) x) i) (getD marks₀ x 0)) marks
 
 abbrev μ-loop : tie.MeasureT-loop
 μ-loop s p marks₀ n past₀ i₀ marks past i = n - i
@@ -49,7 +50,7 @@ mark-at-requires : tie.Need-mark-at-requires Inv-loop μ-loop
 mark-at-requires c κs = search needs
 
 add-past : tie.Need-add-past Inv-loop μ-loop
-add-past c = let t = and-both (leb (c .before .before .before .before .before .before .before .before .loop .past) (c .before .before .before .before .before .field .result)) (ltb (c .before .before .before .before .before .field .result) 84) (c .if1 .taken) in let m : c .before .before .before .before .before .field .result < 84 = ltb-true _ _ (t .1) in search needs
+add-past c = let t = and-both (leb (c .before .before .before .before .before .before .before .before .loop .past) (c .before .before .before .before .before .field .result)) (ltb (c .before .before .before .before .before .field .result) stateObjects) (c .if1 .taken) in let m : c .before .before .before .before .before .field .result < stateObjects = ltb-true _ _ (t .1) in search needs
 
 add-i : tie.Need-add-i Inv-loop μ-loop
 add-i c = search needs
@@ -58,7 +59,7 @@ loop-less : tie.Need-loop-less Inv-loop μ-loop
 loop-less c = search needs
 
 loop-again : tie.Need-loop-again Inv-loop μ-loop
-loop-again c = let g = ⊎-elim (λ h. let t = and-both (leb (c .before .before .before .before .before .before .before .before .loop .past) (c .before .before .before .before .before .field .result)) (ltb (c .before .before .before .before .before .field .result) 84) (h .0 .taken) in past-raised (item (sheetOf (c .before .before .before .before .before .before .before .before .before .before .before .before .args .s .now)) Included (c .before .before .before .before .before .before .before .before .before .before .before .before .args .p)) (c .before .before .before .before .before .before .before .before .loop .i) (c .before .before .before .before .before .before .before .before .loop .past) (c .before .before .before .before .before .before .before .before .loop .inv .2) (c .before .before .before .before .before .field .result) (c .if1 .past) (c .before .before .before .before .before .field .ensures ∙ ap (λ (x : ℕ). field (sheetOf (c .before .before .before .before .before .before .before .before .before .before .before .before .args .s .now)) contents x contentObject) (c .before .before .before .before .before .before .entry .ensures)) (h .1) (leb-true _ _ (t .0)) (ltb-true _ _ (t .1))) (λ h. past-left (item (sheetOf (c .before .before .before .before .before .before .before .before .before .before .before .before .args .s .now)) Included (c .before .before .before .before .before .before .before .before .before .before .before .before .args .p)) (c .before .before .before .before .before .before .before .before .loop .i) (c .before .before .before .before .before .before .before .before .loop .past) (c .before .before .before .before .before .before .before .before .loop .inv .2) (c .before .before .before .before .before .field .result) (c .if1 .past) (c .before .before .before .before .before .field .ensures ∙ ap (λ (x : ℕ). field (sheetOf (c .before .before .before .before .before .before .before .before .before .before .before .before .args .s .now)) contents x contentObject) (c .before .before .before .before .before .before .entry .ensures)) (h .1) (c .before .before .before .before .before .before .before .before .loop .inv .1) (h .0 .left)) (c .if1 .came) in (search needs, g .0, g .1, c .before .before .before .mark-at .ensures .0 ∙ c .before .before .before .before .before .before .before .before .loop .inv .3, items-more (marked (Store 1)) (c .before .before .before .before .before .before .before .before .before .before .before .before .args .marks .now) (c .before .before .before .before .before .before .before .before .loop .marks) (c .before .before .before .mark-at .last .0) (c .before .before .before .mark-at .ensures .0) (item (sheetOf (c .before .before .before .before .before .before .before .before .before .before .before .before .args .s .now)) Included (c .before .before .before .before .before .before .before .before .before .before .before .before .args .p)) (c .before .before .before .before .before .before .before .before .loop .i) (c .before .before .before .before .before .field .result) (c .before .before .before .before .before .field .ensures ∙ ap (λ (x : ℕ). field (sheetOf (c .before .before .before .before .before .before .before .before .before .before .before .before .args .s .now)) contents x contentObject) (c .before .before .before .before .before .before .entry .ensures)) (c .before .before .before .before .before .before .before .before .loop .inv .4) (c .before .before .before .mark-at .ensures .1))
+loop-again c = let g = ⊎-elim (λ h. let t = and-both (leb (c .before .before .before .before .before .before .before .before .loop .past) (c .before .before .before .before .before .field .result)) (ltb (c .before .before .before .before .before .field .result) stateObjects) (h .0 .taken) in past-raised (item (sheetOf (c .before .before .before .before .before .before .before .before .before .before .before .before .args .s .now)) Included (c .before .before .before .before .before .before .before .before .before .before .before .before .args .p)) (c .before .before .before .before .before .before .before .before .loop .i) (c .before .before .before .before .before .before .before .before .loop .past) (c .before .before .before .before .before .before .before .before .loop .inv .2) (c .before .before .before .before .before .field .result) (c .if1 .past) (c .before .before .before .before .before .field .ensures ∙ ap (λ (x : ℕ). field (sheetOf (c .before .before .before .before .before .before .before .before .before .before .before .before .args .s .now)) contents x contentObject) (c .before .before .before .before .before .before .entry .ensures)) (h .1) (leb-true _ _ (t .0)) (ltb-true _ _ (t .1))) (λ h. past-left (item (sheetOf (c .before .before .before .before .before .before .before .before .before .before .before .before .args .s .now)) Included (c .before .before .before .before .before .before .before .before .before .before .before .before .args .p)) (c .before .before .before .before .before .before .before .before .loop .i) (c .before .before .before .before .before .before .before .before .loop .past) (c .before .before .before .before .before .before .before .before .loop .inv .2) (c .before .before .before .before .before .field .result) (c .if1 .past) (c .before .before .before .before .before .field .ensures ∙ ap (λ (x : ℕ). field (sheetOf (c .before .before .before .before .before .before .before .before .before .before .before .before .args .s .now)) contents x contentObject) (c .before .before .before .before .before .before .entry .ensures)) (h .1) (c .before .before .before .before .before .before .before .before .loop .inv .1) (h .0 .left)) (c .if1 .came) in (search needs, g .0, g .1, c .before .before .before .mark-at .ensures .0 ∙ c .before .before .before .before .before .before .before .before .loop .inv .3, items-more (marked (Store 1)) (c .before .before .before .before .before .before .before .before .before .before .before .before .args .marks .now) (c .before .before .before .before .before .before .before .before .loop .marks) (c .before .before .before .mark-at .last .0) (c .before .before .before .mark-at .ensures .0) (item (sheetOf (c .before .before .before .before .before .before .before .before .before .before .before .before .args .s .now)) Included (c .before .before .before .before .before .before .before .before .before .before .before .before .args .p)) (c .before .before .before .before .before .before .before .before .loop .i) (c .before .before .before .before .before .field .result) (c .before .before .before .before .before .field .ensures ∙ ap (λ (x : ℕ). field (sheetOf (c .before .before .before .before .before .before .before .before .before .before .before .before .args .s .now)) contents x contentObject) (c .before .before .before .before .before .before .entry .ensures)) (c .before .before .before .before .before .before .before .before .loop .inv .4) (c .before .before .before .mark-at .ensures .1))
 
 same-length : tie.Need-same-length Inv-loop μ-loop
 same-length c = c .before .loop .inv .3

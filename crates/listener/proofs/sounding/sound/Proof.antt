@@ -25,7 +25,7 @@ use Rattle.listener.proofs.sounding.sound.Statement.{statement}
 use Rattle.listener.proofs.sounding.sound.Tie as tie
 
 abbrev Inv-loop : tie.InvT-loop
-Inv-loop s state p leaders marks n active₀ o₀ active o = (o ≤ n) × Begun 84 (λ q. cond (isActive state q) 1 0) 0 0 active o
+Inv-loop s state p leaders marks n active₀ o₀ active o = (o ≤ n) × Begun stateObjects (λ q. cond (isActive state q) 1 0) 0 0 active o
 
 abbrev μ-loop : tie.MeasureT-loop
 μ-loop s state p leaders marks n active₀ o₀ active o = n - o
@@ -37,10 +37,10 @@ abbrev μ-loop2 : tie.MeasureT-loop2
 μ-loop2 s state p leaders marks n active o₀ good₀ o good = n - o
 
 abbrev Inv-loop3 : tie.InvT-loop3
-Inv-loop3 s state p n o₀ good₀ o good = (o ≤ 84) × (n ≤ o) × (good ≡ (good₀ && every (λ q. ltb q n || isResting (setting state q)) o))
+Inv-loop3 s state p n o₀ good₀ o good = (o ≤ stateObjects) × (n ≤ o) × (good ≡ (good₀ && every (λ q. ltb q n || isResting (setting state q)) o))
 
 abbrev μ-loop3 : tie.MeasureT-loop3
-μ-loop3 s state p n o₀ good₀ o good = 84 - o
+μ-loop3 s state p n o₀ good₀ o good = stateObjects - o
 
 count-requires : tie.Need-count-requires Inv-loop μ-loop Inv-loop2 μ-loop2 Inv-loop3 μ-loop3
 count-requires c κs = search needs
@@ -62,7 +62,7 @@ enter-included-requires : tie.Need-enter-included-requires Inv-loop μ-loop Inv-
 enter-included-requires c κs = search needs
 
 loop-holds : tie.Need-loop-holds Inv-loop μ-loop Inv-loop2 μ-loop2 Inv-loop3 μ-loop3
-loop-holds c = (search needs, begun-none 84 _ 0 0)
+loop-holds c = (search needs, begun-none stateObjects _ 0 0)
 
 cast-x : tie.Need-cast-x Inv-loop μ-loop Inv-loop2 μ-loop2 Inv-loop3 μ-loop3
 cast-x c = search needs
@@ -128,7 +128,7 @@ loop2-less c = search needs
 
 loop2-again : tie.Need-loop2-again Inv-loop μ-loop Inv-loop2 μ-loop2 Inv-loop3 μ-loop3
 unfolding every
-loop2-again c = (search needs, rw (add-one, c .before .before .before .before .before .before .loop2 .inv .1, c .sound-at .ensures (leaders-made (sheetOf (c .before .before .before .before .before .before .before .before .before .before .before .before .before .before .before .before .before .before .args .s .now)) 84 (c .before .before .before .before .before .before .before .before .before .before .before .before .before .find-leaders .last .1 .0) (c .before .before .before .before .before .before .before .before .before .before .before .before .before .find-leaders .ensures .1)) (c .before .before .before .before .before .before .before .before .before .before .enter-included .ensures .3 (λ x l. nought 84 x)), element-setting (c .before .before .before .before .before .before .before .before .before .before .before .before .before .before .before .before .before .before .args .t2) (c .before .before .before .before .before .before .loop2 .o) (omega (arith, c .before .before .before .before .before .loop2-test .taken, c .before .before .before .before .before .before .before .before .before .before .enter-included .ensures .1))))
+loop2-again c = (search needs, rw (add-one, c .before .before .before .before .before .before .loop2 .inv .1, c .sound-at .ensures (leaders-made (sheetOf (c .before .before .before .before .before .before .before .before .before .before .before .before .before .before .before .before .before .before .args .s .now)) stateObjects (c .before .before .before .before .before .before .before .before .before .before .before .before .before .find-leaders .last .1 .0) (c .before .before .before .before .before .before .before .before .before .before .before .before .before .find-leaders .ensures .1)) (c .before .before .before .before .before .before .before .before .before .before .enter-included .ensures .3 (λ x l. nought stateObjects x)), element-setting (c .before .before .before .before .before .before .before .before .before .before .before .before .before .before .before .before .before .before .args .t2) (c .before .before .before .before .before .before .loop2 .o) (omega (arith, c .before .before .before .before .before .loop2-test .taken, c .before .before .before .before .before .before .before .before .before .before .enter-included .ensures .1))))
 
 loop3-holds : tie.Need-loop3-holds Inv-loop μ-loop Inv-loop2 μ-loop2 Inv-loop3 μ-loop3
 loop3-holds c = (c .before .before .before .before .before .enter-included .ensures .1, search needs, sym (and-behind (c .before .loop2 .good) (c .before .loop2 .good) (every (λ q. ltb q (c .before .before .before .before .before .enter-included .result) || isResting (setting (c .before .before .before .before .before .before .before .before .before .before .before .before .before .args .t2) q)) (c .before .before .before .before .before .enter-included .result)) (λ q. refl) ∙ ap (λ (b : Bool). b && c .before .loop2 .good) (every-all (λ q. ltb q (c .before .before .before .before .before .enter-included .result) || isResting (setting (c .before .before .before .before .before .before .before .before .before .before .before .before .before .args .t2) q)) (c .before .before .before .before .before .enter-included .result) (λ k l. ap (λ (b : Bool). b || isResting (setting (c .before .before .before .before .before .before .before .before .before .before .before .before .before .args .t2) k)) (lt-ltb k (c .before .before .before .before .before .enter-included .result) l)))))
@@ -158,7 +158,7 @@ loop3-again c = (search needs, search needs, rw (add-one, c .before .before .bef
 returns-2 : tie.Need-returns-2 Inv-loop μ-loop Inv-loop2 μ-loop2 Inv-loop3 μ-loop3
 unfolding restingFrom
 returns-2 c =
-    let e : c .before .loop3 .o ≡ 84 = omega (arith, c .loop3-test .left, c .before .loop3 .inv .0) in
+    let e : c .before .loop3 .o ≡ stateObjects = omega (arith, c .loop3-test .left, c .before .loop3 .inv .0) in
     let g : c .before .before .before .loop2 .o ≡ (c .before .before .before .before .before .before .before .enter-included .result) = omega (arith, c .before .before .loop2-test .left, c .before .before .before .loop2 .inv .0) in
     let good = every (λ q. flaggedSound (sheetOf (c .before .before .before .before .before .before .before .before .before .before .before .before .before .before .before .args .s .now)) ((c .before .before .before .before .before .before .before .before .before .before .before .before .before .before .before .args .t2) .programme) (c .before .before .before .before .before .loop .active) q (setting (c .before .before .before .before .before .before .before .before .before .before .before .before .before .before .before .args .t2) q)) in
     c .before .loop3 .inv .2

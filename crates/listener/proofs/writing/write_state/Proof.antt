@@ -8,6 +8,7 @@ use lib.Seq.{sets}
 use native.Mathlib.Nat.{zero-add}
 use native.Mathlib.Omega.{arith}
 use Rattle.sheet.specs.Words.{sheetOf}
+use Rattle.listener.specs.State.{stateObjects}
 use Rattle.listener.specs.steps.Tracks.{objectTracks, tracksWhen, stateTracks}
 use Rattle.listener.proofs.WrittenLaws.{Written, written-none, written-more, room, same-long, written-all}
 use Rattle.listener.proofs.StepLaws.{element-active}
@@ -16,10 +17,10 @@ use Rattle.listener.proofs.writing.write_state.Statement.{statement}
 use Rattle.listener.proofs.writing.write_state.Tie as tie
 
 abbrev Inv-loop : tie.InvT-loop
-Inv-loop s buffer₀ state pos₀ o₀ buffer pos o = Written (tracksWhen (sheetOf s) state) 84 0 buffer₀ buffer pos o
+Inv-loop s buffer₀ state pos₀ o₀ buffer pos o = Written (tracksWhen (sheetOf s) state) stateObjects 0 buffer₀ buffer pos o
 
 abbrev μ-loop : tie.MeasureT-loop
-μ-loop s buffer₀ state pos₀ o₀ buffer pos o = 84 - o
+μ-loop s buffer₀ state pos₀ o₀ buffer pos o = stateObjects - o
 
 loop-holds : tie.Need-loop-holds Inv-loop μ-loop
 loop-holds c = written-none _ _ _ _
@@ -35,7 +36,7 @@ element-copy-out-x c = search needs
 
 write-when-requires : tie.Need-write-when-requires Inv-loop μ-loop
 unfolding stateTracks tracksWhen
-write-when-requires c κs = rw (element-active (c .before .before .before .before .before .before .args .t2) (c .before .before .before .loop .o) (c .before .before .loop-test .taken)) (room (tracksWhen (sheetOf (c .before .before .before .before .before .before .args .s .now)) (c .before .before .before .before .before .before .args .t2)) 84 0 (c .before .before .before .before .before .before .args .buffer .now) (c .before .before .before .loop .buffer) (c .before .before .before .loop .pos) (c .before .before .before .loop .o) (c .before .before .before .loop .inv) (c .before .before .loop-test .taken) (omega (arith, c .before .before .before .before .before .before .pre)))
+write-when-requires c κs = rw (element-active (c .before .before .before .before .before .before .args .t2) (c .before .before .before .loop .o) (c .before .before .loop-test .taken)) (room (tracksWhen (sheetOf (c .before .before .before .before .before .before .args .s .now)) (c .before .before .before .before .before .before .args .t2)) stateObjects 0 (c .before .before .before .before .before .before .args .buffer .now) (c .before .before .before .loop .buffer) (c .before .before .before .loop .pos) (c .before .before .before .loop .o) (c .before .before .before .loop .inv) (c .before .before .loop-test .taken) (omega (arith, c .before .before .before .before .before .before .pre)))
 
 add-o : tie.Need-add-o Inv-loop μ-loop
 add-o c = search needs
