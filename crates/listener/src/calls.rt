@@ -24,10 +24,12 @@ use tables::reads::leader_by;
 use values::Gain;
 use values::Sort;
 ghost use mathlib.Core.Path.{_≡_};
-ghost use Rattle.listener.specs.Calls.{behind, chosenObject, chosenProgramme, gainSet, groupAnswer, moved, numberAnswer, offsetSet, opened, opens, rangeAnswer};
+ghost use Rattle.listener.specs.Calls.{chosenObject, chosenProgramme, gainSet, moved, offsetSet, opened, opens};
 ghost use Rattle.granted.specs.Fitting.{gainFits, offsetFits};
+ghost use Rattle.granted.specs.Granted.{grants};
 ghost use Rattle.listener.specs.State.{restingState};
-ghost use Rattle.listener.specs.steps.Settings.{isDone, movedFrom, rangeAnswerBy};
+ghost use Rattle.listener.specs.steps.Answers.{groupAnswer, isDone, numberAnswer, rangeAnswer, whenSound};
+ghost use Rattle.listener.specs.steps.Settings.{movedFrom};
 ghost use Rattle.profile.specs.Relations.{includes};
 ghost use Rattle.sheet.specs.Words.{sheetOf};
 ghost use Rattle.tables.specs.steps.Right.{Leaders};
@@ -73,8 +75,8 @@ pub fn open(s: &[u8]) -> Reply
 }
 
 // 25 and 26, then whatever else the call can meet.
-pub fn behind(s: &[u8], state: State, rest: Answer) -> Answer
-    ensures { λ r. ⌜ r ≡ behind (sheetOf (now (s .entry))) state rest ⌝ }
+pub fn when_sound(s: &[u8], state: State, rest: Answer) -> Answer
+    ensures { λ r. ⌜ r ≡ whenSound (sheetOf (now (s .entry))) state rest ⌝ }
 {
     if opens(s) {
         if sound(s, state) {
@@ -115,7 +117,7 @@ fn group_answer(s: &[u8], p: u16, o: u16) -> Answer
 
 // 28, 30 and 31.
 fn range_answer(s: &[u8], p: u16, o: u16, granted: bool, fits: bool) -> Answer
-    ensures { λ r. ⌜ r ≡ rangeAnswerBy (includes (sheetOf (now (s .entry))) p o) granted fits ⌝ }
+    ensures { λ r. ⌜ r ≡ rangeAnswer (includes (sheetOf (now (s .entry))) p o) granted fits ⌝ }
 {
     if includes(s, p, o) {
         if granted {
@@ -134,7 +136,7 @@ fn range_answer(s: &[u8], p: u16, o: u16, granted: bool, fits: bool) -> Answer
 
 // Whether a value fits is asked only where there is a range.
 fn gain_answer(s: &[u8], p: u16, o: u16, gain: Gain) -> Answer
-    ensures { λ r. ⌜ r ≡ rangeAnswer (sheetOf (now (s .entry))) p o Gains (gainFits (sheetOf (now (s .entry))) p o gain) ⌝ }
+    ensures { λ r. ⌜ r ≡ rangeAnswer (includes (sheetOf (now (s .entry))) p o) (grants (sheetOf (now (s .entry))) p o Gains) (gainFits (sheetOf (now (s .entry))) p o gain) ⌝ }
 {
     let range = granted_range(s, p, o, Sort::Gains);
     if is_range(range) {
@@ -145,7 +147,7 @@ fn gain_answer(s: &[u8], p: u16, o: u16, gain: Gain) -> Answer
 }
 
 fn offset_answer(s: &[u8], p: u16, o: u16, offset: i16) -> Answer
-    ensures { λ r. ⌜ r ≡ rangeAnswer (sheetOf (now (s .entry))) p o Offsets (offsetFits (sheetOf (now (s .entry))) p o offset) ⌝ }
+    ensures { λ r. ⌜ r ≡ rangeAnswer (includes (sheetOf (now (s .entry))) p o) (grants (sheetOf (now (s .entry))) p o Offsets) (offsetFits (sheetOf (now (s .entry))) p o offset) ⌝ }
 {
     let range = granted_range(s, p, o, Sort::Offsets);
     if is_range(range) {
@@ -165,12 +167,12 @@ fn is_done(answer: Answer) -> bool
     }
 }
 
-// An object choice: 28 and 29 are asked only behind 25 and 26.
+// An object choice: 28 and 29 are asked only after 25 and 26.
 fn object_answer(s: &[u8], state: State, o: u16) -> Answer
-    ensures { λ r. ⌜ r ≡ behind (sheetOf (now (s .entry))) state (groupAnswer (sheetOf (now (s .entry))) (state .programme) o) ⌝ }
+    ensures { λ r. ⌜ r ≡ whenSound (sheetOf (now (s .entry))) state (groupAnswer (sheetOf (now (s .entry))) (state .programme) o) ⌝ }
 {
     let p = state.programme;
-    let first = behind(s, state, Answer::Done);
+    let first = when_sound(s, state, Answer::Done);
     match first {
         Answer::Done => group_answer(s, p, o),
         Answer::Refused(refusal) => Answer::Refused(refusal),
@@ -223,7 +225,7 @@ impl State {
     pub fn choose_programme(self, s: &[u8], p: u16) -> Reply
         ensures { λ r. ⌜ r ≡ chosenProgramme (sheetOf (now (s .entry))) self p ⌝ }
     {
-        let answer = behind(s, self, number_answer(s, p));
+        let answer = when_sound(s, self, number_answer(s, p));
         match answer {
             Answer::Done => Reply {
                 answer: Answer::Done,

@@ -4,8 +4,8 @@ use crate::Listing;
 use crate::Refusal;
 use crate::STATE_END;
 use crate::State;
-use crate::calls::behind;
 use crate::calls::opens;
+use crate::calls::when_sound;
 use crate::programme::started;
 use relations::sizes::children_tracks;
 use sheet::fields::CHILD_LIST;
@@ -127,7 +127,7 @@ impl State {
     pub fn list(self, s: &[u8], buffer: &mut [u16]) -> Listing
         ensures { λ r. ⌜ (r ≡ listed (sheetOf (now (s .entry))) self (length (now (buffer .entry)))) × (now (buffer .exit) ≡ buffered (sheetOf (now (s .entry))) self (now (buffer .entry))) ⌝ }
     {
-        let first = behind(s, self, Answer::Done);
+        let first = when_sound(s, self, Answer::Done);
         match first {
             Answer::Done => {
                 let n = state_number(s, self);

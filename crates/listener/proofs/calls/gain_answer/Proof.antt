@@ -3,8 +3,7 @@ use mathlib.Core.Path.{sym, ap, _∙_}
 use Rattle.granted.specs.Granted.{grants}
 use Rattle.granted.specs.Fitting.{gainFits}
 use Rattle.granted.specs.steps.NamedSet.{grantedRange, isRange, gainWithin}
-use Rattle.listener.specs.Calls.{rangeAnswer}
-use Rattle.listener.specs.steps.Settings.{rangeAnswerBy}
+use Rattle.listener.specs.steps.Answers.{rangeAnswer}
 use borrow.Author.Needs.{needs}
 use Rattle.listener.proofs.calls.gain_answer.Statement.{statement}
 use Rattle.listener.proofs.calls.gain_answer.Tie as tie
@@ -25,11 +24,11 @@ range-answer-requires-2 : tie.Need-range-answer-requires-2
 range-answer-requires-2 c κs = search needs
 
 returns : tie.Need-returns
-unfolding rangeAnswer rangeAnswerBy grants gainFits grantedRange isRange gainWithin
+unfolding rangeAnswer grants gainFits grantedRange isRange gainWithin
 returns c = simp (c .range-answer .ensures, c .before .gain-within .ensures, c .before .before .before .before .granted-range .ensures, sym (c .before .before .before .is-range .ensures ∙ ap isRange (c .before .before .before .before .granted-range .ensures)) ∙ c .before .before .if1 .taken)
 
 returns-2 : tie.Need-returns-2
-unfolding rangeAnswer rangeAnswerBy grants gainFits grantedRange isRange gainWithin
+unfolding rangeAnswer grants gainFits grantedRange isRange gainWithin
 returns-2 c = simp (c .range-answer2 .ensures, sym (c .before .before .is-range .ensures ∙ ap isRange (c .before .before .before .granted-range .ensures)) ∙ c .before .if1 .left)
 
 pub gain-answer-spec : {M : Type 1} → statement M

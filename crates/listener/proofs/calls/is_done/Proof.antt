@@ -1,5 +1,5 @@
 -- By the answer. Assumes nothing.
-use Rattle.listener.specs.steps.Settings.{isDone}
+use Rattle.listener.specs.steps.Answers.{isDone}
 use borrow.Author.Needs.{needs}
 use Rattle.listener.proofs.calls.is_done.Statement.{statement}
 use Rattle.listener.proofs.calls.is_done.Tie as tie

@@ -5,8 +5,7 @@ use mir.Syntax.{w16}
 use Rattle.granted.specs.Granted.{grants}
 use Rattle.granted.specs.Fitting.{offsetFits}
 use Rattle.granted.specs.steps.NamedSet.{grantedRange, isRange, offsetWithin}
-use Rattle.listener.specs.Calls.{rangeAnswer}
-use Rattle.listener.specs.steps.Settings.{rangeAnswerBy}
+use Rattle.listener.specs.steps.Answers.{rangeAnswer}
 use borrow.Author.Needs.{needs}
 use Rattle.listener.proofs.calls.offset_answer.Statement.{statement}
 use Rattle.listener.proofs.calls.offset_answer.Tie as tie
@@ -27,11 +26,14 @@ range-answer-requires-2 : tie.Need-range-answer-requires-2
 range-answer-requires-2 c κs = search needs
 
 returns : tie.Need-returns
-unfolding rangeAnswer rangeAnswerBy grants offsetFits grantedRange isRange offsetWithin
-returns c = let p : toZ w16 (ofZ w16 (c .before .before .before .before .before .before .args .offset)) ≡ c .before .before .before .before .before .before .args .offset = search needs in simp (c .range-answer .ensures, c .before .offset-within .ensures, c .before .before .before .before .granted-range .ensures, sym (c .before .before .before .is-range .ensures ∙ ap isRange (c .before .before .before .before .granted-range .ensures)) ∙ c .before .before .if1 .taken, p)
+unfolding rangeAnswer grants offsetFits grantedRange isRange offsetWithin
+returns c =
+    let z = c .before .before .before .before .before .before .args .offset in
+    let p : toZ w16 (ofZ w16 z) ≡ z = search needs in
+    simp (c .range-answer .ensures, c .before .offset-within .ensures, c .before .before .before .before .granted-range .ensures, sym (c .before .before .before .is-range .ensures ∙ ap isRange (c .before .before .before .before .granted-range .ensures)) ∙ c .before .before .if1 .taken, p)
 
 returns-2 : tie.Need-returns-2
-unfolding rangeAnswer rangeAnswerBy grants offsetFits grantedRange isRange offsetWithin
+unfolding rangeAnswer grants offsetFits grantedRange isRange offsetWithin
 returns-2 c = simp (c .range-answer2 .ensures, sym (c .before .before .is-range .ensures ∙ ap isRange (c .before .before .before .granted-range .ensures)) ∙ c .before .if1 .left)
 
 pub offset-answer-spec : {M : Type 1} → statement M
