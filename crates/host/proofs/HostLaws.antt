@@ -1,5 +1,5 @@
 -- The listing on bytes and the one on words that it is made from. Assumes nothing.
-use Prim.Native.Nat.{ℕ, _+_, _*_, _<_, _≤_}
+use Prim.Native.Nat.{ℕ, zero, suc, _+_, _*_, _-_, _<_, _≤_}
 use mathlib.Core.Path.{_≡_, refl, sym, ap, _∙_}
 use mathlib.Core.Bool.{Bool, true, false, cond}
 use mathlib.Core.List.{List, [], _∷_, _++_}
@@ -129,7 +129,7 @@ module _ (s : Sheet) (p : ℕ) (r : Listing) (words : List ℕ) (e : r ≡ start
   unfolding hostListed hostBuffered answerNumber bufferedBy
   told-refused q buffer d = let a = refused-both s p (length buffer) q (sym told-answer ∙ d) in (rw a refl, rw a refl)
 
-module _ (s : Sheet) (p n : ℕ) (words buffer : List ℕ) (t : Told s p n words) where
+module _ {s : Sheet} {p n : ℕ} {words : List ℕ} (t : Told s p n words) (buffer : List ℕ) where
   pub few-bytes : length buffer < 2 * n → (negated (refusalNumber TooFewWords) ≡ hostListed s p (length buffer)) × (buffer ≡ hostBuffered s p buffer)
   unfolding hostListed hostBuffered answerNumber bufferedBy
   few-bytes l =
@@ -142,17 +142,33 @@ module _ (s : Sheet) (p n : ℕ) (words buffer : List ℕ) (t : Told s p n words
       let h : ltb (length buffer) (2 * startNumber s p) ≡ false = rw (← t .number) (le-ltb _ _ l) in
       (rw (done-room s p (length buffer) (t .answer), h) (ap pos (t .number)), rw (done-room s p (length buffer) (t .answer), h) (ap (λ (x : List ℕ). sets buffer 0 (bytesOf x)) (t .written)))
 
--- a refusal's code is handed on as it is
-pub code-kept : (q : Refusal) → toZ w32 (ofZ w32 (negated (refusalNumber q))) ≡ negated (refusalNumber q)
+-- a refusal's number is small, and no nought
+pub number-small : (q : Refusal) → (1 ≤ refusalNumber q) × (refusalNumber q ≤ 32)
+number-small NotAccepted = (omega arith, omega arith)
+number-small Unsound = (omega arith, omega arith)
+number-small NoProgramme = (omega arith, omega arith)
+number-small NotIncluded = (omega arith, omega arith)
+number-small NotInGroup = (omega arith, omega arith)
+number-small NoRange = (omega arith, omega arith)
+number-small Outside = (omega arith, omega arith)
+number-small TooFewWords = (omega arith, omega arith)
+
+-- such a number negated is handed on as it is, and is the one below it with every bit turned over
+negated-kept : (n : ℕ) → 1 ≤ n → n ≤ 32 → toZ w32 (ofZ w32 (negated n)) ≡ negated n
 unfolding negated
-code-kept NotAccepted = refl
-code-kept Unsound = refl
-code-kept NoProgramme = refl
-code-kept NotIncluded = refl
-code-kept NotInGroup = refl
-code-kept NoRange = refl
-code-kept Outside = refl
-code-kept TooFewWords = refl
+negated-kept zero l m = absurd (omega arith)
+negated-kept (suc n) l m = toZ-ofZ {w = w32} (record { sfits = omega arith })
+
+turned : (n : ℕ) → 1 ≤ n → n ≤ 32 → toZ w32 (4294967295 - (n - 1)) ≡ negated n
+unfolding negated
+turned zero l m = absurd (omega arith)
+turned (suc n) l m = let e : 4294967295 - (suc n - 1) ≡ 4294967296 - suc n = omega arith in rw e (negated-kept (suc n) l m)
+
+pub code-kept : (q : Refusal) → toZ w32 (ofZ w32 (negated (refusalNumber q))) ≡ negated (refusalNumber q)
+code-kept q = negated-kept (refusalNumber q) (number-small q .0) (number-small q .1)
+
+pub code-turned : (q : Refusal) → toZ w32 (4294967295 - (refusalNumber q - 1)) ≡ negated (refusalNumber q)
+code-turned q = turned (refusalNumber q) (number-small q .0) (number-small q .1)
 
 -- and a small number
 pub number-kept : (n : ℕ) → n ≤ hostWords → toZ w32 (ofZ w32 (pos n)) ≡ pos n

@@ -19,7 +19,9 @@ moved-by-requires : tie.Need-moved-by-requires
 moved-by-requires c κs = search needs
 
 returns : tie.Need-returns
-returns c = c .moved-by .ensures (leaders-made (sheetOf (c .before .before .before .before .before .before .args .s .now)) stateObjects (c .before .before .before .find-leaders .last .1 .0) (c .before .before .before .find-leaders .ensures .1))
+returns c =
+    let f = c .before .before .before in
+    c .moved-by .ensures (leaders-made (sheetOf (f .before .before .before .args .s .now)) stateObjects (f .find-leaders .last .1 .0) (f .find-leaders .ensures .1))
 
 pub moved-spec : {M : Type 1} → statement M
 moved-spec =

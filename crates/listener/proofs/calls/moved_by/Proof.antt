@@ -52,11 +52,18 @@ loop-less c = search needs
 
 loop-again : tie.Need-loop-again Inv-loop μ-loop
 unfolding movedSetting movedFrom
-loop-again c = (search needs, λ led. filled-more _ _ _ _ _ _ (c .before .before .before .loop .inv .1 led) (c .before .before .loop-test .taken) (c .moved-setting .ensures led ∙ ap (movedFrom (sheetOf (c .before .before .before .before .before .before .before .args .s .now)) (c .before .before .before .before .before .before .before .args .o) (c .before .before .before .loop .q)) (element-setting (c .before .before .before .before .before .before .before .args .t2) (c .before .before .before .loop .q) (c .before .before .loop-test .taken))))
+loop-again c = (
+  search needs,
+  λ led.
+      let l = c .before .before .before .loop in
+      let a = c .before .before .before .before .before .before .before .args in
+      let i = c .before .before .loop-test .taken in
+      filled-more _ (l .inv .1 led) i (c .moved-setting .ensures led ∙ ap (movedFrom (sheetOf (a .s .now)) (a .o) (l .q)) (element-setting (a .t2) (l .q) i)),
+)
 
 returns : tie.Need-returns Inv-loop μ-loop
 unfolding moved
-returns c = λ led. rw (filled-all _ _ _ _ _ (c .before .loop .inv .1 led) (c .loop-test .left))
+returns c = λ led. rw (filled-all (c .before .loop .inv .1 led) (c .loop-test .left))
 
 pub moved-by-spec : {M : Type 1} → statement M
 moved-by-spec =

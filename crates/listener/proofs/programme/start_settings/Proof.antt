@@ -21,7 +21,7 @@ resting-requires : tie.Need-resting-requires Inv-loop μ-loop
 resting-requires c κs = search needs
 
 loop-holds : tie.Need-loop-holds Inv-loop μ-loop
-loop-holds c = (search needs, λ led right. rw (c .resting .ensures) (begun-none stateObjects (startSetting (sheetOf (c .before .before .before .before .args .s .now)) (c .before .before .before .before .args .p)) blank resting))
+loop-holds c = (search needs, λ led right. rw (c .resting .ensures) (begun-none _ _ _ _))
 
 start-setting-requires : tie.Need-start-setting-requires Inv-loop μ-loop
 start-setting-requires c κs = search needs
@@ -42,11 +42,13 @@ loop-less : tie.Need-loop-less Inv-loop μ-loop
 loop-less c = search needs
 
 loop-again : tie.Need-loop-again Inv-loop μ-loop
-loop-again c = (search needs, λ led right. begun-more _ _ _ _ _ _ _ (c .before .before .loop .inv .1 led right) (omega (arith, c .before .loop-test .taken, c .before .before .before .before .before .before .before .pre .0)) (c .start-setting .ensures led right))
+loop-again c = (search needs, λ led right. begun-more _ (c .before .before .loop .inv .1 led right) (omega (arith, c .before .loop-test .taken, c .before .before .before .before .before .before .before .pre .0)) (c .start-setting .ensures led right))
 
 returns : tie.Need-returns Inv-loop μ-loop
 unfolding started
-returns c = λ led right. rw (begun-all _ _ _ _ _ _ (c .before .loop .inv .1 led right) (λ k a b. rest-start (sheetOf (c .before .before .before .before .before .before .args .s .now)) (c .before .before .before .before .before .before .args .p) k (c .before .before .before .before .before .before .pre .1 k (omega (arith, c .loop-test .left, c .before .loop .inv .0, a)) b)))
+returns c = λ led right.
+    let x = c .before .before .before .before .before .before in
+    rw (begun-all (c .before .loop .inv .1 led right) (λ k a b. rest-start (sheetOf (x .args .s .now)) (x .args .p) k (x .pre .1 k (omega (arith, c .loop-test .left, c .before .loop .inv .0, a)) b)))
 
 pub start-settings-spec : {M : Type 1} → statement M
 start-settings-spec =

@@ -29,7 +29,9 @@ start-settings-requires : tie.Need-start-settings-requires
 start-settings-requires c κs = (c .before .before .before .enter-included .ensures .1, c .before .before .before .enter-included .ensures .2)
 
 returns : tie.Need-returns
-returns c = c .start-settings .ensures (leaders-made (sheetOf (c .before .before .before .before .before .before .before .before .before .before .args .s .now)) stateObjects (c .before .before .before .before .before .before .before .find-leaders .last .1 .0) (c .before .before .before .before .before .before .before .find-leaders .ensures .1)) (c .before .before .before .before .enter-included .ensures .3 (λ x l. nought stateObjects x))
+returns c =
+    let f = c .before .before .before .before .before .before .before in
+    c .start-settings .ensures (leaders-made (sheetOf (f .before .before .before .args .s .now)) stateObjects (f .find-leaders .last .1 .0) (f .find-leaders .ensures .1)) (c .before .before .before .before .enter-included .ensures .3 (λ x l. nought stateObjects x))
 
 pub started-spec : {M : Type 1} → statement M
 started-spec =

@@ -45,7 +45,12 @@ loop-less c = search needs
 
 loop-again : tie.Need-loop-again Inv-loop μ-loop
 unfolding sum numberWhen
-loop-again c = (search needs, omega (arith, c .number-when .ensures .1), rw (add-one, c .number-when .ensures .0, element-active (c .before .before .before .before .before .args .t2) (c .before .before .before .loop .o) (c .before .before .loop-test .taken), c .before .before .before .loop .inv .2))
+loop-again c = (
+  search needs,
+  omega (arith, c .number-when .ensures .1),
+  let l = c .before .before .before .loop in
+      rw (add-one, c .number-when .ensures .0, element-active (c .before .before .before .before .before .args .t2) (l .o) (c .before .before .loop-test .taken), l .inv .2),
+)
 
 returns : tie.Need-returns Inv-loop μ-loop
 unfolding stateNumber
