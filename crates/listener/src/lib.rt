@@ -4,6 +4,7 @@ use values::Gain;
 
 pub mod calls;
 pub mod programme;
+pub mod refusals;
 pub mod settings;
 pub mod sounding;
 pub mod writing;
