@@ -81,6 +81,10 @@ part-count true true = omega arith
 part-count true false = omega arith
 part-count false c = omega arith
 
+none : (b : Bool) {n : ℕ} → cond (b && false) 1 0 ≤ n
+none true = zero-le
+none false = zero-le
+
 -- an object whose leader is u is among the members of u, where u is a leader
 among-members : (s : Sheet) (st : State) (u o : ℕ) → leader s u ≡ true
     → cond (active st o && eqb (leaderOf s o) u) 1 0 ≤ sum (λ i. cond (eqb (member s u i) o) (cond (active st o) 1 0) 0) (members s u)
@@ -94,10 +98,6 @@ among-members s st u o e =
           le-trans (part-count (active st o) (eqb (leaderOf s o) u)) (rw at-it at (sum-one f (members s u) (w .0) (w .1)))
       | false ↦ λ q. rw q (none (active st o))
     ]) refl
-  where
-    none : (b : Bool) {n : ℕ} → cond (b && false) 1 0 ≤ n
-    none true = zero-le
-    none false = zero-le
 
 -- where u is no leader, it alone has itself for a leader
 only-itself : (s : Sheet) (st : State) (u o : ℕ) → leader s u ≡ false → cond (active st o && eqb (leaderOf s o) u) 1 0 ≤ cond (eqb u o) 1 0
@@ -113,10 +113,6 @@ only-itself s st u o e =
     small-count : (b : Bool) → cond b 1 0 ≤ 1
     small-count true = omega arith
     small-count false = omega arith
-
-    none : (b : Bool) {n : ℕ} → cond (b && false) 1 0 ≤ n
-    none true = zero-le
-    none false = zero-le
 
 -- a member is no larger than the largest of its group
 member-share : (s : Sheet) (o : ℕ) → leader s (leaderOf s o) ≡ true → size s o ≤ share s (leaderOf s o)
@@ -169,7 +165,7 @@ module _ (s : Sheet) (a : AcceptedSheet s) (few : count s objects ≤ stateObjec
       ]) refl
 
   small : (o : ℕ) → o < count s objects → o < stateObjects
-  small o l = omega (arith, few)
+  small o l = omega arith
 
   -- the listing is as long as the active objects are large
   pub listing-length : length (entries s st) ≡ sum (λ o. cond (active st o) (size s o) 0) (count s objects)

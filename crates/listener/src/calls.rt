@@ -134,27 +134,18 @@ fn range_answer(s: &[u8], p: u16, o: u16, granted: bool, fits: bool) -> Answer
     }
 }
 
-// Whether a value fits is asked only where there is a range.
 fn gain_answer(s: &[u8], p: u16, o: u16, gain: Gain) -> Answer
     ensures { λ r. ⌜ r ≡ rangeAnswer (includes (sheetOf (now (s .entry))) p o) (grants (sheetOf (now (s .entry))) p o Gains) (gainFits (sheetOf (now (s .entry))) p o gain) ⌝ }
 {
     let range = granted_range(s, p, o, Sort::Gains);
-    if is_range(range) {
-        range_answer(s, p, o, true, gain_within(range, gain))
-    } else {
-        range_answer(s, p, o, false, false)
-    }
+    range_answer(s, p, o, is_range(range), gain_within(range, gain))
 }
 
 fn offset_answer(s: &[u8], p: u16, o: u16, offset: i16) -> Answer
     ensures { λ r. ⌜ r ≡ rangeAnswer (includes (sheetOf (now (s .entry))) p o) (grants (sheetOf (now (s .entry))) p o Offsets) (offsetFits (sheetOf (now (s .entry))) p o offset) ⌝ }
 {
     let range = granted_range(s, p, o, Sort::Offsets);
-    if is_range(range) {
-        range_answer(s, p, o, true, offset_within(range, offset))
-    } else {
-        range_answer(s, p, o, false, false)
-    }
+    range_answer(s, p, o, is_range(range), offset_within(range, offset))
 }
 
 // A call that is done gives a new state, a refused one that which it was given.

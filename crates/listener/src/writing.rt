@@ -27,18 +27,15 @@ ghost use Rattle.listener.specs.declared.Answer.the-variants.{Refused};
 ghost use Rattle.listener.specs.steps.Tracks.{childTracks, objectNumber, objectTracks, ownTracks, stateNumber, stateTracks};
 ghost use Rattle.sheet.specs.Words.{sheetOf};
 
-// How many entries an object gives.
-fn object_number(s: &[u8], o: u16) -> u64
-    ensures { λ r. ⌜ (r ≡ objectNumber (sheetOf (now (s .entry))) o) × (r ≤ 4295032830) ⌝ }
-{
-    number(s, OBJECTS, o, TRACK_LIST) as u64 + children_tracks(s, o) as u64
-}
-
-// How many it gives if it is active.
+// How many entries an object gives if it is active: its own tracks and its children's.
 fn number_when(s: &[u8], active: bool, o: u16) -> u64
     ensures { λ r. ⌜ (r ≡ cond active (objectNumber (sheetOf (now (s .entry))) o) 0) × (r ≤ 4295032830) ⌝ }
 {
-    if active { object_number(s, o) } else { 0 }
+    if active {
+        number(s, OBJECTS, o, TRACK_LIST) as u64 + children_tracks(s, o) as u64
+    } else {
+        0
+    }
 }
 
 // How many entries the listing has.

@@ -11,8 +11,7 @@ use Rattle.granted.proofs.fitting.sound_offset.Tie as tie
 -- the comparison with the start value, as it is handed on
 compared : (c : tie.After-same-offset) → c .same-offset .result ≡ sameOffset (c .before .before .before .before .args .offset) (c .before .signed .result)
 compared c =
-    let z = c .before .before .before .before .args .offset in
-    let v = c .before .signed .result in
+    let z = c .before .before .before .before .args .offset in let v = c .before .signed .result in
     let p : toZ w16 (ofZ w16 z) ≡ z = search needs in
     let q : toZ w16 (ofZ w16 v) ≡ v = search needs in
     rw (p, q) at (c .same-offset .ensures)
@@ -42,8 +41,7 @@ offset-within-requires c κs = search needs
 returns-2 : tie.Need-returns-2
 unfolding soundOffsetBy
 returns-2 c =
-    let d = c .before .before .before .before in
-    let z = d .before .before .before .before .args .offset in
+    let d = c .before .before .before .before in let z = d .before .before .before .before .args .offset in
     let p : toZ w16 (ofZ w16 z) ≡ z = search needs in
     simp (← d .before .before .start-by .ensures, ← d .before .signed .ensures, sym (compared d) ∙ c .before .before .before .if1 .left, c .offset-within .ensures, c .before .is-range .ensures, c .before .before .range-by .ensures, p)
 

@@ -26,9 +26,7 @@ count-requires c κs = search needs
 loop-holds : tie.Need-loop-holds Inv-loop μ-loop
 unfolding firstFrom
 loop-holds c =
-    let a = c .before .before .before .args in
-    let s = sheetOf (a .s .now) in
-    let n = c .count .result in
+    let a = c .before .before .before .args in let s = sheetOf (a .s .now) in let n = c .count .result in
     let e : namers s Complements - n ≡ 0 = omega (arith, c .count .ensures) in
     (omega (arith, c .count .ensures), refl, λ x l. ap (firstFrom (λ j. namesBy s Complements j x) (getD (a .table .now) x 0) n) (sym e))
 
@@ -46,11 +44,8 @@ loop-less c = search needs
 
 loop-again : tie.Need-loop-again Inv-loop μ-loop
 loop-again c =
-    let m = c .before .before .mark-led in
-    let l = c .before .before .before .before .before .loop in
-    let i = c .before .before .before .before .loop-test .taken in
-    let a = c .before .before .before .before .before .before .before .before .before .args in
-    let s = sheetOf (a .s .now) in
+    let m = c .before .before .mark-led in let l = c .before .before .before .before .before .loop in let i = c .before .before .before .before .loop-test .taken in
+    let a = c .before .before .before .before .before .before .before .before .before .args in let s = sheetOf (a .s .now) in
     let q = l .q - 1 in
     let e : suc q ≡ l .q = omega (arith, i) in
     let f : namers s Complements - q ≡ suc (namers s Complements - l .q) = omega (arith, l .inv .0, i) in (
@@ -66,9 +61,7 @@ same-length c = c .before .loop .inv .1
 returns : tie.Need-returns Inv-loop μ-loop
 unfolding firstBy
 returns c =
-    let l = c .before .loop in
-    let a = c .before .before .before .before .before .args in
-    let s = sheetOf (a .s .now) in
+    let l = c .before .loop in let a = c .before .before .before .before .before .args in let s = sheetOf (a .s .now) in
     let e : l .q ≡ 0 = omega (arith, c .loop-test .left) in
     let f : namers s Complements - l .q ≡ namers s Complements = omega (arith, e) in (
       l .inv .1,

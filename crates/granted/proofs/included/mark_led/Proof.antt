@@ -37,8 +37,7 @@ returns c = search needs
 returns-2 : tie.Need-returns-2
 unfolding timesBy howMany repeat leader
 returns-2 c =
-    let a = c .before .before .before .before .args in
-    let s = sheetOf (a .s .now) in
+    let a = c .before .before .before .before .args in let s = sheetOf (a .s .now) in
     let n = number s objects (a .q) complementList in
     let f : leader s (a .q) ≡ false = sym (c .before .leader .ensures) ∙ c .if1 .left in
     let e : n ≡ 0 = omega (arith, ltb-false 0 n f) in

@@ -24,9 +24,7 @@ named-set-requires c κs = search needs
 returns-2 : tie.Need-returns-2
 unfolding namedFor
 returns-2 c =
-    let a = c .before .before .before .before .before .before .args in
-    let s = sheetOf (a .s .now) in
-    let e = c .before .before .set-place .ensures in
+    let a = c .before .before .before .before .before .before .args in let s = sheetOf (a .s .now) in let e = c .before .before .set-place .ensures in
     simp (place-inside s (a .p) (a .o) _ _ e (c .before .before .before .before .number .ensures) (c .before .if2 .taken), c .named-set .ensures, e, place-set s (a .p) (a .o))
 
 returns-3 : tie.Need-returns-3

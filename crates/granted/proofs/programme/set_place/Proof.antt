@@ -62,9 +62,7 @@ cast-if1 c = search needs
 returns : tie.Need-returns Inv-loop μ-loop
 unfolding setPlace
 returns c =
-    let l = c .before .before .before .loop in
-    let d = c .before .before .before .before in
-    let a = d .before .before .before .before .before .args in
+    let l = c .before .before .before .loop in let d = c .before .before .before .before in let a = d .before .before .before .before .before .args in
     sym (lowest-at _ _ _ (search needs) (l .inv .1) (sym (place-has (sheetOf (a .s .now)) (a .p) (a .o) (l .i) _ _ _ _ (d .before .before .field .ensures) (d .before .number2 .ensures) (d .field2 .ensures) (c .before .reference .ensures)) ∙ c .if1 .taken)) ∙ ap (lowest _) (d .before .before .before .number .ensures)
 
 add-i : tie.Need-add-i Inv-loop μ-loop
@@ -77,8 +75,7 @@ loop-again : tie.Need-loop-again Inv-loop μ-loop
 loop-again c = (
   search needs,
   let l = c .before .before .before .loop in
-      let d = c .before .before .before .before in
-      let a = d .before .before .before .before .before .args in
+      let d = c .before .before .before .before in let a = d .before .before .before .before .before .args in
       below-more _ _ (l .inv .1) (sym (place-has (sheetOf (a .s .now)) (a .p) (a .o) (l .i) _ _ _ _ (d .before .before .field .ensures) (d .before .number2 .ensures) (d .field2 .ensures) (c .before .reference .ensures)) ∙ c .if1 .left),
 )
 

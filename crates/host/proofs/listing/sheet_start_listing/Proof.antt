@@ -17,8 +17,7 @@ use Rattle.host.proofs.listing.sheet_start_listing.Tie as tie
 -- what a listing that is done tells
 heard : (c : tie.After-enum-told) → Told (sheetOf (c .before .before .before .before .before .before .before .args .sheet .now)) (c .before .before .before .before .before .before .before .args .programme) (c .before .before .before .list-start .result .entries) (c .before .before .before .list-start .last .1 .1 .0)
 heard c =
-    let l = c .before .before .before .list-start in
-    let a = c .before .before .before .before .before .before .before .args in
+    let l = c .before .before .before .list-start in let a = c .before .before .before .before .before .before .before .args in
     told (sheetOf (a .sheet .now)) (a .programme) (l .result) (l .last .1 .1 .0) (l .ensures .0) (l .ensures .1) (c .enum-told .given .1)
 
 slice-aggregate-list-start : tie.Need-slice-aggregate-list-start
@@ -75,8 +74,7 @@ returns-2 c =
 returns-3 : tie.Need-returns-3
 returns-3 c =
     let q : Refusal = c .before .before .answer .given .0 .0 in
-    let l = c .before .before .before .before .before .list-start in
-    let a = c .before .before .before .before .before .before .before .before .before .args in
+    let l = c .before .before .before .before .before .list-start in let a = c .before .before .before .before .before .before .before .before .before .args in
     let r = told-refused (sheetOf (a .sheet .now)) (a .programme) (l .result) (l .last .1 .1 .0) (l .ensures .0) (l .ensures .1) q (a .buffer .now) (c .before .before .answer .given .1) in
     (ap (λ (z : ℤ). toZ w32 (ofZ w32 z)) (c .refusal-code2 .ensures) ∙ code-kept q ∙ r .0, r .1)
 

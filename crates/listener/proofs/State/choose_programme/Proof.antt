@@ -27,15 +27,13 @@ enum-known-answer c = search needs
 returns : tie.Need-returns
 unfolding replyBy
 returns c =
-    let b = c .before .before .before in
-    let a = b .before .before .before .args in
+    let b = c .before .before .before in let a = b .before .before .before .args in
     rw (c .started .ensures) (sym (programme-reply (sheetOf (a .s .now)) (a .self) (a .p) Done (rw (← b .before .number-answer .ensures) (sym (b .when-sound .ensures) ∙ c .before .enum-told .given .1))))
 
 returns-2 : tie.Need-returns-2
 unfolding replyBy
 returns-2 c =
-    let b = c .before .before .before in
-    let a = b .before .before .before .args in
+    let b = c .before .before .before in let a = b .before .before .before .args in
     let r : Refusal = c .before .answer .given .0 .0 in
     sym (programme-reply (sheetOf (a .s .now)) (a .self) (a .p) (Refused r) (rw (← b .before .number-answer .ensures) (sym (b .when-sound .ensures) ∙ c .before .answer .given .1)))
 

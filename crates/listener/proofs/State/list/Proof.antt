@@ -23,9 +23,7 @@ refused-requires c κs = search needs
 
 returns : tie.Need-returns
 returns c =
-    let n = c .before .before in
-    let w = n .before .before .before in
-    let a = w .before .before .before .args in
+    let n = c .before .before in let w = n .before .before .before in let a = w .before .before .before .args in
     rw (c .refused .ensures) (few-listed (sheetOf (a .s .now)) (a .self) (a .buffer .now) (sym (w .when-sound .ensures) ∙ n .before .enum-told .given .1) (rw (n .state-number .ensures) at (c .before .if1 .taken)))
 
 write-state-requires : tie.Need-write-state-requires
@@ -42,16 +40,13 @@ same-length c = ap length (c .before .before .write-state .ensures .1) ∙ simp 
 
 returns-2 : tie.Need-returns-2
 returns-2 c =
-    let n = c .before .before .before .before .before in
-    let w = n .before .before .before in
-    let a = w .before .before .before .args in
+    let n = c .before .before .before .before .before in let w = n .before .before .before in let a = w .before .before .before .args in
     let d = done-listed (sheetOf (a .s .now)) (a .self) (a .buffer .now) (sym (w .when-sound .ensures) ∙ n .before .enum-told .given .1) (rw (n .state-number .ensures) at (c .before .before .before .before .if1 .left)) in
     (rw (n .state-number .ensures) (d .0), c .before .before .write-state .ensures .1 ∙ d .1)
 
 returns-3 : tie.Need-returns-3
 returns-3 c =
-    let w = c .before .before .before .before in
-    let a = w .before .before .before .args in
+    let w = c .before .before .before .before in let a = w .before .before .before .args in
     let r : Refusal = c .before .before .first .given .0 .0 in
     rw (c .refused2 .ensures) (stop-listed (sheetOf (a .s .now)) (a .self) (a .buffer .now) r (sym (w .when-sound .ensures) ∙ c .before .before .first .given .1))
 

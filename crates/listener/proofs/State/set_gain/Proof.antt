@@ -32,8 +32,7 @@ made x = record { active = setting (x .args .t1) (x .args .o) .active; gain = x 
 -- the answer, whichever way it was come to
 answered : (c : tie.Joined1) → c .if1 .answer ≡ answer (c .before .before .before)
 answered c =
-    let x = c .before .before .before in
-    let s = sheetOf (x .args .s .now) in
+    let x = c .before .before .before in let s = sheetOf (x .args .s .now) in
     let fits = gainFits s (x .args .t1 .programme) (x .args .o) (x .args .gain) in
     ⊎-elim
     (λ h. value-sound s (x .args .t1) (x .args .o) Gains fits (c .if1 .answer) (sym (c .before .opens .ensures) ∙ h .0 .taken) (sym (h .1 .ensures) ∙ h .2 .taken) (h .4 ∙ h .3 .ensures))

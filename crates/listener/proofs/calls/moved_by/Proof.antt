@@ -55,9 +55,7 @@ unfolding movedSetting movedFrom
 loop-again c = (
   search needs,
   λ led.
-      let l = c .before .before .before .loop in
-      let a = c .before .before .before .before .before .before .before .args in
-      let i = c .before .before .loop-test .taken in
+      let l = c .before .before .before .loop in let a = c .before .before .before .before .before .before .before .args in let i = c .before .before .loop-test .taken in
       filled-more _ (l .inv .1 led) i (c .moved-setting .ensures led ∙ ap (movedFrom (sheetOf (a .s .now)) (a .o) (l .q)) (element-setting (a .t2) (l .q) i)),
 )
 

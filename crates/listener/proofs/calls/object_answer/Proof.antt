@@ -23,14 +23,12 @@ enum-known-first c = search needs
 
 returns : tie.Need-returns
 returns c =
-    let a = c .before .before .before .before .before .args in
-    let s = sheetOf (a .s .now) in
+    let a = c .before .before .before .before .before .args in let s = sheetOf (a .s .now) in
     c .group-answer .ensures ∙ sym (when-first s (a .state) (groupAnswer s (a .state .programme) (a .o)) Done (sym (c .before .before .before .when-sound .ensures) ∙ c .before .enum-told .given .1))
 
 returns-2 : tie.Need-returns-2
 returns-2 c =
-    let a = c .before .before .before .before .before .args in
-    let s = sheetOf (a .s .now) in
+    let a = c .before .before .before .before .before .args in let s = sheetOf (a .s .now) in
     let r : Refusal = c .before .first .given .0 .0 in
     sym (when-first s (a .state) (groupAnswer s (a .state .programme) (a .o)) (Refused r) (sym (c .before .before .before .when-sound .ensures) ∙ c .before .first .given .1))
 

@@ -37,8 +37,7 @@ named c = c .field .ensures ∙ ap (λ (x : ℕ). field (sheetOf (c .before .bef
 -- the highest so far, raised or left
 raised : (c : tie.Joined1 Inv-loop μ-loop) → (c .if1 .past ≤ stateObjects) × Past (item (sheetOf (c .before .before .before .before .before .before .before .before .before .before .before .before .args .s .now)) Included (c .before .before .before .before .before .before .before .before .before .before .before .before .args .p)) (c .before .before .before .before .before .before .before .before .loop .i + 1) (c .if1 .past)
 raised c =
-    let f = c .before .before .before .before .before in
-    let l = f .before .before .before .loop in
+    let f = c .before .before .before .before .before in let l = f .before .before .before .loop in
     let a = f .before .before .before .before .before .before .before .args in
     let g = item (sheetOf (a .s .now)) Included (a .p) in
     let o = f .field .result in
@@ -80,9 +79,7 @@ loop-less c = search needs
 
 loop-again : tie.Need-loop-again Inv-loop μ-loop
 loop-again c =
-    let m = c .before .before .before .mark-at in
-    let f = c .before .before .before .before .before in
-    let l = f .before .before .before .loop in
+    let m = c .before .before .before .mark-at in let f = c .before .before .before .before .before in let l = f .before .before .before .loop in
     let a = f .before .before .before .before .before .before .before .args in (
       omega (arith, f .before .before .loop-test .taken),
       raised c .0,
@@ -97,9 +94,7 @@ same-length c = c .before .loop .inv .3
 returns : tie.Need-returns Inv-loop μ-loop
 unfolding includes timesBy
 returns c =
-    let l = c .before .loop in
-    let a = c .before .before .before .before .before .args in
-    let s = sheetOf (a .s .now) in
+    let l = c .before .loop in let a = c .before .before .before .before .before .args in let s = sheetOf (a .s .now) in
     let g = item s Included (a .p) in
     let e : l .i ≡ number s programmes (a .p) contentList = omega (arith, c .before .before .number .ensures, c .loop-test .left, l .inv .0) in (
       l .inv .3,

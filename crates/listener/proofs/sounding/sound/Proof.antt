@@ -136,8 +136,7 @@ unfolding every
 loop2-again c = (
   search needs,
   let l = c .before .before .before .before .before .before .loop2 in
-      let n = c .before .before .before .before .before .before .before .before .before .before in
-      let f = n .before .before .before .find-leaders in
+      let n = c .before .before .before .before .before .before .before .before .before .before in let f = n .before .before .before .find-leaders in
       let a = n .before .before .before .before .before .before .before .before .args in
       let i : l .o < stateObjects = omega (arith, c .before .before .before .before .before .loop2-test .taken, n .enter-included .ensures .1) in
       rw (add-one, l .inv .1, c .sound-at .ensures (leaders-made (sheetOf (a .s .now)) stateObjects (f .last .1 .0) (f .ensures .1)) (n .enter-included .ensures .3 (λ x l. nought stateObjects x)), element-setting (a .t2) (l .o) i),
@@ -167,8 +166,7 @@ loop3-less c = search needs
 loop3-again : tie.Need-loop3-again Inv-loop μ-loop Inv-loop2 μ-loop2 Inv-loop3 μ-loop3
 unfolding every
 loop3-again c =
-    let l = c .before .before .before .loop3 in
-    let i = c .before .before .loop3-test .taken in
+    let l = c .before .before .before .loop3 in let i = c .before .before .loop3-test .taken in
     let n = c .before .before .before .before .before .before .before .before .before in
     let st = n .before .before .before .before .before .before .before .before .args .t2 in (
       omega (arith, i),
@@ -180,14 +178,9 @@ loop3-again c =
 returns-2 : tie.Need-returns-2 Inv-loop μ-loop Inv-loop2 μ-loop2 Inv-loop3 μ-loop3
 unfolding restingFrom
 returns-2 c =
-    let l = c .before .before .before .before .before .loop in
-    let l2 = c .before .before .before .loop2 in
-    let l3 = c .before .loop3 in
-    let entered = c .before .before .before .before .before .before .before in
-    let n = entered .enter-included .result in
-    let counted = entered .before .before .before .before .before .before in
-    let a = counted .before .before .args in
-    let s = sheetOf (a .s .now) in
+    let l = c .before .before .before .before .before .loop in let l2 = c .before .before .before .loop2 in let l3 = c .before .loop3 in
+    let entered = c .before .before .before .before .before .before .before in let n = entered .enter-included .result in
+    let counted = entered .before .before .before .before .before .before in let a = counted .before .before .args in let s = sheetOf (a .s .now) in
     let e : l3 .o ≡ stateObjects = omega (arith, c .loop3-test .left, l3 .inv .0) in
     let g : l2 .o ≡ n = omega (arith, c .before .before .loop2-test .left, l2 .inv .0) in
     let good = every (λ q. flaggedSound s (a .t2 .programme) (l .active) q (setting (a .t2) q)) in

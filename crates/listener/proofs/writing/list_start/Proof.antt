@@ -57,8 +57,7 @@ refused-requires-3 c κs = search needs
 
 returns-3 : tie.Need-returns-3
 returns-3 c =
-    let n = c .before .before in
-    let p = n .before .before in
+    let n = c .before .before in let p = n .before .before in
     rw (c .refused3 .ensures) (start-few _ _ _ (opened (p .before .before)) (numbered p) (rw (← n .before .started .ensures, ← n .state-number .ensures) (lt-ltb _ _ (c .before .if3 .taken))))
 
 write-state-requires : tie.Need-write-state-requires
@@ -69,9 +68,7 @@ same-length c = ap length (c .before .before .write-state .ensures .1) ∙ simp 
 
 returns-4 : tie.Need-returns-4
 returns-4 c =
-    let n = c .before .before .before .before .before in
-    let p = n .before .before in
-    let a = p .before .before .before .before .before .before .args in
+    let n = c .before .before .before .before .before in let p = n .before .before in let a = p .before .before .before .before .before .before .args in
     let d = start-done (sheetOf (a .s .now)) (a .p) (a .buffer .now) (opened (p .before .before)) (numbered p) (rw (← n .before .started .ensures, ← n .state-number .ensures) (le-ltb _ _ (c .before .before .before .before .if3 .left))) in
     (rw (n .state-number .ensures, n .before .started .ensures) (d .0), c .before .before .write-state .ensures .1 ∙ rw (n .before .started .ensures) (d .1))
 

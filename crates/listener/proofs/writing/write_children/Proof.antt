@@ -39,8 +39,7 @@ loop-less c = search needs
 
 loop-again : tie.Need-loop-again Inv-loop μ-loop
 loop-again c =
-    let w = c .before .before .write-own .ensures in
-    let e = c .before .before .before .before .entry .ensures in
+    let w = c .before .before .write-own .ensures in let e = c .before .before .before .before .entry .ensures in
     let l = c .before .before .before .before .before .before .loop in
     let s = sheetOf (c .before .before .before .before .before .before .before .before .before .before .args .s .now) in
     written-more (l .inv) _ _ (c .before .before .before .before .before .loop-test .taken) (w .0 ∙ ap (λ (x : ℕ). l .pos + length (ownTracks s x)) e) (w .1 ∙ ap (λ (x : ℕ). sets (l .buffer) (l .pos) (ownTracks s x)) e)

@@ -21,8 +21,7 @@ write-own-requires c κs = let x = c .before .before .before in omega (arith, bo
 
 write-children-requires : tie.Need-write-children-requires
 write-children-requires c κs =
-    let w = c .before .before .before in
-    let x = w .before .before .before .before in
+    let w = c .before .before .before in let x = w .before .before .before .before in
     omega (arith, both x, x .pre, w .write-own .ensures .0, ap length (w .write-own .ensures .1), length-sets (x .args .buffer .now) (x .args .at) (ownTracks (sheetOf (x .args .s .now)) (x .args .o)))
 
 same-length : tie.Need-same-length
@@ -31,9 +30,7 @@ same-length c = ap length (c .before .before .write-children .ensures .1) ∙ si
 returns : tie.Need-returns
 unfolding objectTracks
 returns c =
-    let w = c .before .before .before .before .before .before in
-    let x = w .before .before .before .before in
-    let s = sheetOf (x .args .s .now) in
+    let w = c .before .before .before .before .before .before in let x = w .before .before .before .before in let s = sheetOf (x .args .s .now) in
     let d = c .before .before .write-children .ensures in (
       omega (arith, both x, w .write-own .ensures .0, d .0),
       d .1

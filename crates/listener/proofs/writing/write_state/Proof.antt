@@ -37,9 +37,7 @@ element-copy-out-x c = search needs
 write-when-requires : tie.Need-write-when-requires Inv-loop μ-loop
 unfolding stateTracks tracksWhen
 write-when-requires c κs =
-    let x = c .before .before .before .before .before .before in
-    let l = c .before .before .before .loop in
-    let i = c .before .before .loop-test .taken in
+    let x = c .before .before .before .before .before .before in let l = c .before .before .before .loop in let i = c .before .before .loop-test .taken in
     rw (element-active (x .args .t2) (l .o) i) (room (l .inv) i (omega (arith, x .pre)))
 
 add-o : tie.Need-add-o Inv-loop μ-loop
@@ -51,10 +49,8 @@ loop-less c = search needs
 loop-again : tie.Need-loop-again Inv-loop μ-loop
 unfolding tracksWhen
 loop-again c =
-    let w = c .before .before .write-when .ensures in
-    let l = c .before .before .before .before .before .before .loop in
-    let i = c .before .before .before .before .before .loop-test .taken in
-    let a = c .before .before .before .before .before .before .before .before .before .args in
+    let w = c .before .before .write-when .ensures in let l = c .before .before .before .before .before .before .loop in
+    let i = c .before .before .before .before .before .loop-test .taken in let a = c .before .before .before .before .before .before .before .before .before .args in
     let tracks = objectTracks (sheetOf (a .s .now)) (l .o) in
     let e = element-active (a .t2) (l .o) i in
     written-more (l .inv) _ _ i (w .0 ∙ ap (λ (b : Bool). l .pos + length (cond b tracks [])) e) (w .1 ∙ ap (λ (b : Bool). sets (l .buffer) (l .pos) (cond b tracks [])) e)
