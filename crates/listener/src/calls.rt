@@ -186,29 +186,23 @@ fn moved_setting(s: &[u8], leaders: &[u16], o: u16, q: u16, x: Setting) -> Setti
     }
 }
 
-fn moved_by(s: &[u8], state: State, leaders: &[u16], o: u16) -> State
-    ensures { λ r. ⌜ (Leaders (sheetOf (now (s .entry))) (now (leaders .entry)) → r ≡ moved (sheetOf (now (s .entry))) state o) ⌝ }
+fn moved(s: &[u8], state: State, o: u16) -> State
+    ensures { λ r. ⌜ r ≡ moved (sheetOf (now (s .entry))) state o ⌝ }
 {
+    let mut leaders: [u16; STATE_OBJECTS] = [0; STATE_OBJECTS];
+    find_leaders(s, &mut leaders);
     let rest = resting();
     let mut objects = [rest; STATE_OBJECTS];
     let mut q: usize = 0;
     while q < STATE_OBJECTS {
         let x = state.objects[q];
-        objects[q] = moved_setting(s, leaders, o, q as u16, x);
+        objects[q] = moved_setting(s, &leaders, o, q as u16, x);
         q += 1;
     }
     State {
         programme: state.programme,
         objects,
     }
-}
-
-fn moved(s: &[u8], state: State, o: u16) -> State
-    ensures { λ r. ⌜ r ≡ moved (sheetOf (now (s .entry))) state o ⌝ }
-{
-    let mut leaders: [u16; STATE_OBJECTS] = [0; STATE_OBJECTS];
-    find_leaders(s, &mut leaders);
-    moved_by(s, state, &leaders, o)
 }
 
 impl State {
