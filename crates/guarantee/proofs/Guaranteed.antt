@@ -23,7 +23,7 @@ use Rattle.listener.specs.declared.Refusal.the-variants.{NotAccepted, Unsound}
 use Rattle.listener.specs.State.{stateObjects}
 use Rattle.listener.specs.Sound.{sound}
 use Rattle.listener.specs.Calls.{opens, answerBy, replyBy, notOpen, opened}
-use Rattle.listener.specs.Listing.{entries, listedTracks, tooFewWords, listingAnswer, listedBy, listed, bufferedBy, buffered}
+use Rattle.listener.specs.Listing.{entries, listedTracks, tooFewWords, listingAnswer, listed, bufferedBy, buffered}
 use Rattle.guarantee.specs.Run.{Call, after}
 use Rattle.guarantee.specs.Guarantee.{Promises, Listening}
 use Rattle.guarantee.proofs.OpenLaws.{opens-accepted, few-objects, most-counted}
@@ -47,7 +47,7 @@ module _ (s : Sheet) (accepted : verdict s ≡ Accepted) (at : (level s ≡ 1) �
   enough st h words l = passes s a few can-open st (tooFewWords s st words ∷ []) h ∙ rw (le-ltb words (length (entries s st)) l)
 
   done-listing : (st : State) → sound s st ≡ true → (words : ℕ) → length (entries s st) ≤ words → listed s st words ≡ record { answer = Done; entries = length (entries s st) }
-  unfolding listed listedBy
+  unfolding listed
   done-listing st h words l = rw (enough st h words l)
 
   done-writing : (st : State) → sound s st ≡ true → (buffer : List ℕ) → length (entries s st) ≤ length buffer → buffered s st buffer ≡ sets buffer 0 (listedTracks s st)

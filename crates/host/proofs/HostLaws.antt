@@ -76,12 +76,10 @@ module _ (s : Sheet) (p bytes : ℕ) where
 
 -- a listing told done
 listed-answer : (n : ℕ) (x : Answer) → listedBy n x .answer ≡ x
-unfolding listedBy
 listed-answer n Done = refl
 listed-answer n (Refused r) = refl
 
 listed-number : (n : ℕ) (x : Answer) → x ≡ Done → listedBy n x .entries ≡ n
-unfolding listedBy
 listed-number n x e = rw e refl
 
 buffer-done : (buffer written : List ℕ) (x : Answer) → x ≡ Done → bufferedBy buffer written x ≡ sets buffer 0 written

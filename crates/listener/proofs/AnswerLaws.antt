@@ -63,12 +63,12 @@ module _ (s : Sheet) (st : State) (o : ℕ) (t : Sort) (fits : Bool) (a : Answer
 module _ (st : State) (o : ℕ) (x : Setting) where
   stored : (a : Answer) → (isDone a && ltb o stateObjects) ≡ true
       → _≡_ {A = Reply} (record { answer = a; state = record { programme = st .programme; objects = set (st .objects) o x } }) (replyBy a st (withSetting st o x))
-  unfolding replyBy withSetting isDone
+  unfolding replyBy withSetting
   stored Done d = rw d refl
   stored (Refused r) d = absurd (true≢false (sym d))
 
   kept : (a : Answer) → (isDone a && ltb o stateObjects) ≡ false → _≡_ {A = Reply} (record { answer = a; state = st }) (replyBy a st (withSetting st o x))
-  unfolding replyBy withSetting isDone
+  unfolding replyBy withSetting
   kept Done d = rw d refl
   kept (Refused r) d = refl
 

@@ -100,16 +100,16 @@ module _ (s : Sheet) (st : State) (buffer : List ℕ) where
 
   -- 25 or 26
   pub stop-listed : (r : Refusal) → whenSound s st Done ≡ Refused r → (listedBy 0 (Refused r) ≡ listed s st (length buffer)) × (buffer ≡ buffered s st buffer)
-  unfolding listedBy bufferedBy
+  unfolding bufferedBy
   stop-listed r e = listed-by (Refused r) (answer-steps (Refused r) e)
 
   -- too few words
   pub few-listed : whenSound s st Done ≡ Done → length buffer < stateNumber s st → (listedBy 0 (Refused TooFewWords) ≡ listed s st (length buffer)) × (buffer ≡ buffered s st buffer)
-  unfolding listedBy bufferedBy
+  unfolding bufferedBy
   few-listed e l = listed-by (Refused TooFewWords) (answer-steps Done e ∙ rw (lt-ltb _ _ l) refl)
 
   -- enough words
   pub done-listed : whenSound s st Done ≡ Done → stateNumber s st ≤ length buffer
       → (_≡_ (record { answer = Done; entries = stateNumber s st }) (listed s st (length buffer))) × (sets buffer 0 (stateTracks s st) ≡ buffered s st buffer)
-  unfolding listedBy bufferedBy
+  unfolding bufferedBy
   done-listed e l = rw (← entries-number s st, ← listed-tracks s st) (listed-by Done (answer-steps Done e ∙ rw (le-ltb _ _ l) refl))

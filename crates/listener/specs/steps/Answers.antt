@@ -31,6 +31,6 @@ unfoldable pub rangeAnswer : Bool → Bool → Bool → Answer
 rangeAnswer included granted fits = cond (not included) (Refused NotIncluded) (cond (not granted) (Refused NoRange) (cond (not fits) (Refused Outside) Done))
 
 -- the call is done
-unfoldable pub isDone : Answer → Bool
+abbrev pub isDone : Answer → Bool
 isDone Done = true
 isDone (Refused r) = false
