@@ -2,29 +2,13 @@
 use libc::STDOUT_FILENO;
 use listener::Answer;
 use listener::Refusal;
+use listener::STATE_OBJECTS;
 use listener::Setting;
 use listener::State;
+use listener::refusals::refusal_number;
 use listener::settings::is_resting;
 use values::Gain;
 use values::signed::word;
-ghost use mathlib.Core.Path.{_≡_};
-ghost use Rattle.listener.specs.State.{refusalNumber};
-
-// The number that document 01 gives a refusal.
-fn refusal_number(refusal: Refusal) -> u64
-    ensures { λ r. ⌜ r ≡ refusalNumber refusal ⌝ }
-{
-    match refusal {
-        Refusal::NotAccepted => 25,
-        Refusal::Unsound => 26,
-        Refusal::NoProgramme => 27,
-        Refusal::NotIncluded => 28,
-        Refusal::NotInGroup => 29,
-        Refusal::NoRange => 30,
-        Refusal::Outside => 31,
-        Refusal::TooFewWords => 32,
-    }
-}
 
 pub fn say(text: &[u8]) {
     io::write_all(STDOUT_FILENO, text);
@@ -53,7 +37,7 @@ pub fn say_unknown() {
 // `refused 28`, and no end of line.
 pub fn say_refusal(refusal: Refusal) {
     say(b"refused ");
-    say_number(refusal_number(refusal));
+    say_number(refusal_number(refusal) as u64);
 }
 
 // `done` or `refused 28`.
@@ -111,7 +95,7 @@ pub fn say_state(state: State) {
     say_number(state.programme as u64);
     say(b"\n");
     let mut o: usize = 0;
-    while o < 84 {
+    while o < STATE_OBJECTS {
         let x = state.objects[o];
         if !is_resting(x) {
             say_setting(o as u64, x);

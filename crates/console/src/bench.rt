@@ -7,11 +7,9 @@ use crate::answers::say_unknown;
 use crate::answers::say_words;
 use crate::commands::Command;
 use listener::Answer;
+use listener::MOST_ENTRIES;
 use listener::State;
 use listener::calls::open;
-
-// The words of the bench's listing buffer.
-const WORDS: usize = 28;
 
 // Opens the sheet, and writes the answer.
 pub fn opened(sheet: &[u8]) -> State {
@@ -23,7 +21,7 @@ pub fn opened(sheet: &[u8]) -> State {
 
 // `tracks 0 1 5`, or why not.
 fn list(sheet: &[u8], state: State) {
-    let mut words = [0u16; WORDS];
+    let mut words = [0u16; MOST_ENTRIES];
     let listing = state.list(sheet, &mut words);
     let answer = listing.answer;
     match answer {

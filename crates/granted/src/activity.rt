@@ -5,7 +5,7 @@ use relations::groups::member;
 use relations::groups::members;
 use tables::reads::leader_by;
 ghost use mathlib.Core.Path.{_≡_};
-ghost use Rattle.granted.specs.steps.NamedSet.{flagged, flaggedActivity, flaggedMembers};
+ghost use Rattle.granted.specs.steps.Flags.{flagged, flaggedActivity, flaggedMembers};
 ghost use Rattle.sheet.specs.Words.{sheetOf};
 ghost use Rattle.tables.specs.steps.Right.{Included, Leaders};
 

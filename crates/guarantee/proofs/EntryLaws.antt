@@ -9,7 +9,7 @@ use lib.Dec.{eqb, ltb}
 use lib.ListN.{length, getD}
 use borrow.Author.Tests.{ltb-true, ltb-false, eqb-true, eqb-false, eq-eqb, ne-eqb, not-true}
 use Rattle.sheet.specs.Words.{Sheet}
-use Rattle.sheet.specs.Layout.{level, count, field, number, entry}
+use Rattle.sheet.specs.Layout.{count, field, number, entry}
 use Rattle.sheet.specs.Fields.{objects, packs, tracks, trackList, childList, packChannels, trackPack, trackOrdinal}
 use Rattle.profile.specs.Counting.{howMany, sum, concatBelow, tabulate}
 use Rattle.profile.specs.Relations.{lists, times, packOf, hasPack, hasChildren, top, leader, member, members, whollyIncluded, namings, channels, trackAt}
@@ -23,7 +23,6 @@ use Rattle.listener.specs.State.{stateObjects, active}
 use Rattle.listener.specs.Sound.{activeMembers, sound}
 use Rattle.listener.specs.Listing.{Entry, sounds, ownEntries, objectEntries, entries, listedTracks}
 use Rattle.guarantee.specs.Guarantee.{howManyIn, isChannel}
-use Rattle.guarantee.proofs.SoundLaws.{few-objects}
 use Rattle.guarantee.proofs.ListingLaws.{active-top, group-active}
 
 -- every element of a list has P
@@ -140,9 +139,9 @@ not-listed : (s : Sheet) (section k at x : ℕ) → times s section k at x ≡ 0
 unfolding lists times
 not-listed s section k at x e = any-howMany (λ i. eqb (entry s section k at i) x) (number s section k at) ∙ ap (λ (n : ℕ). not (eqb n 0)) e
 
-module _ (s : Sheet) (a : AcceptedSheet s) (above : level s ≡ 0 → ⊥) (st : State) (h : sound s st ≡ true) where
+module _ (s : Sheet) (a : AcceptedSheet s) (few : count s objects ≤ stateObjects) (st : State) (h : sound s st ≡ true) where
   small : (o : ℕ) → o < count s objects → o < stateObjects
-  small o l = omega (arith, few-objects s a above)
+  small o l = omega (arith, few)
 
   -- every entry is a track of the sheet
   pub tracks-exist : (i : ℕ) → i < length (listedTracks s st) → getD (listedTracks s st) i 0 < count s tracks
@@ -154,7 +153,7 @@ module _ (s : Sheet) (a : AcceptedSheet s) (above : level s ≡ 0 → ⊥) (st :
       of-object : (o : ℕ) → o < stateObjects → Each (λ (e : Entry). e .track < count s tracks) (cond (active st o) (objectEntries s o) [])
       of-object o k =
           (elim (active st o) as (λ b. active st o ≡ b → Each (λ (e : Entry). e .track < count s tracks) (cond (active st o) (objectEntries s o) [])) [
-            | true ↦ λ e. rw e (object-each s a o (active-top s a above st h o k e .0))
+            | true ↦ λ e. rw e (object-each s a o (active-top s a few st h o k e .0))
             | false ↦ λ e. rw e tt
           ]) refl
 
@@ -174,7 +173,7 @@ module _ (s : Sheet) (a : AcceptedSheet s) (above : level s ≡ 0 → ⊥) (st :
   heard-itself o q l e k =
       (elim (active st q) as (λ b. active st q ≡ b → heard o q ≡ cond (eqb o q) 1 0) [
         | true ↦ λ f.
-            let none : times s objects q childList o ≡ 0 = top-no-child s a o q l (active-top s a above st h q k f .0) (active-top s a above st h o (small o l) e .1) in
+            let none : times s objects q childList o ≡ 0 = top-no-child s a o q l (active-top s a few st h q k f .0) (active-top s a few st h o (small o l) e .1) in
             rw (f, none, add-zero, swapped q o)
         | false ↦ λ f. rw (f, ne-eqb o q (λ z. true≢false (sym e ∙ ap (active st) z ∙ f)))
       ]) refl
@@ -205,7 +204,7 @@ module _ (s : Sheet) (a : AcceptedSheet s) (above : level s ≡ 0 → ⊥) (st :
             rw (x, sym z, f, one, ne-eqb r o (λ y. true≢false (sym f ∙ ap (active st) y ∙ e)))
         | false ↦ λ x.
             (elim (active st q) as (λ b. active st q ≡ b → heard o q ≡ cond (eqb r q) 1 0) [
-              | true ↦ λ y. rw (x, y, ne-eqb q o (λ z. true≢false (sym y ∙ ap (active st) z ∙ e)), elsewhere o r q l m (active-top s a above st h q k y .0) g (eqb-false r q x))
+              | true ↦ λ y. rw (x, y, ne-eqb q o (λ z. true≢false (sym y ∙ ap (active st) z ∙ e)), elsewhere o r q l m (active-top s a few st h q k y .0) g (eqb-false r q x))
               | false ↦ λ y. rw (x, y)
             ]) refl
       ]) refl
@@ -238,4 +237,4 @@ module _ (s : Sheet) (a : AcceptedSheet s) (above : level s ≡ 0 → ⊥) (st :
   pub one-sounds : (l : ℕ) → l < count s objects → leader s l ≡ true → whollyIncluded s (st .programme) l ≡ true → howMany (λ i. sounds s st (member s l i)) (members s l) ≡ 1
   one-sounds l m e w =
       howMany-eq (λ i. sounds s st (member s l i)) (λ i. active st (member s l i)) (members s l) (λ i k. top-sounds (member s l i) (member-index s a l i m k) (member-top s a l i m e k))
-      ∙ (unfold activeMembers in group-active s a above st h l m e w)
+      ∙ (unfold activeMembers in group-active s a few st h l m e w)

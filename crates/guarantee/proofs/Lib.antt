@@ -1,3 +1,4 @@
+pub mod OpenLaws
 pub mod StartLaws
 pub mod SoundLaws
 pub mod RunLaws

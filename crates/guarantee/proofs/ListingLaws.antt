@@ -10,7 +10,7 @@ use lib.Dec.{eqb}
 use lib.ListN.{length, length-append}
 use borrow.Author.Tests.{ltb-true, ltb-false, eqb-true, eq-eqb}
 use Rattle.sheet.specs.Words.{Sheet}
-use Rattle.sheet.specs.Layout.{level, count, field, number, entry}
+use Rattle.sheet.specs.Layout.{count, field, number, entry}
 use Rattle.sheet.specs.Fields.{programmes, contents, objects, contentList, contentObject, trackList, childList}
 use Rattle.profile.specs.Counting.{any, howMany, sum, concatBelow}
 use Rattle.profile.specs.Relations.{hasPack, hasChildren, top, leader, complement, member, members, leaderOf, lone, includes, included, whollyIncluded, size, share, countedTracks, channels, trackAt}
@@ -24,7 +24,7 @@ use Rattle.listener.specs.State.{stateObjects, setting, active}
 use Rattle.granted.specs.Granted.{inWholeGroup}
 use Rattle.listener.specs.Sound.{activeMembers, soundActivity, sound}
 use Rattle.listener.specs.Listing.{ownEntries, objectEntries, entries}
-use Rattle.guarantee.proofs.SoundLaws.{few-objects, sound-programme, sound-object, included-parts, rest-parts}
+use Rattle.guarantee.proofs.SoundLaws.{sound-programme, sound-object, included-parts, rest-parts}
 use Rattle.guarantee.proofs.ValueLaws.{resting-parts}
 
 -- how long a list is that an active object gives
@@ -81,6 +81,10 @@ part-count true true = omega arith
 part-count true false = omega arith
 part-count false c = omega arith
 
+none : (b : Bool) {n : ℕ} → cond (b && false) 1 0 ≤ n
+none true = zero-le
+none false = zero-le
+
 -- an object whose leader is u is among the members of u, where u is a leader
 among-members : (s : Sheet) (st : State) (u o : ℕ) → leader s u ≡ true
     → cond (active st o && eqb (leaderOf s o) u) 1 0 ≤ sum (λ i. cond (eqb (member s u i) o) (cond (active st o) 1 0) 0) (members s u)
@@ -94,10 +98,6 @@ among-members s st u o e =
           le-trans (part-count (active st o) (eqb (leaderOf s o) u)) (rw at-it at (sum-one f (members s u) (w .0) (w .1)))
       | false ↦ λ q. rw q (none (active st o))
     ]) refl
-  where
-    none : (b : Bool) {n : ℕ} → cond (b && false) 1 0 ≤ n
-    none true = zero-le
-    none false = zero-le
 
 -- where u is no leader, it alone has itself for a leader
 only-itself : (s : Sheet) (st : State) (u o : ℕ) → leader s u ≡ false → cond (active st o && eqb (leaderOf s o) u) 1 0 ≤ cond (eqb u o) 1 0
@@ -113,10 +113,6 @@ only-itself s st u o e =
     small-count : (b : Bool) → cond b 1 0 ≤ 1
     small-count true = omega arith
     small-count false = omega arith
-
-    none : (b : Bool) {n : ℕ} → cond (b && false) 1 0 ≤ n
-    none true = zero-le
-    none false = zero-le
 
 -- a member is no larger than the largest of its group
 member-share : (s : Sheet) (o : ℕ) → leader s (leaderOf s o) ≡ true → size s o ≤ share s (leaderOf s o)
@@ -142,7 +138,7 @@ lone-share s o t e =
           | false ↦ λ c. c
         ]) refl
 
-module _ (s : Sheet) (a : AcceptedSheet s) (above : level s ≡ 0 → ⊥) (st : State) (h : sound s st ≡ true) where
+module _ (s : Sheet) (a : AcceptedSheet s) (few : count s objects ≤ stateObjects) (st : State) (h : sound s st ≡ true) where
   abbrev p : ℕ
   p = st .programme
 
@@ -169,14 +165,14 @@ module _ (s : Sheet) (a : AcceptedSheet s) (above : level s ≡ 0 → ⊥) (st :
       ]) refl
 
   small : (o : ℕ) → o < count s objects → o < stateObjects
-  small o l = omega (arith, few-objects s a above)
+  small o l = omega arith
 
   -- the listing is as long as the active objects are large
   pub listing-length : length (entries s st) ≡ sum (λ o. cond (active st o) (size s o) 0) (count s objects)
   unfolding entries
   listing-length =
       length-concat (λ o. cond (active st o) (objectEntries s o) []) stateObjects
-      ∙ sum-more (λ o. length (cond (active st o) (objectEntries s o) [])) (count s objects) stateObjects (few-objects s a above)
+      ∙ sum-more (λ o. length (cond (active st o) (objectEntries s o) [])) (count s objects) stateObjects (few)
       (λ o g k. when-length (active st o) (objectEntries s o) ∙ rw (inactive-past o g k))
       ∙ sum-eq (λ o. length (cond (active st o) (objectEntries s o) [])) (λ o. cond (active st o) (size s o) 0) (count s objects)
       (λ o l. when-length (active st o) (objectEntries s o) ∙ ap (λ (n : ℕ). cond (active st o) n 0) (object-length s a o l))

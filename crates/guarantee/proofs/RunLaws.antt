@@ -6,18 +6,16 @@ use mathlib.Core.List.{List, [], _∷_}
 use native.Mathlib.Omega.{arith}
 use lib.IntN.{ℤ}
 use lib.ListN.{length, length-set}
-use borrow.Author.Tests.{leb-false, not-false, ne-eqb, lt-ltb}
+use borrow.Author.Tests.{leb-false, not-false, lt-ltb}
 use Rattle.sheet.specs.Words.{Sheet}
-use Rattle.sheet.specs.Layout.{level, count}
+use Rattle.sheet.specs.Layout.{count}
 use Rattle.sheet.specs.Fields.{programmes, objects}
 use Rattle.values.specs.declared.Gain.{Gain}
 use Rattle.values.specs.declared.Sort.{Sort}
 use Rattle.values.specs.declared.Sort.the-variants.{Gains, Offsets}
 use Rattle.values.specs.Signed.{signedOf}
 use Rattle.values.specs.Gain.{gainOf}
-use Rattle.profile.specs.declared.Verdict.the-variants.{Accepted}
 use Rattle.profile.specs.Relations.{includes}
-use Rattle.profile.specs.Verdict.{verdict}
 use Rattle.profile.specs.AcceptedSheet.{AcceptedSheet}
 use Rattle.profile.proofs.BoolLaws.{or-true}
 use Rattle.profile.proofs.ListLaws.{length-tabulate}
@@ -35,12 +33,7 @@ use Rattle.granted.specs.Fitting.{gainFits, offsetFits, soundGain, soundOffset}
 use Rattle.listener.specs.Sound.{sound}
 use Rattle.listener.specs.Calls.{Ground, answerBy, replyBy, opens, notOpen, notSound, notIncluded, noProgramme, notInGroup, noRange, outsideRange, opened, programmeAnswer, chosenProgramme, objectAnswer, movedSetting, moved, chosenObject, valueAnswer, withSetting, withGain, withOffset, gainSet, offsetSet}
 use Rattle.guarantee.specs.Run.{Call, programme, object, gain, offset, reply, run, after, chosenBy, chosen, lastChosen}
-use Rattle.guarantee.proofs.SoundLaws.{few-objects, start-sound, sound-programme, sound-object, included-parts, stored-sound, moved-sound}
-
--- a sheet accepted above level 0 opens
-pub opens-accepted : (s : Sheet) → verdict s ≡ Accepted → (level s ≡ 0 → ⊥) → opens s ≡ true
-unfolding opens
-opens-accepted s e h = rw (e, ne-eqb (level s) 0 h)
+use Rattle.guarantee.proofs.SoundLaws.{start-sound, sound-programme, sound-object, included-parts, stored-sound, moved-sound}
 
 -- an answer is done where no ground holds
 done-ground : (g : Ground) (gs : List Ground) → answerBy (g ∷ gs) ≡ Done → (g .holds ≡ false) × (answerBy gs ≡ Done)
@@ -82,7 +75,7 @@ pub record Kept (s : Sheet) (st : State) (p : ℕ) : Type 0 where
   pub at : st .programme ≡ p
   pub good : sound s st ≡ true
 
-module _ (s : Sheet) (a : AcceptedSheet s) (above : level s ≡ 0 → ⊥) (can-open : opens s ≡ true) where
+module _ (s : Sheet) (a : AcceptedSheet s) (few : count s objects ≤ stateObjects) (can-open : opens s ≡ true) where
   -- on a sound state 25 and 26 do not come
   pub passes : (st : State) (gs : List Ground) → sound s st ≡ true → answerBy (notOpen s ∷ notSound s st ∷ gs) ≡ answerBy gs
   unfolding answerBy notOpen notSound
@@ -93,7 +86,7 @@ module _ (s : Sheet) (a : AcceptedSheet s) (above : level s ≡ 0 → ⊥) (can-
 
   start-kept : (p : ℕ) → p < count s programmes → Kept s (started s p) p
   unfolding started
-  start-kept p l = record { long = length-tabulate (startSetting s p) stateObjects; at = refl; good = start-sound s a above p l }
+  start-kept p l = record { long = length-tabulate (startSetting s p) stateObjects; at = refl; good = start-sound s a few p l }
 
   pub opened-kept : Kept s (opened s .state) 0
   unfolding opened answerBy notOpen
@@ -135,20 +128,20 @@ module _ (s : Sheet) (a : AcceptedSheet s) (above : level s ≡ 0 → ⊥) (can-
       handed-back (λ x. Kept s x p) (objectAnswer s st o) st (moved s st o) k
       (λ e.
       let d = object-done st o (k .good) e in
-      record { long = length-tabulate (movedSetting s st o) stateObjects; at = k .at; good = moved-sound s a above st o (k .good) (d .0) (d .1) })
+      record { long = length-tabulate (movedSetting s st o) stateObjects; at = k .at; good = moved-sound s a few st o (k .good) (d .0) (d .1) })
 
   -- a stored setting that is as active as before, with a sound gain and offset
   stored-kept : (st : State) (p o : ℕ) (x : Setting) → Kept s st p → includes s (st .programme) o ≡ true → x .active ≡ setting st o .active
       → soundGain s (st .programme) o (x .gain) ≡ true → soundOffset s (st .programme) o (x .offset) ≡ true → Kept s (withSetting st o x) p
   unfolding withSetting
   stored-kept st p o x k i e g z =
-      let l : o < stateObjects = omega (arith, included-top s a (st .programme) o (sound-programme s st (k .good)) i .0, few-objects s a above) in
+      let l : o < stateObjects = omega (arith, included-top s a (st .programme) o (sound-programme s st (k .good)) i .0, few) in
       record { long = rw (lt-ltb o stateObjects l) (length-set (st .objects) o x) ∙ k .long; at = k .at; good = stored-sound s st o x (k .long) l e (k .good) i g z }
 
   old-parts : (st : State) (p o : ℕ) → Kept s st p → includes s (st .programme) o ≡ true
       → (soundGain s (st .programme) o (setting st o .gain) ≡ true) × (soundOffset s (st .programme) o (setting st o .offset) ≡ true)
   old-parts st p o k i =
-      let l : o < stateObjects = omega (arith, included-top s a (st .programme) o (sound-programme s st (k .good)) i .0, few-objects s a above) in
+      let l : o < stateObjects = omega (arith, included-top s a (st .programme) o (sound-programme s st (k .good)) i .0, few) in
       let parts = included-parts s st o i (sound-object s st (k .good) o l) in
       (parts .1, parts .2)
 

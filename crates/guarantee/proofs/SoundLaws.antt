@@ -10,7 +10,7 @@ use lib.ListN.{length}
 use lib.Seq.{getD-set-same, getD-set-other}
 use borrow.Author.Tests.{ltb-true, lt-ltb, eqb-true, eqb-false, eq-eqb, ne-eqb}
 use Rattle.sheet.specs.Words.{Sheet}
-use Rattle.sheet.specs.Layout.{level, count, number, entry}
+use Rattle.sheet.specs.Layout.{count, number, entry}
 use Rattle.sheet.specs.Fields.{programmes, objects, complementList}
 use Rattle.values.specs.declared.Gain.{Gain}
 use Rattle.values.specs.declared.Sort.the-variants.{Gains, Offsets}
@@ -18,7 +18,6 @@ use Rattle.values.specs.Signed.{signedOf}
 use Rattle.values.specs.Gain.{gainOf, atMost}
 use Rattle.values.proofs.Order.{leZ-refl, leZ-antisym, atMost-refl, atMost-antisym}
 use Rattle.profile.specs.Counting.{howMany, every, tabulate}
-use Rattle.profile.specs.Limits.{limit, limits, objectsLimit}
 use Rattle.profile.specs.Relations.{leader, member, members, leaderOf, includes, whollyIncluded}
 use Rattle.profile.specs.AcceptedSheet.{AcceptedSheet}
 use Rattle.profile.proofs.BoolLaws.{and-both, or-true}
@@ -99,18 +98,8 @@ module _ (s : Sheet) (st : State) where
   unfolding sound
   all-sound l h = rw (lt-ltb _ _ l) (every-all (soundAt s st) stateObjects h)
 
--- the limits of levels 1 and 2 on objects fit a state
-level-objects : (n : ℕ) → n ≤ 2 → (n ≡ 0 → ⊥) → limit n objectsLimit ≤ stateObjects
-unfolding limit limits
-level-objects zero h e = absurd (e refl)
-level-objects (suc zero) h e = omega arith
-level-objects (suc (suc zero)) h e = omega arith
-level-objects (suc (suc (suc n))) h e = absurd (omega arith)
-
-module _ (s : Sheet) (a : AcceptedSheet s) (above : level s ≡ 0 → ⊥) where
-  pub few-objects : count s objects ≤ stateObjects
-  few-objects = omega (arith, a .objects-most above, level-objects (level s) (a .level-most) above)
-
+-- what a programme starts an object with
+module _ (s : Sheet) where
   -- the group of an object in a wholly included group
   pub whole-parts : (p o : ℕ) → inWholeGroup s p o ≡ true → (leader s (leaderOf s o) ≡ true) × (whollyIncluded s p (leaderOf s o) ≡ true)
   unfolding inWholeGroup
@@ -137,36 +126,6 @@ module _ (s : Sheet) (a : AcceptedSheet s) (above : level s ≡ 0 → ⊥) where
   unfolding startsActive
   leader-starts p l h = rw h (or-true (not (inWholeGroup s p l)))
 
-  follower-waits : (p l i : ℕ) → l < count s objects → leader s l ≡ true → whollyIncluded s p l ≡ true → i < number s objects l complementList
-      → startsActive s p (entry s objects l complementList i) ≡ false
-  unfolding startsActive inWholeGroup
-  follower-waits p l i m h w k = rw (complement-leader s a l i m k, h, w, a .complement-follows l i m k)
-
-  member-starts : (p l i : ℕ) → l < count s objects → whollyIncluded s p l ≡ true → i < members s l
-      → active (started s p) (member s l i) ≡ startsActive s p (member s l i)
-  member-starts p l i m w k = start-active p (member s l i) (omega (arith, member-index s a l i m k, few-objects)) (whole-member s a p l i w k)
-
-  -- of a wholly included group the leader alone is active
-  start-group : (p l : ℕ) → l < count s objects → leader s l ≡ true → whollyIncluded s p l ≡ true → activeMembers s (started s p) l ≡ 1
-  unfolding activeMembers members
-  start-group p l m h w =
-      howMany-first (λ i. active (started s p) (member s l i)) (number s objects l complementList)
-      (member-starts p l 0 m w (omega arith) ∙ ap (startsActive s p) (member-zero s l) ∙ leader-starts p l h)
-      (λ i k. member-starts p l (suc i) m w (omega arith) ∙ ap (startsActive s p) (member-suc s l i) ∙ follower-waits p l i m h w k)
-
-  start-activity : (p o : ℕ) → p < count s programmes → o < stateObjects → includes s p o ≡ true → soundActivity s (started s p) o ≡ true
-  unfolding soundActivity started
-  start-activity p o l k e =
-      (elim (inWholeGroup s p o) as (λ b. inWholeGroup s p o ≡ b → soundActivity s (started s p) o ≡ true) [
-        | true ↦ λ w.
-            let parts = whole-parts p o w in
-            rw w (eq-eqb (activeMembers s (started s p) (leaderOf s o)) 1 (start-group p (leaderOf s o) (leader-index s a o (included-top s a p o l e .0)) (parts .0) (parts .1)))
-        | false ↦ λ w. rw w (start-active p o k e ∙ alone w)
-      ]) refl
-    where
-      alone : inWholeGroup s p o ≡ false → startsActive s p o ≡ true
-      alone w = unfold startsActive in rw w
-
   start-gain : (p o : ℕ) → soundGain s p o (gainOf (startValue s p o Gains)) ≡ true
   unfolding soundGain
   start-gain p o = rw (gain-itself (gainOf (startValue s p o Gains)))
@@ -175,16 +134,47 @@ module _ (s : Sheet) (a : AcceptedSheet s) (above : level s ≡ 0 → ⊥) where
   unfolding soundOffset
   start-offset p o = rw (offset-itself (signedOf (startValue s p o Offsets)))
 
+module _ (s : Sheet) (a : AcceptedSheet s) (few : count s objects ≤ stateObjects) where
+  follower-waits : (p l i : ℕ) → l < count s objects → leader s l ≡ true → whollyIncluded s p l ≡ true → i < number s objects l complementList
+      → startsActive s p (entry s objects l complementList i) ≡ false
+  unfolding startsActive inWholeGroup
+  follower-waits p l i m h w k = rw (complement-leader s a l i m k, h, w, a .complement-follows l i m k)
+
+  member-starts : (p l i : ℕ) → l < count s objects → whollyIncluded s p l ≡ true → i < members s l
+      → active (started s p) (member s l i) ≡ startsActive s p (member s l i)
+  member-starts p l i m w k = start-active s p (member s l i) (omega (arith, member-index s a l i m k, few)) (whole-member s a p l i w k)
+
+  -- of a wholly included group the leader alone is active
+  start-group : (p l : ℕ) → l < count s objects → leader s l ≡ true → whollyIncluded s p l ≡ true → activeMembers s (started s p) l ≡ 1
+  unfolding activeMembers members
+  start-group p l m h w =
+      howMany-first (λ i. active (started s p) (member s l i)) (number s objects l complementList)
+      (member-starts p l 0 m w (omega arith) ∙ ap (startsActive s p) (member-zero s l) ∙ leader-starts s p l h)
+      (λ i k. member-starts p l (suc i) m w (omega arith) ∙ ap (startsActive s p) (member-suc s l i) ∙ follower-waits p l i m h w k)
+
+  start-activity : (p o : ℕ) → p < count s programmes → o < stateObjects → includes s p o ≡ true → soundActivity s (started s p) o ≡ true
+  unfolding soundActivity started
+  start-activity p o l k e =
+      (elim (inWholeGroup s p o) as (λ b. inWholeGroup s p o ≡ b → soundActivity s (started s p) o ≡ true) [
+        | true ↦ λ w.
+            let parts = whole-parts s p o w in
+            rw w (eq-eqb (activeMembers s (started s p) (leaderOf s o)) 1 (start-group p (leaderOf s o) (leader-index s a o (included-top s a p o l e .0)) (parts .0) (parts .1)))
+        | false ↦ λ w. rw w (start-active s p o k e ∙ alone w)
+      ]) refl
+    where
+      alone : inWholeGroup s p o ≡ false → startsActive s p o ≡ true
+      alone w = unfold startsActive in rw w
+
   start-sound-at : (p o : ℕ) → p < count s programmes → o < stateObjects → soundAt s (started s p) o ≡ true
   unfolding started
   start-sound-at p o l k =
       (elim (includes s p o) as (λ b. includes s p o ≡ b → soundAt s (started s p) o ≡ true) [
         | true ↦ λ e.
-            let x = start-at p o k ∙ start-included p o e in
+            let x = start-at s p o k ∙ start-included s p o e in
             included-sound s (started s p) o e (start-activity p o l k e)
-            (ap (λ (y : Setting). soundGain s p o (y .gain)) x ∙ start-gain p o)
-            (ap (λ (y : Setting). soundOffset s p o (y .offset)) x ∙ start-offset p o)
-        | false ↦ λ e. rest-sound s (started s p) o e (ap isResting (start-at p o k ∙ start-rest p o e) ∙ rests)
+            (ap (λ (y : Setting). soundGain s p o (y .gain)) x ∙ start-gain s p o)
+            (ap (λ (y : Setting). soundOffset s p o (y .offset)) x ∙ start-offset s p o)
+        | false ↦ λ e. rest-sound s (started s p) o e (ap isResting (start-at s p o k ∙ start-rest s p o e) ∙ rests)
       ]) refl
     where
       rests : isResting resting ≡ true
@@ -268,7 +258,7 @@ unfolding soundActivity inWholeGroup
 lone-parts s x o e = rw e
 
 -- choosing an object of a wholly included group
-module _ (s : Sheet) (a : AcceptedSheet s) (above : level s ≡ 0 → ⊥) (st : State) (o : ℕ) (h : sound s st ≡ true) (e : includes s (st .programme) o ≡ true)
+module _ (s : Sheet) (a : AcceptedSheet s) (few : count s objects ≤ stateObjects) (st : State) (o : ℕ) (h : sound s st ≡ true) (e : includes s (st .programme) o ≡ true)
     (w : inWholeGroup s (st .programme) o ≡ true) where
   abbrev moved : State
   moved = record { programme = st .programme; objects = tabulate (movedSetting s st o) stateObjects }
@@ -283,10 +273,10 @@ module _ (s : Sheet) (a : AcceptedSheet s) (above : level s ≡ 0 → ⊥) (st :
   l-index = leader-index s a o o-index
 
   l-leader : leader s l ≡ true
-  l-leader = whole-parts s a above (st .programme) o w .0
+  l-leader = whole-parts s (st .programme) o w .0
 
   l-whole : whollyIncluded s (st .programme) l ≡ true
-  l-whole = whole-parts s a above (st .programme) o w .1
+  l-whole = whole-parts s (st .programme) o w .1
 
   -- in the group the object alone is active; elsewhere nothing moves
   moved-here : (q : ℕ) → q < stateObjects → leaderOf s q ≡ l → setting moved q ≡ record { active = eqb q o; gain = setting st q .gain; offset = setting st q .offset }
@@ -306,7 +296,7 @@ module _ (s : Sheet) (a : AcceptedSheet s) (above : level s ≡ 0 → ⊥) (st :
   moved-active q k f = ap (λ (x : Setting). x .active) (moved-here q k f)
 
   member-small : (g i : ℕ) → g < count s objects → i < members s g → member s g i < stateObjects
-  member-small g i m k = omega (arith, member-index s a g i m k, few-objects s a above)
+  member-small g i m k = omega (arith, member-index s a g i m k, few)
 
   moved-group : activeMembers s moved l ≡ 1
   unfolding activeMembers

@@ -1,5 +1,5 @@
 -- Gains and offsets of a sound state: legal, in the granted range, at their start value where none is granted. Assumes nothing.
-use Prim.Native.Nat.{ℕ, _<_}
+use Prim.Native.Nat.{ℕ, _<_, _≤_}
 use mathlib.Core.Path.{_≡_, refl, sym, ap, _∙_}
 use mathlib.Core.Bool.{true, false, true≢false, not, _&&_}
 use mathlib.Core.Logic.{_⊎_, inl, inr, ⊎-elim}
@@ -7,7 +7,7 @@ use native.Mathlib.Omega.{arith}
 use lib.IntN.{pos}
 use borrow.Author.Tests.{not-true}
 use Rattle.sheet.specs.Words.{Sheet}
-use Rattle.sheet.specs.Layout.{level, count}
+use Rattle.sheet.specs.Layout.{count}
 use Rattle.sheet.specs.Fields.{programmes, objects}
 use Rattle.values.specs.declared.Gain.the-variants.{Tenths}
 use Rattle.values.specs.declared.Sort.{Sort}
@@ -22,13 +22,13 @@ use Rattle.profile.proofs.BoolLaws.{and-both, or-either}
 use Rattle.listener.specs.declared.Setting.{Setting}
 use Rattle.listener.specs.declared.State.{State}
 use Rattle.granted.specs.Fitting.{sameGain, sameOffset}
-use Rattle.listener.specs.State.{setting, isResting}
+use Rattle.listener.specs.State.{stateObjects, setting, isResting}
 use Rattle.granted.specs.Granted.{startValue, grantedMinimum, grantedMaximum, grants}
 use Rattle.listener.specs.Programme.{startSetting}
 use Rattle.granted.specs.Fitting.{gainFits, offsetFits, soundGain, soundOffset}
 use Rattle.listener.specs.Sound.{soundAt, sound}
 use Rattle.guarantee.proofs.StartLaws.{start-legal, start-within, zero-within}
-use Rattle.guarantee.proofs.SoundLaws.{same-gain, same-offset, included-parts, rest-parts, sound-programme, sound-object, few-objects, start-included, start-rest}
+use Rattle.guarantee.proofs.SoundLaws.{same-gain, same-offset, included-parts, rest-parts, sound-programme, sound-object, start-included, start-rest}
 
 -- "inactive, 0, 0"
 pub resting-parts : (x : Setting) → isResting x ≡ true → (x .active ≡ false) × (x .gain ≡ Tenths (pos 0)) × (x .offset ≡ pos 0)
@@ -38,7 +38,7 @@ resting-parts x e =
     let first = and-both (not (x .active)) (sameGain (x .gain) (Tenths (pos 0))) (both .0) in
     (not-true _ (first .0), same-gain (x .gain) (Tenths (pos 0)) (first .1), same-offset (x .offset) (pos 0) (both .1))
 
-module _ (s : Sheet) (a : AcceptedSheet s) (above : level s ≡ 0 → ⊥) (st : State) (h : sound s st ≡ true) (o : ℕ) (l : o < count s objects) where
+module _ (s : Sheet) (a : AcceptedSheet s) (few : count s objects ≤ stateObjects) (st : State) (h : sound s st ≡ true) (o : ℕ) (l : o < count s objects) where
   abbrev p : ℕ
   p = st .programme
 
@@ -46,7 +46,7 @@ module _ (s : Sheet) (a : AcceptedSheet s) (above : level s ≡ 0 → ⊥) (st :
   p-index = sound-programme s st h
 
   here : soundAt s st o ≡ true
-  here = sound-object s st h o (omega (arith, few-objects s a above))
+  here = sound-object s st h o (omega (arith, few))
 
   -- an object's gain: its start value, or legal in the granted range, or 0 where it is not included
   gain-cases : (setting st o .gain ≡ startSetting s p o .gain) ⊎ ((grants s p o Gains ≡ true) × (gainFits s p o (setting st o .gain) ≡ true))
@@ -54,10 +54,10 @@ module _ (s : Sheet) (a : AcceptedSheet s) (above : level s ≡ 0 → ⊥) (st :
       (elim (includes s p o) as (λ b. includes s p o ≡ b → (setting st o .gain ≡ startSetting s p o .gain) ⊎ ((grants s p o Gains ≡ true) × (gainFits s p o (setting st o .gain) ≡ true))) [
         | true ↦ λ e.
             ⊎-elim
-            (λ q. inl (same-gain (setting st o .gain) (gainOf (startValue s p o Gains)) q ∙ sym (ap (λ (x : Setting). x .gain) (start-included s a above p o e))))
+            (λ q. inl (same-gain (setting st o .gain) (gainOf (startValue s p o Gains)) q ∙ sym (ap (λ (x : Setting). x .gain) (start-included s p o e))))
             (λ q. inr (and-both (grants s p o Gains) (gainFits s p o (setting st o .gain)) q))
             (or-either (sameGain (setting st o .gain) (gainOf (startValue s p o Gains))) (grants s p o Gains && gainFits s p o (setting st o .gain)) (unfold soundGain in included-parts s st o e here .1))
-        | false ↦ λ e. inl (resting-parts (setting st o) (rest-parts s st o e here) .1 ∙ sym (ap (λ (x : Setting). x .gain) (start-rest s a above p o e)))
+        | false ↦ λ e. inl (resting-parts (setting st o) (rest-parts s st o e here) .1 ∙ sym (ap (λ (x : Setting). x .gain) (start-rest s p o e)))
       ]) refl
 
   offset-cases : (setting st o .offset ≡ startSetting s p o .offset) ⊎ ((grants s p o Offsets ≡ true) × (offsetFits s p o (setting st o .offset) ≡ true))
@@ -65,32 +65,32 @@ module _ (s : Sheet) (a : AcceptedSheet s) (above : level s ≡ 0 → ⊥) (st :
       (elim (includes s p o) as (λ b. includes s p o ≡ b → (setting st o .offset ≡ startSetting s p o .offset) ⊎ ((grants s p o Offsets ≡ true) × (offsetFits s p o (setting st o .offset) ≡ true))) [
         | true ↦ λ e.
             ⊎-elim
-            (λ q. inl (same-offset (setting st o .offset) (signedOf (startValue s p o Offsets)) q ∙ sym (ap (λ (x : Setting). x .offset) (start-included s a above p o e))))
+            (λ q. inl (same-offset (setting st o .offset) (signedOf (startValue s p o Offsets)) q ∙ sym (ap (λ (x : Setting). x .offset) (start-included s p o e))))
             (λ q. inr (and-both (grants s p o Offsets) (offsetFits s p o (setting st o .offset)) q))
             (or-either (sameOffset (setting st o .offset) (signedOf (startValue s p o Offsets))) (grants s p o Offsets && offsetFits s p o (setting st o .offset)) (unfold soundOffset in included-parts s st o e here .2))
-        | false ↦ λ e. inl (resting-parts (setting st o) (rest-parts s st o e here) .2 ∙ sym (ap (λ (x : Setting). x .offset) (start-rest s a above p o e)))
+        | false ↦ λ e. inl (resting-parts (setting st o) (rest-parts s st o e here) .2 ∙ sym (ap (λ (x : Setting). x .offset) (start-rest s p o e)))
       ]) refl
 
   -- the start setting itself, included or not
   start-gain-legal : legalGain (startSetting s p o .gain) ≡ true
   start-gain-legal =
       (elim (includes s p o) as (λ b. includes s p o ≡ b → legalGain (startSetting s p o .gain) ≡ true) [
-        | true ↦ λ e. rw (start-included s a above p o e) (unfold isValue in start-legal s a p o Gains p-index l)
-        | false ↦ λ e. rw (start-rest s a above p o e) (unfold legalGain in refl)
+        | true ↦ λ e. rw (start-included s p o e) (unfold isValue in start-legal s a p o Gains p-index l)
+        | false ↦ λ e. rw (start-rest s p o e) (unfold legalGain in refl)
       ]) refl
 
   start-offset-legal : legalOffset (startSetting s p o .offset) ≡ true
   start-offset-legal =
       (elim (includes s p o) as (λ b. includes s p o ≡ b → legalOffset (startSetting s p o .offset) ≡ true) [
-        | true ↦ λ e. rw (start-included s a above p o e) (unfold isValue in start-legal s a p o Offsets p-index l)
-        | false ↦ λ e. rw (start-rest s a above p o e) (unfold legalOffset offsetInRange in refl)
+        | true ↦ λ e. rw (start-included s p o e) (unfold isValue in start-legal s a p o Offsets p-index l)
+        | false ↦ λ e. rw (start-rest s p o e) (unfold legalOffset offsetInRange in refl)
       ]) refl
 
   start-gain-within : isAbsent (grantedMinimum s p o Gains) ≡ false → gainInRange (gainOf (grantedMinimum s p o Gains)) (startSetting s p o .gain) (gainOf (grantedMaximum s p o Gains)) ≡ true
   start-gain-within g =
       (elim (includes s p o) as (λ b. includes s p o ≡ b → gainInRange (gainOf (grantedMinimum s p o Gains)) (startSetting s p o .gain) (gainOf (grantedMaximum s p o Gains)) ≡ true) [
-        | true ↦ λ e. rw (start-included s a above p o e) (unfold inRange in start-within s a p o Gains p-index l g)
-        | false ↦ λ e. rw (start-rest s a above p o e) (zero-gain (zero-within s a p o Gains p-index l g))
+        | true ↦ λ e. rw (start-included s p o e) (unfold inRange in start-within s a p o Gains p-index l g)
+        | false ↦ λ e. rw (start-rest s p o e) (zero-gain (zero-within s a p o Gains p-index l g))
       ]) refl
     where
       zero-gain : inRange Gains (grantedMinimum s p o Gains) 0 (grantedMaximum s p o Gains) ≡ true → gainInRange (gainOf (grantedMinimum s p o Gains)) (Tenths (pos 0)) (gainOf (grantedMaximum s p o Gains)) ≡ true
@@ -102,8 +102,8 @@ module _ (s : Sheet) (a : AcceptedSheet s) (above : level s ≡ 0 → ⊥) (st :
   start-offset-within : isAbsent (grantedMinimum s p o Offsets) ≡ false → offsetInRange (signedOf (grantedMinimum s p o Offsets)) (startSetting s p o .offset) (signedOf (grantedMaximum s p o Offsets)) ≡ true
   start-offset-within g =
       (elim (includes s p o) as (λ b. includes s p o ≡ b → offsetInRange (signedOf (grantedMinimum s p o Offsets)) (startSetting s p o .offset) (signedOf (grantedMaximum s p o Offsets)) ≡ true) [
-        | true ↦ λ e. rw (start-included s a above p o e) (unfold inRange in start-within s a p o Offsets p-index l g)
-        | false ↦ λ e. rw (start-rest s a above p o e) (zero-offset (zero-within s a p o Offsets p-index l g))
+        | true ↦ λ e. rw (start-included s p o e) (unfold inRange in start-within s a p o Offsets p-index l g)
+        | false ↦ λ e. rw (start-rest s p o e) (zero-offset (zero-within s a p o Offsets p-index l g))
       ]) refl
     where
       zero-offset : inRange Offsets (grantedMinimum s p o Offsets) 0 (grantedMaximum s p o Offsets) ≡ true → offsetInRange (signedOf (grantedMinimum s p o Offsets)) (pos 0) (signedOf (grantedMaximum s p o Offsets)) ≡ true

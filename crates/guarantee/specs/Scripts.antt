@@ -167,7 +167,7 @@ listing before answer entries words =
 
 -- a call of each of the four, refused for many reasons at once: the first in checking order is given
 abbrev anyCalls : List Call
-anyCalls = programme 9 ∷ object 84 ∷ gain 84 (up 500) ∷ offset 65535 (pos 32767) ∷ []
+anyCalls = programme 9 ∷ object stateObjects ∷ gain stateObjects (up 500) ∷ offset 65535 (pos 32767) ∷ []
 
 -- refusals 27 to 31 in the play's programme 0; 28 before 29 and 30, 30 before 31; no offset range where there is a gain range
 abbrev refusedSteps : List Step
@@ -175,7 +175,7 @@ refusedSteps =
     programme 2 gives 27
     ∷ programme 65535 gives 27
     ∷ object 6 gives 28
-    ∷ object 84 gives 28
+    ∷ object stateObjects gives 28
     ∷ object 65535 gives 28
     ∷ object 0 gives 29
     ∷ object 4 gives 29

@@ -1,11 +1,12 @@
--- The listing on bytes and the one on 28 words that it is made from. Assumes nothing.
-use Prim.Native.Nat.{ℕ, _+_, _*_, _<_, _≤_}
+-- The listing on bytes and the one on words that it is made from. Assumes nothing.
+use Prim.Native.Nat.{ℕ, zero, suc, _+_, _*_, _-_, _<_, _≤_}
 use mathlib.Core.Path.{_≡_, refl, sym, ap, _∙_}
-use mathlib.Core.Bool.{true, false, cond}
+use mathlib.Core.Bool.{Bool, true, false, cond}
 use mathlib.Core.List.{List, [], _∷_, _++_}
 use native.Mathlib.Omega.{arith}
+use native.Mathlib.Nat.{le-trans}
 use borrow.Author.Tests.{lt-ltb, le-ltb}
-use lib.Dec.{ltb, leb}
+use lib.Dec.{eqb, ltb, leb}
 use lib.IntN.{pos}
 use lib.ListN.{length, take, drop, replicate, length-map}
 use lib.Seq.{sets, length-sets, sets-eq, take-append-seam}
@@ -13,7 +14,7 @@ use mir.Syntax.{w32}
 use mir.Val.{toZ, ofZ}
 use mir.Facts.{toZ-ofZ}
 use Rattle.sheet.specs.Words.{Sheet}
-use Rattle.sheet.specs.Layout.{count}
+use Rattle.sheet.specs.Layout.{level, count}
 use Rattle.sheet.specs.Fields.{programmes}
 use Rattle.listener.specs.declared.Answer.{Answer}
 use Rattle.listener.specs.declared.Answer.the-variants.{Done, Refused}
@@ -25,8 +26,10 @@ use Rattle.listener.specs.Programme.{started}
 use Rattle.listener.specs.Calls.{opens, answerBy, notOpen, noProgramme}
 use Rattle.listener.specs.Listing.{Entry, entries, listedTracks, tooFewWords, listedBy, bufferedBy}
 use Rattle.listener.specs.StartListing.{startTracks, startNumber, startAnswer, startListed, startBuffered}
+use Rattle.guarantee.specs.Guarantee.{mostEntries}
 use Rattle.guarantee.proofs.MostLaws.{start-most}
 use Rattle.host.specs.HostListing.{bytesOf, tooFewBytes, hostAnswer, negated, answerNumber, hostListed, hostBuffered}
+use Rattle.host.specs.steps.Words.{hostWords}
 
 -- an answer is not both
 done-refused : (r : Refusal) (x : Answer) → x ≡ Done → x ≡ Refused r → ⊥
@@ -35,41 +38,48 @@ done-refused r x e f = let y : _≡_ {A = ℕ} 0 1 = cc in absurd (omega arith)
 same-refusal : (q r : Refusal) → _≡_ {A = Answer} (Refused q) (Refused r) → q ≡ r
 same-refusal q r e = cc
 
+-- they are the most entries at level 1, and at level 2
+words-most : (l : ℕ) → mostEntries l ≤ hostWords
+unfolding mostEntries
+words-most l = either (eqb l 1) _ _ hostWords (omega arith) (omega arith)
+  where
+    either : (b : Bool) (x y n : ℕ) → x ≤ n → y ≤ n → cond b x y ≤ n
+    either true x y n l m = l
+    either false x y n l m = m
+
 module _ (s : Sheet) (p bytes : ℕ) where
   -- the answer that is left where the sheet opens and has the programme
   abbrev room : Answer
   room = cond (ltb bytes (2 * startNumber s p)) (Refused TooFewWords) Done
 
-  -- 28 words are always enough: the two answers differ in 32 only
+  -- the words are always enough: the two answers differ in 32 only
   both : (P : Answer → Answer → Type 0) → ((r : Refusal) → P (Refused r) (Refused r))
-      → (startNumber s p ≤ 28 → P Done room) → P (startAnswer s p 28) (hostAnswer s p bytes)
+      → (startNumber s p ≤ hostWords → P Done room) → P (startAnswer s p hostWords) (hostAnswer s p bytes)
   unfolding startAnswer hostAnswer answerBy notOpen noProgramme tooFewWords tooFewBytes startNumber
   both P refused done =
-      (elim (opens s) as (λ b. opens s ≡ b → P (startAnswer s p 28) (hostAnswer s p bytes)) [
-        | true ↦ λ e. (elim (leb (count s programmes) p) as (λ b. leb (count s programmes) p ≡ b → P (startAnswer s p 28) (hostAnswer s p bytes)) [
+      (elim (opens s) as (λ b. opens s ≡ b → P (startAnswer s p hostWords) (hostAnswer s p bytes)) [
+        | true ↦ λ e. (elim (leb (count s programmes) p) as (λ b. leb (count s programmes) p ≡ b → P (startAnswer s p hostWords) (hostAnswer s p bytes)) [
           | true ↦ λ f. rw (e, f) (refused NoProgramme)
-          | false ↦ λ f. let most : length (entries s (started s p)) ≤ 28 = start-most s p e f in rw (e, f, le-ltb 28 (length (entries s (started s p))) most) (done most)
+          | false ↦ λ f. let most : length (entries s (started s p)) ≤ hostWords = le-trans (start-most s p e f) (words-most (level s)) in rw (e, f, le-ltb hostWords (length (entries s (started s p))) most) (done most)
         ]) refl
         | false ↦ λ e. rw e (refused NotAccepted)
       ]) refl
 
-  pub refused-both : (r : Refusal) → startAnswer s p 28 ≡ Refused r → hostAnswer s p bytes ≡ Refused r
+  pub refused-both : (r : Refusal) → startAnswer s p hostWords ≡ Refused r → hostAnswer s p bytes ≡ Refused r
   refused-both r = both (λ x y. x ≡ Refused r → y ≡ Refused r) (λ q e. e) (λ most e. absurd (done-refused r Done refl e))
 
-  pub done-most : startAnswer s p 28 ≡ Done → startNumber s p ≤ 28
-  done-most = both (λ x y. x ≡ Done → startNumber s p ≤ 28) (λ q e. absurd (done-refused q (Refused q) e refl)) (λ most e. most)
+  pub done-most : startAnswer s p hostWords ≡ Done → startNumber s p ≤ hostWords
+  done-most = both (λ x y. x ≡ Done → startNumber s p ≤ hostWords) (λ q e. absurd (done-refused q (Refused q) e refl)) (λ most e. most)
 
-  pub done-room : startAnswer s p 28 ≡ Done → hostAnswer s p bytes ≡ cond (ltb bytes (2 * startNumber s p)) (Refused TooFewWords) Done
+  pub done-room : startAnswer s p hostWords ≡ Done → hostAnswer s p bytes ≡ cond (ltb bytes (2 * startNumber s p)) (Refused TooFewWords) Done
   done-room = both (λ x y. x ≡ Done → y ≡ room) (λ q e. absurd (done-refused q (Refused q) e refl)) (λ most e. refl)
 
 -- a listing told done
 listed-answer : (n : ℕ) (x : Answer) → listedBy n x .answer ≡ x
-unfolding listedBy
 listed-answer n Done = refl
 listed-answer n (Refused r) = refl
 
 listed-number : (n : ℕ) (x : Answer) → x ≡ Done → listedBy n x .entries ≡ n
-unfolding listedBy
 listed-number n x e = rw e refl
 
 buffer-done : (buffer written : List ℕ) (x : Answer) → x ≡ Done → bufferedBy buffer written x ≡ sets buffer 0 written
@@ -80,35 +90,35 @@ track-number : (s : Sheet) (p : ℕ) → length (startTracks s p) ≡ startNumbe
 unfolding startNumber startTracks listedTracks
 track-number s p = length-map (entries s (started s p)) (λ (e : Entry). e .track)
 
--- what a listing into 28 words that is done tells
+-- what a listing into the words that is done tells
 pub record Told (s : Sheet) (p n : ℕ) (words : List ℕ) : Type 0 where
-  pub answer : startAnswer s p 28 ≡ Done
+  pub answer : startAnswer s p hostWords ≡ Done
   pub number : n ≡ startNumber s p
-  pub most : n ≤ 28
-  pub long : length words ≡ 28
+  pub most : n ≤ hostWords
+  pub long : length words ≡ hostWords
   pub written : take n words ≡ startTracks s p
 
 taken : (ws ts : List ℕ) (n : ℕ) → length ts ≡ n → n ≤ length ws → take n (sets ws 0 ts) ≡ ts
 taken ws ts n e l = rw (← e, sets-eq ts ws 0 (omega arith)) (take-append-seam ts (drop (0 + length ts) ws))
 
-module _ (s : Sheet) (p : ℕ) (r : Listing) (words : List ℕ) (e : r ≡ startListed s p 28) (f : words ≡ startBuffered s p (replicate 28 0)) where
-  told-answer : r .answer ≡ startAnswer s p 28
+module _ (s : Sheet) (p : ℕ) (r : Listing) (words : List ℕ) (e : r ≡ startListed s p hostWords) (f : words ≡ startBuffered s p (replicate hostWords 0)) where
+  told-answer : r .answer ≡ startAnswer s p hostWords
   unfolding startListed
-  told-answer = ap (λ (x : Listing). x .answer) e ∙ listed-answer (startNumber s p) (startAnswer s p 28)
+  told-answer = ap (λ (x : Listing). x .answer) e ∙ listed-answer (startNumber s p) (startAnswer s p hostWords)
 
   pub told : r .answer ≡ Done → Told s p (r .entries) words
   unfolding startListed startBuffered
   told d =
-      let a : startAnswer s p 28 ≡ Done = sym told-answer ∙ d in
-      let n : r .entries ≡ startNumber s p = ap (λ (x : Listing). x .entries) e ∙ listed-number (startNumber s p) (startAnswer s p 28) a in
-      let w : words ≡ sets (replicate 28 0) 0 (startTracks s p) = f ∙ buffer-done (replicate 28 0) (startTracks s p) (startAnswer s p 28) a in
-      let m : startNumber s p ≤ 28 = done-most s p 0 a in
+      let a : startAnswer s p hostWords ≡ Done = sym told-answer ∙ d in
+      let n : r .entries ≡ startNumber s p = ap (λ (x : Listing). x .entries) e ∙ listed-number (startNumber s p) (startAnswer s p hostWords) a in
+      let w : words ≡ sets (replicate hostWords 0) 0 (startTracks s p) = f ∙ buffer-done (replicate hostWords 0) (startTracks s p) (startAnswer s p hostWords) a in
+      let m : startNumber s p ≤ hostWords = done-most s p 0 a in
       record {
         answer = a;
         number = n;
         most = omega (arith, n, m);
-        long = ap length w ∙ length-sets (replicate 28 0) 0 (startTracks s p);
-        written = rw (w, n) (taken (replicate 28 0) (startTracks s p) (startNumber s p) (track-number s p) m);
+        long = ap length w ∙ length-sets (replicate hostWords 0) 0 (startTracks s p);
+        written = rw (w, n) (taken (replicate hostWords 0) (startTracks s p) (startNumber s p) (track-number s p) m);
       }
 
   -- a refusal is handed on
@@ -117,7 +127,7 @@ module _ (s : Sheet) (p : ℕ) (r : Listing) (words : List ℕ) (e : r ≡ start
   unfolding hostListed hostBuffered answerNumber bufferedBy
   told-refused q buffer d = let a = refused-both s p (length buffer) q (sym told-answer ∙ d) in (rw a refl, rw a refl)
 
-module _ (s : Sheet) (p n : ℕ) (words buffer : List ℕ) (t : Told s p n words) where
+module _ {s : Sheet} {p n : ℕ} {words : List ℕ} (t : Told s p n words) (buffer : List ℕ) where
   pub few-bytes : length buffer < 2 * n → (negated (refusalNumber TooFewWords) ≡ hostListed s p (length buffer)) × (buffer ≡ hostBuffered s p buffer)
   unfolding hostListed hostBuffered answerNumber bufferedBy
   few-bytes l =
@@ -130,18 +140,34 @@ module _ (s : Sheet) (p n : ℕ) (words buffer : List ℕ) (t : Told s p n words
       let h : ltb (length buffer) (2 * startNumber s p) ≡ false = rw (← t .number) (le-ltb _ _ l) in
       (rw (done-room s p (length buffer) (t .answer), h) (ap pos (t .number)), rw (done-room s p (length buffer) (t .answer), h) (ap (λ (x : List ℕ). sets buffer 0 (bytesOf x)) (t .written)))
 
--- a refusal's code is handed on as it is
-pub code-kept : (q : Refusal) → toZ w32 (ofZ w32 (negated (refusalNumber q))) ≡ negated (refusalNumber q)
+-- a refusal's number is small, and no nought
+pub number-small : (q : Refusal) → (1 ≤ refusalNumber q) × (refusalNumber q ≤ 32)
+number-small NotAccepted = (omega arith, omega arith)
+number-small Unsound = (omega arith, omega arith)
+number-small NoProgramme = (omega arith, omega arith)
+number-small NotIncluded = (omega arith, omega arith)
+number-small NotInGroup = (omega arith, omega arith)
+number-small NoRange = (omega arith, omega arith)
+number-small Outside = (omega arith, omega arith)
+number-small TooFewWords = (omega arith, omega arith)
+
+-- such a number negated is handed on as it is, and is the one below it with every bit turned over
+negated-kept : (n : ℕ) → 1 ≤ n → n ≤ 32 → toZ w32 (ofZ w32 (negated n)) ≡ negated n
 unfolding negated
-code-kept NotAccepted = refl
-code-kept Unsound = refl
-code-kept NoProgramme = refl
-code-kept NotIncluded = refl
-code-kept NotInGroup = refl
-code-kept NoRange = refl
-code-kept Outside = refl
-code-kept TooFewWords = refl
+negated-kept zero l m = absurd (omega arith)
+negated-kept (suc n) l m = toZ-ofZ {w = w32} (record { sfits = omega arith })
+
+turned : (n : ℕ) → 1 ≤ n → n ≤ 32 → toZ w32 (4294967295 - (n - 1)) ≡ negated n
+unfolding negated
+turned zero l m = absurd (omega arith)
+turned (suc n) l m = let e : 4294967295 - (suc n - 1) ≡ 4294967296 - suc n = omega arith in rw e (negated-kept (suc n) l m)
+
+pub code-kept : (q : Refusal) → toZ w32 (ofZ w32 (negated (refusalNumber q))) ≡ negated (refusalNumber q)
+code-kept q = negated-kept (refusalNumber q) (number-small q .0) (number-small q .1)
+
+pub code-turned : (q : Refusal) → toZ w32 (4294967295 - (refusalNumber q - 1)) ≡ negated (refusalNumber q)
+code-turned q = turned (refusalNumber q) (number-small q .0) (number-small q .1)
 
 -- and a small number
-pub number-kept : (n : ℕ) → n ≤ 28 → toZ w32 (ofZ w32 (pos n)) ≡ pos n
+pub number-kept : (n : ℕ) → n ≤ hostWords → toZ w32 (ofZ w32 (pos n)) ≡ pos n
 number-kept n l = toZ-ofZ {w = w32} (record { sfits = omega arith })

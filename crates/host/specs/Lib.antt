@@ -1,1 +1,2 @@
 pub mod HostListing
+pub mod steps

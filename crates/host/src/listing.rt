@@ -1,6 +1,8 @@
 // Host players call "the listing of a programme's start, directly on byte slices and numbers".
 use listener::Answer;
+use listener::MOST_ENTRIES;
 use listener::Refusal;
+use listener::refusals::refusal_number;
 use listener::writing::list_start;
 ghost use Prim.Native.Nat.{_%_, _*_, _/_, _≤_};
 ghost use lib.ListN.{length};
@@ -10,20 +12,11 @@ ghost use Rattle.host.specs.HostListing.{bytesOf, hostBuffered, hostList
 ghost use Rattle.listener.specs.State.{refusalNumber};
 ghost use Rattle.sheet.specs.Words.{sheetOf};
 
-// "the refusal's number negated"
+// "the refusal's number negated"; `!n` is -(n + 1).
 fn refusal_code(refusal: Refusal) -> i32
     ensures { λ r. ⌜ r ≡ negated (refusalNumber refusal) ⌝ }
 {
-    match refusal {
-        Refusal::NotAccepted => -25,
-        Refusal::Unsound => -26,
-        Refusal::NoProgramme => -27,
-        Refusal::NotIncluded => -28,
-        Refusal::NotInGroup => -29,
-        Refusal::NoRange => -30,
-        Refusal::Outside => -31,
-        Refusal::TooFewWords => -32,
-    }
+    !((refusal_number(refusal) - 1) as i32)
 }
 
 // A word's high byte.
@@ -61,7 +54,7 @@ fn write_words(words: &[u16], buffer: &mut [u8])
 pub extern "C" fn sheet_start_listing(sheet: &[u8], programme: u32, buffer: &mut [u8]) -> i32
     ensures { λ r. ⌜ (r ≡ hostListed (sheetOf (now (sheet .entry))) programme (length (now (buffer .entry)))) × (now (buffer .exit) ≡ hostBuffered (sheetOf (now (sheet .entry))) programme (now (buffer .entry))) ⌝ }
 {
-    let mut words: [u16; 28] = [0; 28];
+    let mut words: [u16; MOST_ENTRIES] = [0; MOST_ENTRIES];
     let listing = list_start(sheet, programme, &mut words);
     let answer = listing.answer;
     match answer {

@@ -20,8 +20,8 @@ module _ {X : Type 0} where
     pub inside : i ≤ n
     pub right : (k : ℕ) → k < i → getD t k d ≡ f k
 
-  pub filled-more : (n : ℕ) (f : ℕ → X) (d : X) (t : List X) (i : ℕ) (v : X) → Filled n f d t i → i < n → v ≡ f i → Filled n f d (set t i v) (i + 1)
-  filled-more n f d t i v h l e =
+  pub filled-more : {n : ℕ} {f : ℕ → X} {d : X} {t : List X} {i : ℕ} (v : X) → Filled n f d t i → i < n → v ≡ f i → Filled n f d (set t i v) (i + 1)
+  filled-more {n} {f} {d} {t} {i} v h l e =
       let b : i < length t = omega (arith, h .long) in
       record {
         long = length-set t i v ∙ h .long;
@@ -31,8 +31,8 @@ module _ {X : Type 0} where
             (getD-set-same t i v d b ∙ e);
       }
 
-  pub filled-all : (n : ℕ) (f : ℕ → X) (d : X) (t : List X) (i : ℕ) → Filled n f d t i → n ≤ i → t ≡ tabulate f n
-  filled-all n f d t i h l =
+  pub filled-all : {n : ℕ} {f : ℕ → X} {d : X} {t : List X} {i : ℕ} → Filled n f d t i → n ≤ i → t ≡ tabulate f n
+  filled-all {n} {f} {d} {t} {i} h l =
       ext-getD d t (tabulate f n) (h .long ∙ sym (length-tabulate f n))
       (λ k m. h .right k (omega (arith, h .long, h .inside)) ∙ sym (getD-tabulate f n k d (omega (arith, h .long))))
 
@@ -48,16 +48,16 @@ module _ {X : Type 0} where
         rest = λ k l m. getD-replicate n k e d m;
       }
 
-  pub begun-more : (n : ℕ) (f : ℕ → X) (d e : X) (t : List X) (i : ℕ) (v : X) → Begun n f d e t i → i < n → v ≡ f i → Begun n f d e (set t i v) (i + 1)
-  begun-more n f d e t i v h l q =
+  pub begun-more : {n : ℕ} {f : ℕ → X} {d e : X} {t : List X} {i : ℕ} (v : X) → Begun n f d e t i → i < n → v ≡ f i → Begun n f d e (set t i v) (i + 1)
+  begun-more {n} {f} {d} {e} {t} {i} v h l q =
       record {
-        filled = filled-more n f d t i v (h .filled) l q;
+        filled = filled-more v (h .filled) l q;
         rest = λ k m b. getD-set-other t i k v d (λ z. let y : k ≡ i = z in absurd (omega arith)) ∙ h .rest k (omega arith) b;
       }
 
   -- a loop that ends before the list does, where the others were right before it
-  pub begun-all : (n : ℕ) (f : ℕ → X) (d e : X) (t : List X) (i : ℕ) → Begun n f d e t i → ((k : ℕ) → i ≤ k → k < n → e ≡ f k) → t ≡ tabulate f n
-  begun-all n f d e t i h g =
+  pub begun-all : {n : ℕ} {f : ℕ → X} {d e : X} {t : List X} {i : ℕ} → Begun n f d e t i → ((k : ℕ) → i ≤ k → k < n → e ≡ f k) → t ≡ tabulate f n
+  begun-all {n} {f} {d} {e} {t} {i} h g =
       ext-getD d t (tabulate f n) (h .filled .long ∙ sym (length-tabulate f n)) (λ k m. at k (omega (arith, h .filled .long)) ∙ sym (getD-tabulate f n k d (omega (arith, h .filled .long))))
     where
       at : (k : ℕ) → k < n → getD t k d ≡ f k

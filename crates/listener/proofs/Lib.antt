@@ -2,6 +2,6 @@ mod ListedLaws
 mod RestLaws
 mod FillLaws
 mod StepLaws
-mod BehindLaws
+mod AnswerLaws
 pub mod WrittenLaws
 mod StartedLaws

@@ -1,10 +1,12 @@
 -- The listing's entries and the tracks that the code writes are the same. Assumes nothing.
-use Prim.Native.Nat.{ℕ, zero, suc, _+_}
+use Prim.Native.Nat.{ℕ, zero, suc, _+_, _<_, _≤_}
 use mathlib.Core.Path.{_≡_, refl, sym, ap, ap₂, _∙_}
 use mathlib.Core.Bool.{Bool, true, false, cond}
 use mathlib.Core.List.{List, [], _∷_, _++_, map}
+use borrow.Author.Tests.{lt-ltb, le-ltb}
 use lib.Dec.{ltb}
 use lib.ListN.{length, length-append, length-map}
+use lib.Seq.{sets}
 use Rattle.sheet.specs.Words.{Sheet}
 use Rattle.sheet.specs.Layout.{number, entry}
 use Rattle.sheet.specs.Fields.{objects, trackList, childList}
@@ -19,10 +21,11 @@ use Rattle.listener.specs.declared.Answer.the-variants.{Done, Refused}
 use Rattle.listener.specs.declared.Refusal.{Refusal}
 use Rattle.listener.specs.declared.Refusal.the-variants.{TooFewWords}
 use Rattle.listener.specs.State.{stateObjects, active}
-use Rattle.listener.specs.Calls.{answerBy, notOpen, notSound, behind}
+use Rattle.listener.specs.Calls.{answerBy, notOpen, notSound}
 use Rattle.listener.specs.Listing.{Entry, ownEntries, objectEntries, entries, listedTracks, tooFewWords, listingAnswer, listedBy, listed, bufferedBy, buffered}
 use Rattle.listener.specs.steps.Tracks.{ownTracks, childTracks, objectTracks, tracksWhen, stateTracks, objectNumber, numberWhen, stateNumber}
-use Rattle.listener.proofs.BehindLaws.{behind-done, behind-refused}
+use Rattle.listener.specs.steps.Answers.{whenSound}
+use Rattle.listener.proofs.AnswerLaws.{next, when-first}
 
 abbrev track : Entry → ℕ
 track e = e .track
@@ -84,40 +87,29 @@ pub entries-number : (s : Sheet) (st : State) → length (entries s st) ≡ stat
 unfolding listedTracks
 entries-number s st = sym (length-map (entries s st) track) ∙ ap length (listed-tracks s st) ∙ state-number s st
 
--- the answer in the steps of the code
-module _ (s : Sheet) (st : State) (words : ℕ) where
-  listing-steps : listingAnswer s st words ≡ behind s st (cond (ltb words (length (entries s st))) (Refused TooFewWords) Done)
-  unfolding listingAnswer answerBy notOpen notSound tooFewWords behind
-  listing-steps = refl
+module _ (s : Sheet) (st : State) (buffer : List ℕ) where
+  -- what an answer gives
+  listed-by : (a : Answer) → listingAnswer s st (length buffer) ≡ a → (listedBy (length (entries s st)) a ≡ listed s st (length buffer)) × (bufferedBy buffer (listedTracks s st) a ≡ buffered s st buffer)
+  unfolding listed buffered
+  listed-by a e = (rw e, rw e)
 
-  enough-words : ltb words (length (entries s st)) ≡ false → listingAnswer s st words ≡ behind s st Done
-  unfolding listingAnswer answerBy notOpen notSound tooFewWords behind
-  enough-words e = rw e
+  -- the answer in the steps of the code
+  answer-steps : (a : Answer) → whenSound s st Done ≡ a → listingAnswer s st (length buffer) ≡ next a (cond (ltb (length buffer) (stateNumber s st)) (Refused TooFewWords) Done)
+  unfolding listingAnswer answerBy notOpen notSound tooFewWords whenSound
+  answer-steps a e = rw (← entries-number s st) (when-first s st (cond (ltb (length buffer) (length (entries s st))) (Refused TooFewWords) Done) a e)
 
--- a refused listing
-refused-listed : (s : Sheet) (st : State) (buffer : List ℕ) (r : Refusal) → listingAnswer s st (length buffer) ≡ Refused r
-    → (listedBy 0 (Refused r) ≡ listed s st (length buffer)) × (buffer ≡ buffered s st buffer)
-unfolding listed buffered listedBy bufferedBy
-refused-listed s st buffer r e = (rw e, rw e)
+  -- 25 or 26
+  pub stop-listed : (r : Refusal) → whenSound s st Done ≡ Refused r → (listedBy 0 (Refused r) ≡ listed s st (length buffer)) × (buffer ≡ buffered s st buffer)
+  unfolding bufferedBy
+  stop-listed r e = listed-by (Refused r) (answer-steps (Refused r) e)
 
--- by 25 or 26
-pub stop-listed : (s : Sheet) (st : State) (buffer : List ℕ) (r : Refusal) → behind s st Done ≡ Refused r
-    → (listedBy 0 (Refused r) ≡ listed s st (length buffer)) × (buffer ≡ buffered s st buffer)
-stop-listed s st buffer r e =
-    refused-listed s st buffer r
-    (listing-steps s st (length buffer) ∙ behind-refused s st (cond (ltb (length buffer) (length (entries s st))) (Refused TooFewWords) Done) r e)
+  -- too few words
+  pub few-listed : whenSound s st Done ≡ Done → length buffer < stateNumber s st → (listedBy 0 (Refused TooFewWords) ≡ listed s st (length buffer)) × (buffer ≡ buffered s st buffer)
+  unfolding bufferedBy
+  few-listed e l = listed-by (Refused TooFewWords) (answer-steps Done e ∙ rw (lt-ltb _ _ l) refl)
 
--- too few words
-pub few-listed : (s : Sheet) (st : State) (buffer : List ℕ) → behind s st Done ≡ Done → ltb (length buffer) (length (entries s st)) ≡ true
-    → (listedBy 0 (Refused TooFewWords) ≡ listed s st (length buffer)) × (buffer ≡ buffered s st buffer)
-few-listed s st buffer e f =
-    refused-listed s st buffer TooFewWords
-    (listing-steps s st (length buffer)
-    ∙ behind-done s st (cond (ltb (length buffer) (length (entries s st))) (Refused TooFewWords) Done) e
-    ∙ ap (λ (b : Bool). cond b (Refused TooFewWords) Done) f)
-
--- enough words, and the answer
-pub answer-listed : (s : Sheet) (st : State) (buffer : List ℕ) (x : Answer) → ltb (length buffer) (length (entries s st)) ≡ false → behind s st Done ≡ x
-    → (listedBy (length (entries s st)) x ≡ listed s st (length buffer)) × (bufferedBy buffer (listedTracks s st) x ≡ buffered s st buffer)
-unfolding listed buffered
-answer-listed s st buffer x e f = (rw (enough-words s st (length buffer) e, f), rw (enough-words s st (length buffer) e, f))
+  -- enough words
+  pub done-listed : whenSound s st Done ≡ Done → stateNumber s st ≤ length buffer
+      → (_≡_ (record { answer = Done; entries = stateNumber s st }) (listed s st (length buffer))) × (sets buffer 0 (stateTracks s st) ≡ buffered s st buffer)
+  unfolding bufferedBy
+  done-listed e l = rw (← entries-number s st, ← listed-tracks s st) (listed-by Done (answer-steps Done e ∙ rw (le-ltb _ _ l) refl))

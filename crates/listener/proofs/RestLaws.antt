@@ -60,6 +60,11 @@ module _ (f : ℕ → Bool) (n : ℕ) where
   every-parts (suc m) l =
       ⊎-elim (λ q. at-end (suc m) q) (λ r. past-end m (le-of-suc-le-suc r) (every-parts m (le-of-suc-le-suc r))) (eq-or-lt-of-le l)
 
+-- before the numbers from n on are tested, the test is what it was
+pub from-none : (f : ℕ → Bool) (n : ℕ) (b : Bool) → b ≡ (b && every (λ o. ltb o n || f o) n)
+from-none f n true = sym (from-below f n)
+from-none f n false = refl
+
 module _ (s : Sheet) (st : State) (n : ℕ) where
   rest-at : (k : ℕ) → (n ≤ k → includes s (st .programme) k ≡ false) → (ltb k n || soundAt s st k) ≡ (ltb k n || isResting (setting st k))
   unfolding soundAt
@@ -97,7 +102,7 @@ pub rest-start : (s : Sheet) (p k : ℕ) → includes s p k ≡ false → restin
 unfolding startSetting
 rest-start s p k e = rw e refl
 
--- one more than the highest number below 84 that f gives so far: what is higher is none of them
+-- one more than the highest number below `stateObjects` that f gives so far: what is higher is none of them
 abbrev pub Past : (ℕ → ℕ) → ℕ → ℕ → Type 0
 Past f i past = (o : ℕ) → past ≤ o → o < stateObjects → any (λ k. eqb (f k) o) i ≡ false
 

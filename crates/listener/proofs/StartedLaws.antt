@@ -20,23 +20,23 @@ use Rattle.listener.proofs.ListedLaws.{listed-tracks, entries-number}
 
 module _ (s : Sheet) (p : ℕ) (buffer : List ℕ) where
   pub start-closed : opens s ≡ false → (listedBy 0 (Refused NotAccepted) ≡ startListed s p (length buffer)) × (buffer ≡ startBuffered s p buffer)
-  unfolding startListed startBuffered startAnswer answerBy notOpen listedBy bufferedBy
+  unfolding startListed startBuffered startAnswer answerBy notOpen bufferedBy
   start-closed e = (rw e, rw e)
 
   module _ (e : opens s ≡ true) where
     pub start-missing : leb (count s programmes) p ≡ true
         → (listedBy 0 (Refused NoProgramme) ≡ startListed s p (length buffer)) × (buffer ≡ startBuffered s p buffer)
-    unfolding startListed startBuffered startAnswer answerBy notOpen noProgramme listedBy bufferedBy
+    unfolding startListed startBuffered startAnswer answerBy notOpen noProgramme bufferedBy
     start-missing f = (rw (e, f), rw (e, f))
 
     module _ (f : leb (count s programmes) p ≡ false) where
       pub start-few : ltb (length buffer) (stateNumber s (started s p)) ≡ true
           → (listedBy 0 (Refused TooFewWords) ≡ startListed s p (length buffer)) × (buffer ≡ startBuffered s p buffer)
-      unfolding startListed startBuffered startAnswer answerBy notOpen noProgramme tooFewWords listedBy bufferedBy
+      unfolding startListed startBuffered startAnswer answerBy notOpen noProgramme tooFewWords bufferedBy
       start-few g = (rw (e, f, entries-number s (started s p), g), rw (e, f, entries-number s (started s p), g))
 
       pub start-done : ltb (length buffer) (stateNumber s (started s p)) ≡ false
           → (_≡_ (record { answer = Done; entries = stateNumber s (started s p) }) (startListed s p (length buffer)))
           × (sets buffer 0 (stateTracks s (started s p)) ≡ startBuffered s p buffer)
-      unfolding startListed startBuffered startAnswer startTracks startNumber answerBy notOpen noProgramme tooFewWords listedBy bufferedBy
+      unfolding startListed startBuffered startAnswer startTracks startNumber answerBy notOpen noProgramme tooFewWords bufferedBy
       start-done g = (rw (e, f, entries-number s (started s p), g), rw (e, f, entries-number s (started s p), g, listed-tracks s (started s p)))

@@ -39,7 +39,7 @@ pub written-none : (f : ℕ → List ℕ) (n from : ℕ) (out : List ℕ) → Wr
 unfolding concatBelow
 written-none f n from out = record { inside = omega arith; place = omega arith; right = refl }
 
-module _ (f : ℕ → List ℕ) (n from : ℕ) (out₀ out : List ℕ) (pos k : ℕ) (w : Written f n from out₀ out pos k) where
+module _ {f : ℕ → List ℕ} {n from : ℕ} {out₀ out : List ℕ} {pos k : ℕ} (w : Written f n from out₀ out pos k) where
   pub written-more : (out′ : List ℕ) (pos′ : ℕ) → k < n → pos′ ≡ pos + length (f k) → out′ ≡ sets out pos (f k) → Written f n from out₀ out′ pos′ (k + 1)
   written-more out′ pos′ l p q =
       record {

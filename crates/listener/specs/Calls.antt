@@ -126,20 +126,3 @@ gainSet s st o g = replyBy (valueAnswer s st o Gains (gainFits s (st .programme)
 
 unfoldable pub offsetSet : Sheet → State → ℕ → ℤ → Reply
 offsetSet s st o z = replyBy (valueAnswer s st o Offsets (offsetFits s (st .programme) o z)) st (withOffset st o z)
-
--- The same answers in the steps of the code: 25 and 26, then the rest
-unfoldable pub behind : Sheet → State → Answer → Answer
-behind s st rest = cond (not (opens s)) (Refused NotAccepted) (cond (not (sound s st)) (Refused Unsound) rest)
-
--- 27
-unfoldable pub numberAnswer : Sheet → ℕ → Answer
-numberAnswer s p = cond (leb (count s programmes) p) (Refused NoProgramme) Done
-
--- 28 and 29 at a programme
-unfoldable pub groupAnswer : Sheet → ℕ → ℕ → Answer
-groupAnswer s p o = cond (not (includes s p o)) (Refused NotIncluded) (cond (not (inWholeGroup s p o)) (Refused NotInGroup) Done)
-
--- 28, 30 and 31
-unfoldable pub rangeAnswer : Sheet → ℕ → ℕ → Sort → Bool → Answer
-rangeAnswer s p o t fits =
-    cond (not (includes s p o)) (Refused NotIncluded) (cond (not (grants s p o t)) (Refused NoRange) (cond (not fits) (Refused Outside) Done))

@@ -55,7 +55,7 @@ unfoldable pub listingAnswer : Sheet → State → ℕ → Answer
 listingAnswer s st words = answerBy (notOpen s ∷ notSound s st ∷ tooFewWords s st words ∷ [])
 
 -- the number of entries, none where it is refused
-unfoldable pub listedBy : ℕ → Answer → Listing
+abbrev pub listedBy : ℕ → Answer → Listing
 listedBy n Done = record { answer = Done; entries = n }
 listedBy n (Refused r) = record { answer = Refused r; entries = 0 }
 

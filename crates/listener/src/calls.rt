@@ -2,6 +2,7 @@
 use crate::Answer;
 use crate::Refusal;
 use crate::Reply;
+use crate::STATE_OBJECTS;
 use crate::Setting;
 use crate::State;
 use crate::programme::started;
@@ -23,10 +24,12 @@ use tables::reads::leader_by;
 use values::Gain;
 use values::Sort;
 ghost use mathlib.Core.Path.{_≡_};
-ghost use Rattle.listener.specs.Calls.{behind, chosenObject, chosenProgramme, gainSet, groupAnswer, moved, numberAnswer, offsetSet, opened, opens, rangeAnswer};
+ghost use Rattle.listener.specs.Calls.{chosenObject, chosenProgramme, gainSet, moved, offsetSet, opened, opens};
 ghost use Rattle.granted.specs.Fitting.{gainFits, offsetFits};
+ghost use Rattle.granted.specs.Granted.{grants};
 ghost use Rattle.listener.specs.State.{restingState};
-ghost use Rattle.listener.specs.steps.Settings.{isDone, movedFrom, rangeAnswerBy};
+ghost use Rattle.listener.specs.steps.Answers.{groupAnswer, isDone, numberAnswer, rangeAnswer, whenSound};
+ghost use Rattle.listener.specs.steps.Settings.{movedFrom};
 ghost use Rattle.profile.specs.Relations.{includes};
 ghost use Rattle.sheet.specs.Words.{sheetOf};
 ghost use Rattle.tables.specs.steps.Right.{Leaders};
@@ -50,7 +53,7 @@ fn resting_state() -> State
     let x = resting();
     State {
         programme: 0,
-        objects: [x; 84],
+        objects: [x; STATE_OBJECTS],
     }
 }
 
@@ -72,8 +75,8 @@ pub fn open(s: &[u8]) -> Reply
 }
 
 // 25 and 26, then whatever else the call can meet.
-pub fn behind(s: &[u8], state: State, rest: Answer) -> Answer
-    ensures { λ r. ⌜ r ≡ behind (sheetOf (now (s .entry))) state rest ⌝ }
+pub fn when_sound(s: &[u8], state: State, rest: Answer) -> Answer
+    ensures { λ r. ⌜ r ≡ whenSound (sheetOf (now (s .entry))) state rest ⌝ }
 {
     if opens(s) {
         if sound(s, state) {
@@ -114,7 +117,7 @@ fn group_answer(s: &[u8], p: u16, o: u16) -> Answer
 
 // 28, 30 and 31.
 fn range_answer(s: &[u8], p: u16, o: u16, granted: bool, fits: bool) -> Answer
-    ensures { λ r. ⌜ r ≡ rangeAnswerBy (includes (sheetOf (now (s .entry))) p o) granted fits ⌝ }
+    ensures { λ r. ⌜ r ≡ rangeAnswer (includes (sheetOf (now (s .entry))) p o) granted fits ⌝ }
 {
     if includes(s, p, o) {
         if granted {
@@ -131,27 +134,18 @@ fn range_answer(s: &[u8], p: u16, o: u16, granted: bool, fits: bool) -> Answer
     }
 }
 
-// Whether a value fits is asked only where there is a range.
 fn gain_answer(s: &[u8], p: u16, o: u16, gain: Gain) -> Answer
-    ensures { λ r. ⌜ r ≡ rangeAnswer (sheetOf (now (s .entry))) p o Gains (gainFits (sheetOf (now (s .entry))) p o gain) ⌝ }
+    ensures { λ r. ⌜ r ≡ rangeAnswer (includes (sheetOf (now (s .entry))) p o) (grants (sheetOf (now (s .entry))) p o Gains) (gainFits (sheetOf (now (s .entry))) p o gain) ⌝ }
 {
     let range = granted_range(s, p, o, Sort::Gains);
-    if is_range(range) {
-        range_answer(s, p, o, true, gain_within(range, gain))
-    } else {
-        range_answer(s, p, o, false, false)
-    }
+    range_answer(s, p, o, is_range(range), gain_within(range, gain))
 }
 
 fn offset_answer(s: &[u8], p: u16, o: u16, offset: i16) -> Answer
-    ensures { λ r. ⌜ r ≡ rangeAnswer (sheetOf (now (s .entry))) p o Offsets (offsetFits (sheetOf (now (s .entry))) p o offset) ⌝ }
+    ensures { λ r. ⌜ r ≡ rangeAnswer (includes (sheetOf (now (s .entry))) p o) (grants (sheetOf (now (s .entry))) p o Offsets) (offsetFits (sheetOf (now (s .entry))) p o offset) ⌝ }
 {
     let range = granted_range(s, p, o, Sort::Offsets);
-    if is_range(range) {
-        range_answer(s, p, o, true, offset_within(range, offset))
-    } else {
-        range_answer(s, p, o, false, false)
-    }
+    range_answer(s, p, o, is_range(range), offset_within(range, offset))
 }
 
 // A call that is done gives a new state, a refused one that which it was given.
@@ -164,12 +158,12 @@ fn is_done(answer: Answer) -> bool
     }
 }
 
-// An object choice: 28 and 29 are asked only behind 25 and 26.
+// An object choice: 28 and 29 are asked only after 25 and 26.
 fn object_answer(s: &[u8], state: State, o: u16) -> Answer
-    ensures { λ r. ⌜ r ≡ behind (sheetOf (now (s .entry))) state (groupAnswer (sheetOf (now (s .entry))) (state .programme) o) ⌝ }
+    ensures { λ r. ⌜ r ≡ whenSound (sheetOf (now (s .entry))) state (groupAnswer (sheetOf (now (s .entry))) (state .programme) o) ⌝ }
 {
     let p = state.programme;
-    let first = behind(s, state, Answer::Done);
+    let first = when_sound(s, state, Answer::Done);
     match first {
         Answer::Done => group_answer(s, p, o),
         Answer::Refused(refusal) => Answer::Refused(refusal),
@@ -192,15 +186,17 @@ fn moved_setting(s: &[u8], leaders: &[u16], o: u16, q: u16, x: Setting) -> Setti
     }
 }
 
-fn moved_by(s: &[u8], state: State, leaders: &[u16], o: u16) -> State
-    ensures { λ r. ⌜ (Leaders (sheetOf (now (s .entry))) (now (leaders .entry)) → r ≡ moved (sheetOf (now (s .entry))) state o) ⌝ }
+fn moved(s: &[u8], state: State, o: u16) -> State
+    ensures { λ r. ⌜ r ≡ moved (sheetOf (now (s .entry))) state o ⌝ }
 {
+    let mut leaders: [u16; STATE_OBJECTS] = [0; STATE_OBJECTS];
+    find_leaders(s, &mut leaders);
     let rest = resting();
-    let mut objects = [rest; 84];
+    let mut objects = [rest; STATE_OBJECTS];
     let mut q: usize = 0;
-    while q < 84 {
+    while q < STATE_OBJECTS {
         let x = state.objects[q];
-        objects[q] = moved_setting(s, leaders, o, q as u16, x);
+        objects[q] = moved_setting(s, &leaders, o, q as u16, x);
         q += 1;
     }
     State {
@@ -209,20 +205,12 @@ fn moved_by(s: &[u8], state: State, leaders: &[u16], o: u16) -> State
     }
 }
 
-fn moved(s: &[u8], state: State, o: u16) -> State
-    ensures { λ r. ⌜ r ≡ moved (sheetOf (now (s .entry))) state o ⌝ }
-{
-    let mut leaders: [u16; 84] = [0; 84];
-    find_leaders(s, &mut leaders);
-    moved_by(s, state, &leaders, o)
-}
-
 impl State {
     // Starts a programme.
     pub fn choose_programme(self, s: &[u8], p: u16) -> Reply
         ensures { λ r. ⌜ r ≡ chosenProgramme (sheetOf (now (s .entry))) self p ⌝ }
     {
-        let answer = behind(s, self, number_answer(s, p));
+        let answer = when_sound(s, self, number_answer(s, p));
         match answer {
             Answer::Done => Reply {
                 answer: Answer::Done,
@@ -267,7 +255,7 @@ impl State {
             Answer::Refused(Refusal::NotAccepted)
         };
         let i = o as usize;
-        if is_done(answer) & (i < 84) {
+        if is_done(answer) & (i < STATE_OBJECTS) {
             let x = self.objects[i];
             self.objects[i] = Setting {
                 active: x.active,
@@ -296,7 +284,7 @@ impl State {
             Answer::Refused(Refusal::NotAccepted)
         };
         let i = o as usize;
-        if is_done(answer) & (i < 84) {
+        if is_done(answer) & (i < STATE_OBJECTS) {
             let x = self.objects[i];
             let kept = x.gain;
             self.objects[i] = Setting {

@@ -4,6 +4,7 @@ use values::Gain;
 
 pub mod calls;
 pub mod programme;
+pub mod refusals;
 pub mod settings;
 pub mod sounding;
 pub mod writing;
@@ -15,10 +16,19 @@ pub struct Setting {
     pub offset: i16,
 }
 
+// "for 84 objects active, gain, offset"
+pub const STATE_OBJECTS: usize = 84;
+
+// The lowest number that no object of a state has.
+pub const STATE_END: u16 = STATE_OBJECTS as u16;
+
+// The most entries that a listing has: 28, at level 2.
+pub const MOST_ENTRIES: usize = 28;
+
 // "a programme, and for 84 objects active, gain, offset"
 pub struct State {
     pub programme: u16,
-    pub objects: [Setting; 84],
+    pub objects: [Setting; STATE_OBJECTS],
 }
 
 // The listener's own refusals, 25 to 32 in this order.

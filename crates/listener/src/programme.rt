@@ -1,4 +1,5 @@
 // What choosing a programme gives the state.
+use crate::STATE_OBJECTS;
 use crate::Setting;
 use crate::State;
 use crate::settings::resting;
@@ -10,11 +11,8 @@ use tables::reads::included_by;
 use values::Sort;
 use values::gains::gain_of;
 use values::signed::signed;
-ghost use Prim.Native.Nat.{ℕ, _<_, _≤_};
-ghost use mathlib.Core.Bool.{false};
 ghost use mathlib.Core.Path.{_≡_};
 ghost use Rattle.listener.specs.Programme.{startSetting, started};
-ghost use Rattle.profile.specs.Relations.{includes};
 ghost use Rattle.sheet.specs.Words.{sheetOf};
 ghost use Rattle.tables.specs.steps.Right.{Included, Leaders};
 
@@ -33,31 +31,23 @@ fn start_setting(s: &[u8], p: u16, leaders: &[u16], marks: &[u16], o: u16) -> Se
     }
 }
 
-// The settings of a programme as it starts. Those of numbers that it doesn't include, as all from n on, are at rest.
-fn start_settings(s: &[u8], p: u16, leaders: &[u16], marks: &[u16], n: u16) -> State
-    requires { ⌜ (n ≤ 84) × ((o : ℕ) → n ≤ o → o < 84 → includes (sheetOf (now s)) p o ≡ false) ⌝ }
-    ensures { λ r. ⌜ (Leaders (sheetOf (now (s .entry))) (now (leaders .entry)) → Included (sheetOf (now (s .entry))) p (now (marks .entry)) → r ≡ started (sheetOf (now (s .entry))) p) ⌝ }
+// A programme as it starts. What it doesn't include, as all numbers from n on, is at rest.
+pub fn started(s: &[u8], p: u16) -> State
+    ensures { λ r. ⌜ r ≡ started (sheetOf (now (s .entry))) p ⌝ }
 {
+    let mut leaders: [u16; STATE_OBJECTS] = [0; STATE_OBJECTS];
+    find_leaders(s, &mut leaders);
+    let mut marks: [u16; STATE_OBJECTS] = [0; STATE_OBJECTS];
+    let n = enter_included(s, p, &mut marks);
     let x = resting();
-    let mut objects = [x; 84];
+    let mut objects = [x; STATE_OBJECTS];
     let mut o: u16 = 0;
     while o < n {
-        objects[o as usize] = start_setting(s, p, leaders, marks, o);
+        objects[o as usize] = start_setting(s, p, &leaders, &marks, o);
         o += 1;
     }
     State {
         programme: p,
         objects,
     }
-}
-
-// A programme as it starts.
-pub fn started(s: &[u8], p: u16) -> State
-    ensures { λ r. ⌜ r ≡ started (sheetOf (now (s .entry))) p ⌝ }
-{
-    let mut leaders: [u16; 84] = [0; 84];
-    find_leaders(s, &mut leaders);
-    let mut marks: [u16; 84] = [0; 84];
-    let n = enter_included(s, p, &mut marks);
-    start_settings(s, p, &leaders, &marks, n)
 }

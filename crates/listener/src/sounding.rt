@@ -1,4 +1,6 @@
 // Whether a state is sound for a sheet.
+use crate::STATE_END;
+use crate::STATE_OBJECTS;
 use crate::Setting;
 use crate::State;
 use crate::settings::is_resting;
@@ -22,16 +24,17 @@ ghost use lib.ListN.{length};
 ghost use mathlib.Core.Bool.{false};
 ghost use mathlib.Core.Path.{_≡_};
 ghost use Rattle.listener.specs.Sound.{sound};
+ghost use Rattle.listener.specs.State.{stateObjects};
 ghost use Rattle.listener.specs.steps.Settings.{flaggedSound};
 ghost use Rattle.profile.specs.Relations.{includes};
 ghost use Rattle.sheet.specs.Words.{sheetOf};
 ghost use Rattle.tables.specs.steps.Marks.{Standing};
 ghost use Rattle.tables.specs.steps.Right.{Included, Leaders};
 
-// Writes 1 for the objects that the programme includes, into a table of noughts. Gives one more than the highest number of one below 84,
+// Writes 1 for the objects that the programme includes, into a table of noughts. Gives one more than the highest number of one below `stateObjects`,
 // 0 where there is none.
 pub fn enter_included(s: &[u8], p: u16, marks: &mut [u16]) -> u16
-    ensures { λ r. ⌜ (length (now (marks .exit)) ≡ length (now (marks .entry))) × (r ≤ 84) × ((o : ℕ) → r ≤ o → o < 84 → includes (sheetOf (now (s .entry))) p o ≡ false) × (Standing (λ x. 0) (now (marks .entry)) → Included (sheetOf (now (s .entry))) p (now (marks .exit))) ⌝ }
+    ensures { λ r. ⌜ (length (now (marks .exit)) ≡ length (now (marks .entry))) × (r ≤ stateObjects) × ((o : ℕ) → r ≤ o → o < stateObjects → includes (sheetOf (now (s .entry))) p o ≡ false) × (Standing (λ x. 0) (now (marks .entry)) → Included (sheetOf (now (s .entry))) p (now (marks .exit))) ⌝ }
 {
     let n = number(s, PROGRAMMES, p, CONTENT_LIST);
     let mut past: u16 = 0;
@@ -40,7 +43,7 @@ pub fn enter_included(s: &[u8], p: u16, marks: &mut [u16]) -> u16
         let c = entry(s, PROGRAMMES, p, CONTENT_LIST, i);
         let o = field(s, CONTENTS, c, CONTENT_OBJECT);
         mark_at(marks, o as u32, Mark::Store(1));
-        if (past <= o) & (o < 84) {
+        if (past <= o) & (o < STATE_END) {
             past = o + 1;
         }
         i += 1;
@@ -78,11 +81,11 @@ pub fn sound(s: &[u8], state: State) -> bool
     if count(s, PROGRAMMES) <= p {
         return false;
     }
-    let mut leaders: [u16; 84] = [0; 84];
+    let mut leaders: [u16; STATE_OBJECTS] = [0; STATE_OBJECTS];
     find_leaders(s, &mut leaders);
-    let mut marks: [u16; 84] = [0; 84];
+    let mut marks: [u16; STATE_OBJECTS] = [0; STATE_OBJECTS];
     let n = enter_included(s, p, &mut marks);
-    let mut active: [u16; 84] = [0; 84];
+    let mut active: [u16; STATE_OBJECTS] = [0; STATE_OBJECTS];
     let mut o: u16 = 0;
     while o < n {
         let x = state.objects[o as usize];
@@ -97,7 +100,7 @@ pub fn sound(s: &[u8], state: State) -> bool
         o += 1;
     }
     o = n;
-    while o < 84 {
+    while o < STATE_END {
         let x = state.objects[o as usize];
         good = good & is_resting(x);
         o += 1;

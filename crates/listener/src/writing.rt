@@ -2,9 +2,10 @@
 use crate::Answer;
 use crate::Listing;
 use crate::Refusal;
+use crate::STATE_END;
 use crate::State;
-use crate::calls::behind;
 use crate::calls::opens;
+use crate::calls::when_sound;
 use crate::programme::started;
 use relations::sizes::children_tracks;
 use sheet::fields::CHILD_LIST;
@@ -26,18 +27,15 @@ ghost use Rattle.listener.specs.declared.Answer.the-variants.{Refused};
 ghost use Rattle.listener.specs.steps.Tracks.{childTracks, objectNumber, objectTracks, ownTracks, stateNumber, stateTracks};
 ghost use Rattle.sheet.specs.Words.{sheetOf};
 
-// How many entries an object gives.
-fn object_number(s: &[u8], o: u16) -> u64
-    ensures { λ r. ⌜ (r ≡ objectNumber (sheetOf (now (s .entry))) o) × (r ≤ 4295032830) ⌝ }
-{
-    number(s, OBJECTS, o, TRACK_LIST) as u64 + children_tracks(s, o) as u64
-}
-
-// How many it gives if it is active.
+// How many entries an object gives if it is active: its own tracks and its children's.
 fn number_when(s: &[u8], active: bool, o: u16) -> u64
     ensures { λ r. ⌜ (r ≡ cond active (objectNumber (sheetOf (now (s .entry))) o) 0) × (r ≤ 4295032830) ⌝ }
 {
-    if active { object_number(s, o) } else { 0 }
+    if active {
+        number(s, OBJECTS, o, TRACK_LIST) as u64 + children_tracks(s, o) as u64
+    } else {
+        0
+    }
 }
 
 // How many entries the listing has.
@@ -46,7 +44,7 @@ fn state_number(s: &[u8], state: State) -> u64
 {
     let mut total: u64 = 0;
     let mut o: u16 = 0;
-    while o < 84 {
+    while o < STATE_END {
         let x = state.objects[o as usize];
         total += number_when(s, x.active, o);
         o += 1;
@@ -113,7 +111,7 @@ fn write_state(s: &[u8], state: State, buffer: &mut [u16]) -> usize
 {
     let mut pos: usize = 0;
     let mut o: u16 = 0;
-    while o < 84 {
+    while o < STATE_END {
         let x = state.objects[o as usize];
         pos = write_when(s, x.active, o, buffer, pos);
         o += 1;
@@ -126,7 +124,7 @@ impl State {
     pub fn list(self, s: &[u8], buffer: &mut [u16]) -> Listing
         ensures { λ r. ⌜ (r ≡ listed (sheetOf (now (s .entry))) self (length (now (buffer .entry)))) × (now (buffer .exit) ≡ buffered (sheetOf (now (s .entry))) self (now (buffer .entry))) ⌝ }
     {
-        let first = behind(s, self, Answer::Done);
+        let first = when_sound(s, self, Answer::Done);
         match first {
             Answer::Done => {
                 let n = state_number(s, self);

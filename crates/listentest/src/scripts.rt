@@ -11,6 +11,7 @@ use console::bench::obey;
 use console::bench::opened;
 use console::lines::said;
 use listener::Answer;
+use listener::STATE_OBJECTS;
 use listener::Setting;
 use listener::State;
 
@@ -57,7 +58,7 @@ fn put_programme(state: State, p: u16) -> State {
 // The state with another setting for an object.
 fn put_object(state: State, o: u16, x: Setting) -> State {
     let i = o as usize;
-    if i < 84 {
+    if i < STATE_OBJECTS {
         say(b"put\n");
         let mut next = state;
         next.objects[i] = x;

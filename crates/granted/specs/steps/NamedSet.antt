@@ -1,10 +1,7 @@
--- The same in the steps of the code: the set that a programme names for an object, what goes by it, activity by flags. Assumes nothing.
+-- The set that a programme names for an object, and the start values and ranges that go by it, in the steps of the code. Assumes nothing.
 use Prim.Native.Nat.{ℕ}
 use mathlib.Core.Bool.{Bool, cond, not, _&&_, _||_}
-use mathlib.Core.List.{List}
-use lib.Dec.{eqb}
 use lib.IntN.{ℤ}
-use lib.ListN.{getD}
 use Rattle.sheet.specs.Words.{Sheet}
 use Rattle.sheet.specs.Layout.{field, number}
 use Rattle.sheet.specs.Fields.{programmes, objects, setList}
@@ -15,11 +12,11 @@ use Rattle.values.specs.Signed.{signedOf}
 use Rattle.values.specs.Gain.{gainOf, gainInRange, legalGain}
 use Rattle.values.specs.Offset.{offsetInRange, legalOffset}
 use Rattle.values.specs.Values.{isAbsent}
-use Rattle.profile.specs.Counting.{howMany, lowest}
-use Rattle.profile.specs.Relations.{member, members, leaderOf, hasSet, namedSet, namesSet, setFor, objectMinimum, objectMaximum, ownValue, effectiveValue, effectiveMinimum, effectiveMaximum}
+use Rattle.profile.specs.Counting.{lowest}
+use Rattle.profile.specs.Relations.{hasSet, namedSet, namesSet, setFor, objectMinimum, objectMaximum, ownValue, effectiveValue, effectiveMinimum, effectiveMaximum}
 use Rattle.granted.specs.declared.Named.{Named}
 use Rattle.granted.specs.declared.Range.{Range}
-use Rattle.granted.specs.Granted.{grantedMinimum, grantedMaximum, inWholeGroup}
+use Rattle.granted.specs.Granted.{grantedMinimum, grantedMaximum}
 use Rattle.granted.specs.Fitting.{sameGain, sameOffset}
 
 -- where the programme's set list has the first set of the object, the list's length where it has none
@@ -59,15 +56,3 @@ soundGainBy s o m g = sameGain g (gainOf (startBy s o m Gains)) || isRange (rang
 
 unfoldable pub soundOffsetBy : Sheet → ℕ → Named → ℤ → Bool
 soundOffsetBy s o m z = sameOffset z (signedOf (startBy s o m Offsets)) || isRange (rangeBy s o m Offsets) && offsetWithin (rangeBy s o m Offsets) z
-
--- an object's flag, none past the table's end
-unfoldable pub flagged : List ℕ → ℕ → Bool
-flagged t o = not (eqb (getD t o 0) 0)
-
--- how many members of a leader's group are flagged
-unfoldable pub flaggedMembers : Sheet → List ℕ → ℕ → ℕ
-flaggedMembers s t l = howMany (λ i. flagged t (member s l i)) (members s l)
-
--- an object's activity is sound, by the flags of the active objects
-unfoldable pub flaggedActivity : Sheet → ℕ → List ℕ → ℕ → Bool
-flaggedActivity s p t o = cond (inWholeGroup s p o) (eqb (flaggedMembers s t (leaderOf s o)) 1) (flagged t o)

@@ -1,32 +1,21 @@
 -- The tests of a state in the steps of the code: objects by their settings. Assumes nothing.
 use Prim.Native.Nat.{ℕ}
-use mathlib.Core.Bool.{Bool, true, false, cond, not, _&&_, _||_}
+use mathlib.Core.Bool.{Bool, cond, _&&_, _||_}
 use mathlib.Core.List.{List}
 use lib.Dec.{eqb, ltb}
 use Rattle.sheet.specs.Words.{Sheet}
 use Rattle.profile.specs.Counting.{every}
 use Rattle.profile.specs.Relations.{leaderOf, includes}
 use Rattle.granted.specs.Fitting.{soundGain, soundOffset}
-use Rattle.granted.specs.steps.NamedSet.{flaggedActivity}
+use Rattle.granted.specs.steps.Flags.{flaggedActivity}
 use Rattle.listener.specs.declared.Setting.{Setting}
 use Rattle.listener.specs.declared.State.{State}
-use Rattle.listener.specs.declared.Refusal.the-variants.{NotIncluded, NoRange, Outside}
-use Rattle.listener.specs.declared.Answer.{Answer}
-use Rattle.listener.specs.declared.Answer.the-variants.{Done, Refused}
 use Rattle.listener.specs.State.{stateObjects, setting, isResting}
 
 -- an object with that setting is one of a sound state
 unfoldable pub flaggedSound : Sheet → ℕ → List ℕ → ℕ → Setting → Bool
 flaggedSound s p t o x =
     cond (includes s p o) (flaggedActivity s p t o && soundGain s p o (x .gain) && soundOffset s p o (x .offset)) (isResting x)
-
--- 28, 30 and 31 by whether the object is included, has a range, and the value fits it
-unfoldable pub rangeAnswerBy : Bool → Bool → Bool → Answer
-rangeAnswerBy included granted fits = cond (not included) (Refused NotIncluded) (cond (not granted) (Refused NoRange) (cond (not fits) (Refused Outside) Done))
-
-unfoldable pub isDone : Answer → Bool
-isDone Done = true
-isDone (Refused r) = false
 
 -- what choosing object o makes of the setting of object q
 unfoldable pub movedFrom : Sheet → ℕ → ℕ → Setting → Setting

@@ -1,6 +1,7 @@
--- A turn for each of the 84 objects. Assumes nothing.
+-- A turn for each object of a state. Assumes nothing.
 use Prim.Native.Nat.{_-_}
 use borrow.Author.Needs.{needs}
+use Rattle.listener.specs.State.{stateObjects}
 use Rattle.console.proofs.answers.say_state.Statement.{statement}
 use Rattle.console.proofs.answers.say_state.Tie as tie
 
@@ -8,7 +9,7 @@ abbrev Inv-loop : tie.InvT-loop
 Inv-loop state o₀ o = Unit {0}
 
 abbrev μ-loop : tie.MeasureT-loop
-μ-loop state o₀ o = 84 - o
+μ-loop state o₀ o = stateObjects - o
 
 slice-aggregate-say : tie.Need-slice-aggregate-say Inv-loop μ-loop
 slice-aggregate-say c = search needs

@@ -4,7 +4,7 @@ use Prim.Native.Nat.{ℕ}
 use mathlib.Core.Bool.{not}
 use lib.Dec.{eqb}
 use lib.ListN.{List·getD-eq-default}
-use Rattle.granted.specs.steps.NamedSet.{flagged}
+use Rattle.granted.specs.steps.Flags.{flagged}
 use borrow.Author.Needs.{needs}
 use Rattle.granted.proofs.activity.flagged.Statement.{statement}
 use Rattle.granted.proofs.activity.flagged.Tie as tie

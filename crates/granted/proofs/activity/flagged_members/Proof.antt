@@ -6,7 +6,7 @@ use native.Mathlib.Numerals.{add-one}
 use Rattle.profile.specs.Counting.{howMany}
 use Rattle.profile.specs.Relations.{member, members}
 use Rattle.sheet.specs.Words.{sheetOf}
-use Rattle.granted.specs.steps.NamedSet.{flagged, flaggedMembers}
+use Rattle.granted.specs.steps.Flags.{flagged, flaggedMembers}
 use borrow.Author.Needs.{needs}
 use Rattle.granted.proofs.activity.flagged_members.Statement.{statement}
 use Rattle.granted.proofs.activity.flagged_members.Tie as tie

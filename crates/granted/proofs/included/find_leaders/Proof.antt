@@ -25,7 +25,10 @@ count-requires c κs = search needs
 
 loop-holds : tie.Need-loop-holds Inv-loop μ-loop
 unfolding firstFrom
-loop-holds c = let e : namers (sheetOf (c .before .before .before .args .s .now)) Complements - c .count .result ≡ 0 = omega (arith, c .count .ensures) in (omega (arith, c .count .ensures), refl, λ x l. ap (λ (n : ℕ). firstFrom (λ j. namesBy (sheetOf (c .before .before .before .args .s .now)) Complements j x) (getD (c .before .before .before .args .table .now) x 0) (c .count .result) n) (sym e))
+loop-holds c =
+    let a = c .before .before .before .args in let s = sheetOf (a .s .now) in let n = c .count .result in
+    let e : namers s Complements - n ≡ 0 = omega (arith, c .count .ensures) in
+    (omega (arith, c .count .ensures), refl, λ x l. ap (firstFrom (λ j. namesBy s Complements j x) (getD (a .table .now) x 0) n) (sym e))
 
 sub-mark-led : tie.Need-sub-mark-led Inv-loop μ-loop
 sub-mark-led c = search needs
@@ -40,14 +43,32 @@ loop-less : tie.Need-loop-less Inv-loop μ-loop
 loop-less c = search needs
 
 loop-again : tie.Need-loop-again Inv-loop μ-loop
-loop-again c = let q = c .before .before .before .before .before .loop .q - 1 in let e : suc q ≡ c .before .before .before .before .before .loop .q = omega (arith, c .before .before .before .before .loop-test .taken) in let f : namers (sheetOf (c .before .before .before .before .before .before .before .before .before .args .s .now)) Complements - q ≡ suc (namers (sheetOf (c .before .before .before .before .before .before .before .before .before .args .s .now)) Complements - c .before .before .before .before .before .loop .q) = omega (arith, c .before .before .before .before .before .loop .inv .0, c .before .before .before .before .loop-test .taken) in (omega (arith, c .before .before .before .before .before .loop .inv .0), c .before .before .mark-led .ensures .0 ∙ c .before .before .before .before .before .loop .inv .1, rw f (first-more (sheetOf (c .before .before .before .before .before .before .before .before .before .args .s .now)) Complements (c .before .before .before .before .before .before .before .before .before .args .table .now) (c .before .before .before .before .before .loop .table) (c .before .before .mark-led .last .1 .1 .0) q (namers (sheetOf (c .before .before .before .before .before .before .before .before .before .args .s .now)) Complements - c .before .before .before .before .before .loop .q) (c .before .before .mark-led .ensures .0) (rw e (c .before .before .before .before .before .loop .inv .2)) (λ x l. c .before .before .mark-led .ensures .1 x l ∙ ap (λ (v : ℕ). repeat (marked (Store v)) (timesBy (sheetOf (c .before .before .before .before .before .before .before .before .before .args .s .now)) Complements q x) (getD (c .before .before .before .before .before .loop .table) x 0)) (add-one q))))
+loop-again c =
+    let m = c .before .before .mark-led in let l = c .before .before .before .before .before .loop in let i = c .before .before .before .before .loop-test .taken in
+    let a = c .before .before .before .before .before .before .before .before .before .args in let s = sheetOf (a .s .now) in
+    let q = l .q - 1 in
+    let e : suc q ≡ l .q = omega (arith, i) in
+    let f : namers s Complements - q ≡ suc (namers s Complements - l .q) = omega (arith, l .inv .0, i) in (
+      omega (arith, l .inv .0),
+      m .ensures .0 ∙ l .inv .1,
+      rw f (first-more s Complements (a .table .now) (l .table) (m .last .1 .1 .0) q (namers s Complements - l .q) (m .ensures .0) (rw e (l .inv .2))
+          (λ x k. m .ensures .1 x k ∙ ap (λ (v : ℕ). repeat (marked (Store v)) (timesBy s Complements q x) (getD (l .table) x 0)) (add-one q))),
+    )
 
 same-length : tie.Need-same-length Inv-loop μ-loop
 same-length c = c .before .loop .inv .1
 
 returns : tie.Need-returns Inv-loop μ-loop
 unfolding firstBy
-returns c = let e : c .before .loop .q ≡ 0 = omega (arith, c .loop-test .left) in let f : namers (sheetOf (c .before .before .before .before .before .args .s .now)) Complements - c .before .loop .q ≡ namers (sheetOf (c .before .before .before .before .before .args .s .now)) Complements = omega arith in (c .before .loop .inv .1, λ x l. c .before .loop .inv .2 x l ∙ ap (λ (i : ℕ). firstFrom (λ j. namesBy (sheetOf (c .before .before .before .before .before .args .s .now)) Complements j x) (getD (c .before .before .before .before .before .args .table .now) x 0) i (namers (sheetOf (c .before .before .before .before .before .args .s .now)) Complements - c .before .loop .q)) e ∙ ap (firstFrom (λ j. namesBy (sheetOf (c .before .before .before .before .before .args .s .now)) Complements j x) (getD (c .before .before .before .before .before .args .table .now) x 0) 0) f)
+returns c =
+    let l = c .before .loop in let a = c .before .before .before .before .before .args in let s = sheetOf (a .s .now) in
+    let e : l .q ≡ 0 = omega (arith, c .loop-test .left) in
+    let f : namers s Complements - l .q ≡ namers s Complements = omega (arith, e) in (
+      l .inv .1,
+      λ x k. l .inv .2 x k
+          ∙ ap (λ (i : ℕ). firstFrom (λ j. namesBy s Complements j x) (getD (a .table .now) x 0) i (namers s Complements - l .q)) e
+          ∙ ap (firstFrom (λ j. namesBy s Complements j x) (getD (a .table .now) x 0) 0) f,
+    )
 
 pub find-leaders-spec : {M : Type 1} → statement M
 find-leaders-spec =

@@ -36,7 +36,12 @@ returns c = search needs
 
 returns-2 : tie.Need-returns-2
 unfolding timesBy howMany repeat leader
-returns-2 c = let f : leader (sheetOf (c .before .before .before .before .args .s .now)) (c .before .before .before .before .args .q) ≡ false = sym (c .before .leader .ensures) ∙ c .if1 .left in let e : number (sheetOf (c .before .before .before .before .args .s .now)) objects (c .before .before .before .before .args .q) complementList ≡ 0 = omega (arith, ltb-false 0 (number (sheetOf (c .before .before .before .before .args .s .now)) objects (c .before .before .before .before .args .q) complementList) f) in (refl, λ x l. ap (λ (n : ℕ). repeat (marked (Store (c .before .before .before .before .args .q + 1))) (howMany (λ i. eqb (item (sheetOf (c .before .before .before .before .args .s .now)) Complements (c .before .before .before .before .args .q) i) x) n) (getD (c .before .before .before .before .args .table .now) x 0)) (sym e))
+returns-2 c =
+    let a = c .before .before .before .before .args in let s = sheetOf (a .s .now) in
+    let n = number s objects (a .q) complementList in
+    let f : leader s (a .q) ≡ false = sym (c .before .leader .ensures) ∙ c .if1 .left in
+    let e : n ≡ 0 = omega (arith, ltb-false 0 n f) in
+    (refl, λ x l. ap (λ (n : ℕ). repeat (marked (Store (a .q + 1))) (howMany (λ i. eqb (item s Complements (a .q) i) x) n) (getD (a .table .now) x 0)) (sym e))
 
 pub mark-led-spec : {M : Type 1} → statement M
 mark-led-spec =

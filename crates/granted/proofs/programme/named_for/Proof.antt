@@ -13,7 +13,7 @@ number-requires c κs = search needs
 
 returns : tie.Need-returns
 unfolding namedFor
-returns c = let t = place-outside (sheetOf (c .before .before .before .args .s .now)) (c .before .before .before .args .p) (c .before .before .before .args .o) (setPlace (sheetOf (c .before .before .before .args .s .now)) (c .before .before .before .args .p) (c .before .before .before .args .o)) _ refl (c .before .number .ensures) (omega (arith, c .if1 .taken)) in simp t
+returns c = let a = c .before .before .before .args in simp (place-outside (sheetOf (a .s .now)) (a .p) (a .o) (setPlace (sheetOf (a .s .now)) (a .p) (a .o)) _ refl (c .before .number .ensures) (omega (arith, c .if1 .taken)))
 
 set-place-requires : tie.Need-set-place-requires
 set-place-requires c κs = search needs
@@ -23,11 +23,13 @@ named-set-requires c κs = search needs
 
 returns-2 : tie.Need-returns-2
 unfolding namedFor
-returns-2 c = let t = place-inside (sheetOf (c .before .before .before .before .before .before .args .s .now)) (c .before .before .before .before .before .before .args .p) (c .before .before .before .before .before .before .args .o) _ _ (c .before .before .set-place .ensures) (c .before .before .before .before .number .ensures) (c .before .if2 .taken) in simp (t, c .named-set .ensures, c .before .before .set-place .ensures, place-set (sheetOf (c .before .before .before .before .before .before .args .s .now)) (c .before .before .before .before .before .before .args .p) (c .before .before .before .before .before .before .args .o))
+returns-2 c =
+    let a = c .before .before .before .before .before .before .args in let s = sheetOf (a .s .now) in let e = c .before .before .set-place .ensures in
+    simp (place-inside s (a .p) (a .o) _ _ e (c .before .before .before .before .number .ensures) (c .before .if2 .taken), c .named-set .ensures, e, place-set s (a .p) (a .o))
 
 returns-3 : tie.Need-returns-3
 unfolding namedFor
-returns-3 c = let t = place-outside (sheetOf (c .before .before .before .before .before .args .s .now)) (c .before .before .before .before .before .args .p) (c .before .before .before .before .before .args .o) _ _ (c .before .set-place .ensures) (c .before .before .before .number .ensures) (c .if2 .left) in simp t
+returns-3 c = let a = c .before .before .before .before .before .args in simp (place-outside (sheetOf (a .s .now)) (a .p) (a .o) _ _ (c .before .set-place .ensures) (c .before .before .before .number .ensures) (c .if2 .left))
 
 pub named-for-spec : {M : Type 1} → statement M
 named-for-spec =

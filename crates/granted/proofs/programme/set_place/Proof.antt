@@ -61,7 +61,9 @@ cast-if1 c = search needs
 
 returns : tie.Need-returns Inv-loop μ-loop
 unfolding setPlace
-returns c = sym (lowest-at _ _ _ (search needs) (c .before .before .before .loop .inv .1) (sym (place-has (sheetOf (c .before .before .before .before .before .before .before .before .before .args .s .now)) (c .before .before .before .before .before .before .before .before .before .args .p) (c .before .before .before .before .before .before .before .before .before .args .o) (c .before .before .before .loop .i) _ _ _ _ (c .before .before .before .before .before .before .field .ensures) (c .before .before .before .before .before .number2 .ensures) (c .before .before .before .before .field2 .ensures) (c .before .reference .ensures)) ∙ c .if1 .taken)) ∙ ap (lowest _) (c .before .before .before .before .before .before .before .number .ensures)
+returns c =
+    let l = c .before .before .before .loop in let d = c .before .before .before .before in let a = d .before .before .before .before .before .args in
+    sym (lowest-at _ _ _ (search needs) (l .inv .1) (sym (place-has (sheetOf (a .s .now)) (a .p) (a .o) (l .i) _ _ _ _ (d .before .before .field .ensures) (d .before .number2 .ensures) (d .field2 .ensures) (c .before .reference .ensures)) ∙ c .if1 .taken)) ∙ ap (lowest _) (d .before .before .before .number .ensures)
 
 add-i : tie.Need-add-i Inv-loop μ-loop
 add-i c = search needs
@@ -70,7 +72,12 @@ loop-less : tie.Need-loop-less Inv-loop μ-loop
 loop-less c = search needs
 
 loop-again : tie.Need-loop-again Inv-loop μ-loop
-loop-again c = (search needs, below-more _ _ (c .before .before .before .loop .inv .1) (sym (place-has (sheetOf (c .before .before .before .before .before .before .before .before .before .args .s .now)) (c .before .before .before .before .before .before .before .before .before .args .p) (c .before .before .before .before .before .before .before .before .before .args .o) (c .before .before .before .loop .i) _ _ _ _ (c .before .before .before .before .before .before .field .ensures) (c .before .before .before .before .before .number2 .ensures) (c .before .before .before .before .field2 .ensures) (c .before .reference .ensures)) ∙ c .if1 .left))
+loop-again c = (
+  search needs,
+  let l = c .before .before .before .loop in
+      let d = c .before .before .before .before in let a = d .before .before .before .before .before .args in
+      below-more _ _ (l .inv .1) (sym (place-has (sheetOf (a .s .now)) (a .p) (a .o) (l .i) _ _ _ _ (d .before .before .field .ensures) (d .before .number2 .ensures) (d .field2 .ensures) (c .before .reference .ensures)) ∙ c .if1 .left),
+)
 
 returns-2 : tie.Need-returns-2 Inv-loop μ-loop
 unfolding setPlace

@@ -1,5 +1,5 @@
 -- The words passed are written, two bytes each. Assumes nothing.
-use Prim.Native.Nat.{ℕ, _+_, _*_, _-_, _/_, _%_}
+use Prim.Native.Nat.{ℕ, _+_, _*_, _-_, _/_, _%_, _<_, _≤_}
 use mathlib.Core.Path.{_≡_, refl, ap, _∙_}
 use native.Mathlib.Omega.{arith}
 use native.Mathlib.Numerals.{add-one}
@@ -16,6 +16,10 @@ Inv-loop words buffer₀ at₀ i₀ buffer at i = Written (λ j. twoBytes (getD 
 abbrev μ-loop : tie.MeasureT-loop
 μ-loop words buffer₀ at₀ i₀ buffer at i = length words - i
 
+-- there is room for the next two bytes
+room-left : (c : tie.At-loop Inv-loop μ-loop) → c .loop .i < length (c .before .before .before .args .words .now) → c .loop .at + 2 ≤ length (c .before .before .before .args .buffer .now)
+room-left c l = omega (arith, c .loop .inv .1, c .before .before .before .pre)
+
 loop-holds : tie.Need-loop-holds Inv-loop μ-loop
 loop-holds c = (written-none _ _ _ _, refl)
 
@@ -29,19 +33,21 @@ high-requires : tie.Need-high-requires Inv-loop μ-loop
 high-requires c κs = search needs
 
 slice-write-buffer : tie.Need-slice-write-buffer Inv-loop μ-loop
-slice-write-buffer c = omega (arith, c .before .before .before .loop .inv .1, same-long (λ j. twoBytes (getD (c .before .before .before .before .before .before .args .words .now) j 0)) (length (c .before .before .before .before .before .before .args .words .now)) 0 (c .before .before .before .before .before .before .args .buffer .now) (c .before .before .before .loop .buffer) (c .before .before .before .loop .at) (c .before .before .before .loop .i) (c .before .before .before .loop .inv .0), c .before .before .before .before .before .before .pre, length-set (c .before .before .before .loop .buffer) (c .before .before .before .loop .at) (c .high .result))
+slice-write-buffer c = let d = c .before .before .before in omega (arith, room-left d (c .before .before .loop-test .taken), same-long (d .loop .inv .0))
 
 low-requires : tie.Need-low-requires Inv-loop μ-loop
 low-requires c κs = search needs
 
 add-buffer : tie.Need-add-buffer Inv-loop μ-loop
-add-buffer c = omega (arith, c .before .before .before .before .loop .inv .1, same-long (λ j. twoBytes (getD (c .before .before .before .before .before .before .before .args .words .now) j 0)) (length (c .before .before .before .before .before .before .before .args .words .now)) 0 (c .before .before .before .before .before .before .before .args .buffer .now) (c .before .before .before .before .loop .buffer) (c .before .before .before .before .loop .at) (c .before .before .before .before .loop .i) (c .before .before .before .before .loop .inv .0), c .before .before .before .before .before .before .before .pre, length-set (c .before .before .before .before .loop .buffer) (c .before .before .before .before .loop .at) (c .before .high .result))
+add-buffer c = omega (arith, room-left (c .before .before .before .before) (c .before .before .before .loop-test .taken))
 
 slice-write-buffer-2 : tie.Need-slice-write-buffer-2 Inv-loop μ-loop
-slice-write-buffer-2 c = omega (arith, c .before .before .before .before .loop .inv .1, same-long (λ j. twoBytes (getD (c .before .before .before .before .before .before .before .args .words .now) j 0)) (length (c .before .before .before .before .before .before .before .args .words .now)) 0 (c .before .before .before .before .before .before .before .args .buffer .now) (c .before .before .before .before .loop .buffer) (c .before .before .before .before .loop .at) (c .before .before .before .before .loop .i) (c .before .before .before .before .loop .inv .0), c .before .before .before .before .before .before .before .pre, length-set (c .before .before .before .before .loop .buffer) (c .before .before .before .before .loop .at) (c .before .high .result))
+slice-write-buffer-2 c =
+    let d = c .before .before .before .before in
+    omega (arith, room-left d (c .before .before .before .loop-test .taken), same-long (d .loop .inv .0), length-set (d .loop .buffer) (d .loop .at) (c .before .high .result))
 
 add-at : tie.Need-add-at Inv-loop μ-loop
-add-at c = omega (arith, c .before .before .before .before .loop .inv .1, same-long (λ j. twoBytes (getD (c .before .before .before .before .before .before .before .args .words .now) j 0)) (length (c .before .before .before .before .before .before .before .args .words .now)) 0 (c .before .before .before .before .before .before .before .args .buffer .now) (c .before .before .before .before .loop .buffer) (c .before .before .before .before .loop .at) (c .before .before .before .before .loop .i) (c .before .before .before .before .loop .inv .0), c .before .before .before .before .before .before .before .pre, length-set (c .before .before .before .before .loop .buffer) (c .before .before .before .before .loop .at) (c .before .high .result))
+add-at c = omega (arith, room-left (c .before .before .before .before) (c .before .before .before .loop-test .taken))
 
 add-i : tie.Need-add-i Inv-loop μ-loop
 add-i c = search needs
@@ -51,14 +57,17 @@ loop-less c = search needs
 
 loop-again : tie.Need-loop-again Inv-loop μ-loop
 unfolding twoBytes
-loop-again c = (written-more (λ j. twoBytes (getD (c .before .before .before .before .before .before .before .args .words .now) j 0)) (length (c .before .before .before .before .before .before .before .args .words .now)) 0 (c .before .before .before .before .before .before .before .args .buffer .now) (c .before .before .before .before .loop .buffer) (c .before .before .before .before .loop .at) (c .before .before .before .before .loop .i) (c .before .before .before .before .loop .inv .0) _ _ (c .before .before .before .loop-test .taken) refl (rw (c .before .high .ensures, c .low .ensures) (ap (λ (x : ℕ). set (set (c .before .before .before .before .loop .buffer) (c .before .before .before .before .loop .at) (getD (c .before .before .before .before .before .before .before .args .words .now) (c .before .before .before .before .loop .i) 0 / 256)) x (getD (c .before .before .before .before .before .before .before .args .words .now) (c .before .before .before .before .loop .i) 0 % 256)) (add-one (c .before .before .before .before .loop .at)))), omega (arith, c .before .before .before .before .loop .inv .1))
+loop-again c =
+    let l = c .before .before .before .before .loop in
+    let w = getD (c .before .before .before .before .before .before .before .args .words .now) (l .i) 0 in
+    (written-more (l .inv .0) _ _ (c .before .before .before .loop-test .taken) refl (rw (c .before .high .ensures, c .low .ensures) (ap (λ (x : ℕ). set (set (l .buffer) (l .at) (w / 256)) x (w % 256)) (add-one (l .at)))), omega (arith, l .inv .1))
 
 same-length : tie.Need-same-length Inv-loop μ-loop
-same-length c = same-long (λ j. twoBytes (getD (c .before .before .before .before .args .words .now) j 0)) (length (c .before .before .before .before .args .words .now)) 0 (c .before .before .before .before .args .buffer .now) (c .before .loop .buffer) (c .before .loop .at) (c .before .loop .i) (c .before .loop .inv .0)
+same-length c = same-long (c .before .loop .inv .0)
 
 returns : tie.Need-returns Inv-loop μ-loop
 unfolding bytesOf
-returns c = written-all (λ j. twoBytes (getD (c .before .before .before .before .args .words .now) j 0)) (length (c .before .before .before .before .args .words .now)) 0 (c .before .before .before .before .args .buffer .now) (c .before .loop .buffer) (c .before .loop .at) (c .before .loop .i) (c .before .loop .inv .0) (c .loop-test .left) .1
+returns c = written-all (c .before .loop .inv .0) (c .loop-test .left) .1
 
 pub write-words-spec : {M : Type 1} → statement M
 write-words-spec =

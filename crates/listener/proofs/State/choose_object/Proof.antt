@@ -4,7 +4,7 @@ use Rattle.sheet.specs.Words.{sheetOf}
 use Rattle.listener.specs.declared.Refusal.{Refusal}
 use Rattle.listener.specs.declared.Answer.the-variants.{Done, Refused}
 use Rattle.listener.specs.Calls.{replyBy}
-use Rattle.listener.proofs.BehindLaws.{object-reply}
+use Rattle.listener.proofs.AnswerLaws.{object-reply}
 use borrow.Author.Needs.{needs}
 use Rattle.listener.proofs.State.choose_object.Statement.{statement}
 use Rattle.listener.proofs.State.choose_object.Tie as tie
@@ -23,11 +23,16 @@ enum-known-answer c = search needs
 
 returns : tie.Need-returns
 unfolding replyBy
-returns c = rw (c .moved .ensures) (sym (object-reply (sheetOf (c .before .before .before .before .before .args .s .now)) (c .before .before .before .before .before .args .self) (c .before .before .before .before .before .args .o) Done (sym (c .before .before .before .object-answer .ensures) ∙ c .before .enum-told .given .1)))
+returns c =
+    let a = c .before .before .before .before .before .args in
+    rw (c .moved .ensures) (sym (object-reply (sheetOf (a .s .now)) (a .self) (a .o) Done (sym (c .before .before .before .object-answer .ensures) ∙ c .before .enum-told .given .1)))
 
 returns-2 : tie.Need-returns-2
 unfolding replyBy
-returns-2 c = let r : Refusal = c .before .answer .given .0 .0 in sym (object-reply (sheetOf (c .before .before .before .before .before .args .s .now)) (c .before .before .before .before .before .args .self) (c .before .before .before .before .before .args .o) (Refused r) (sym (c .before .before .before .object-answer .ensures) ∙ c .before .answer .given .1))
+returns-2 c =
+    let a = c .before .before .before .before .before .args in
+    let r : Refusal = c .before .answer .given .0 .0 in
+    sym (object-reply (sheetOf (a .s .now)) (a .self) (a .o) (Refused r) (sym (c .before .before .before .object-answer .ensures) ∙ c .before .answer .given .1))
 
 pub choose-object-spec : {M : Type 1} → statement M
 choose-object-spec =

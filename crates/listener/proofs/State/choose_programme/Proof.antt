@@ -3,8 +3,8 @@ use mathlib.Core.Path.{sym, _∙_}
 use Rattle.sheet.specs.Words.{sheetOf}
 use Rattle.listener.specs.declared.Refusal.{Refusal}
 use Rattle.listener.specs.declared.Answer.the-variants.{Done, Refused}
-use Rattle.listener.specs.Calls.{replyBy, behind}
-use Rattle.listener.proofs.BehindLaws.{programme-reply}
+use Rattle.listener.specs.Calls.{replyBy}
+use Rattle.listener.proofs.AnswerLaws.{programme-reply}
 use borrow.Author.Needs.{needs}
 use Rattle.listener.proofs.State.choose_programme.Statement.{statement}
 use Rattle.listener.proofs.State.choose_programme.Tie as tie
@@ -12,8 +12,8 @@ use Rattle.listener.proofs.State.choose_programme.Tie as tie
 number-answer-requires : tie.Need-number-answer-requires
 number-answer-requires c κs = search needs
 
-behind-requires : tie.Need-behind-requires
-behind-requires c κs = search needs
+when-sound-requires : tie.Need-when-sound-requires
+when-sound-requires c κs = search needs
 
 enum-told : tie.Need-enum-told
 enum-told c = search needs
@@ -26,18 +26,23 @@ enum-known-answer c = search needs
 
 returns : tie.Need-returns
 unfolding replyBy
-returns c = rw (c .started .ensures) (sym (programme-reply (sheetOf (c .before .before .before .before .before .before .args .s .now)) (c .before .before .before .before .before .before .args .self) (c .before .before .before .before .before .before .args .p) Done (rw (← c .before .before .before .before .number-answer .ensures) (sym (c .before .before .before .behind .ensures) ∙ c .before .enum-told .given .1))))
+returns c =
+    let b = c .before .before .before in let a = b .before .before .before .args in
+    rw (c .started .ensures) (sym (programme-reply (sheetOf (a .s .now)) (a .self) (a .p) Done (rw (← b .before .number-answer .ensures) (sym (b .when-sound .ensures) ∙ c .before .enum-told .given .1))))
 
 returns-2 : tie.Need-returns-2
 unfolding replyBy
-returns-2 c = let r : Refusal = c .before .answer .given .0 .0 in sym (programme-reply (sheetOf (c .before .before .before .before .before .before .args .s .now)) (c .before .before .before .before .before .before .args .self) (c .before .before .before .before .before .before .args .p) (Refused r) (rw (← c .before .before .before .before .number-answer .ensures) (sym (c .before .before .before .behind .ensures) ∙ c .before .answer .given .1)))
+returns-2 c =
+    let b = c .before .before .before in let a = b .before .before .before .args in
+    let r : Refusal = c .before .answer .given .0 .0 in
+    sym (programme-reply (sheetOf (a .s .now)) (a .self) (a .p) (Refused r) (rw (← b .before .number-answer .ensures) (sym (b .when-sound .ensures) ∙ c .before .answer .given .1)))
 
 pub choose-programme-spec : {M : Type 1} → statement M
 choose-programme-spec =
     tie.close
     (tie.spec
     number-answer-requires
-    behind-requires
+    when-sound-requires
     enum-told
     started-requires
     enum-known-answer

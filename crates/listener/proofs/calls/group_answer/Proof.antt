@@ -1,6 +1,6 @@
 -- 28, then 29. Assumes nothing.
 use mathlib.Core.Path.{sym, _∙_}
-use Rattle.listener.specs.Calls.{groupAnswer}
+use Rattle.listener.specs.steps.Answers.{groupAnswer}
 use borrow.Author.Needs.{needs}
 use Rattle.listener.proofs.calls.group_answer.Statement.{statement}
 use Rattle.listener.proofs.calls.group_answer.Tie as tie

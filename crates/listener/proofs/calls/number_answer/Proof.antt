@@ -1,6 +1,6 @@
 -- 27, or done. Assumes nothing.
 use borrow.Author.Tests.{le-leb, lt-leb}
-use Rattle.listener.specs.Calls.{numberAnswer}
+use Rattle.listener.specs.steps.Answers.{numberAnswer}
 use borrow.Author.Needs.{needs}
 use Rattle.listener.proofs.calls.number_answer.Statement.{statement}
 use Rattle.listener.proofs.calls.number_answer.Tie as tie

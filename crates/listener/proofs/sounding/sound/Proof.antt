@@ -1,18 +1,17 @@
 -- The flags, then each object by the tables, then the rest by itself. Assumes nothing.
-use Prim.Native.Nat.{ℕ, _-_, _≤_}
+use Prim.Native.Nat.{ℕ, _-_, _<_, _≤_}
 use mathlib.Core.Path.{_≡_, refl, sym, ap, ap₂, _∙_}
 use mathlib.Core.Bool.{Bool, cond, _&&_, _||_}
 use mathlib.Core.List.{List}
 use native.Mathlib.Omega.{arith}
 use native.Mathlib.Numerals.{add-one}
 use borrow.Author.Needs.{needs}
-use borrow.Author.Tests.{le-ltb, lt-ltb}
+use borrow.Author.Tests.{le-ltb}
 use lib.Dec.{ltb}
 use Rattle.sheet.specs.Words.{sheetOf}
 use Rattle.sheet.specs.Layout.{count}
 use Rattle.sheet.specs.Fields.{programmes}
 use Rattle.profile.specs.Counting.{every, tabulate}
-use Rattle.profile.proofs.ListLaws.{every-all}
 use Rattle.tables.proofs.MarkLaws.{nought}
 use Rattle.listener.specs.declared.Setting.{Setting}
 use Rattle.listener.specs.State.{stateObjects, setting, active as isActive, isResting}
@@ -20,12 +19,12 @@ use Rattle.listener.specs.Sound.{sound, soundAt}
 use Rattle.listener.specs.steps.Settings.{flaggedSound, restingFrom}
 use Rattle.listener.proofs.FillLaws.{Begun, begun-none, begun-more, begun-all}
 use Rattle.listener.proofs.StepLaws.{and-assoc, and-behind, leaders-made, element-setting, all-flags}
-use Rattle.listener.proofs.RestLaws.{sound-parts, rest-inactive}
+use Rattle.listener.proofs.RestLaws.{from-none, sound-parts, rest-inactive}
 use Rattle.listener.proofs.sounding.sound.Statement.{statement}
 use Rattle.listener.proofs.sounding.sound.Tie as tie
 
 abbrev Inv-loop : tie.InvT-loop
-Inv-loop s state p leaders marks n active₀ o₀ active o = (o ≤ n) × Begun 84 (λ q. cond (isActive state q) 1 0) 0 0 active o
+Inv-loop s state p leaders marks n active₀ o₀ active o = (o ≤ n) × Begun stateObjects (λ q. cond (isActive state q) 1 0) 0 0 active o
 
 abbrev μ-loop : tie.MeasureT-loop
 μ-loop s state p leaders marks n active₀ o₀ active o = n - o
@@ -37,10 +36,10 @@ abbrev μ-loop2 : tie.MeasureT-loop2
 μ-loop2 s state p leaders marks n active o₀ good₀ o good = n - o
 
 abbrev Inv-loop3 : tie.InvT-loop3
-Inv-loop3 s state p n o₀ good₀ o good = (o ≤ 84) × (n ≤ o) × (good ≡ (good₀ && every (λ q. ltb q n || isResting (setting state q)) o))
+Inv-loop3 s state p n o₀ good₀ o good = (o ≤ stateObjects) × (n ≤ o) × (good ≡ (good₀ && every (λ q. ltb q n || isResting (setting state q)) o))
 
 abbrev μ-loop3 : tie.MeasureT-loop3
-μ-loop3 s state p n o₀ good₀ o good = 84 - o
+μ-loop3 s state p n o₀ good₀ o good = stateObjects - o
 
 count-requires : tie.Need-count-requires Inv-loop μ-loop Inv-loop2 μ-loop2 Inv-loop3 μ-loop3
 count-requires c κs = search needs
@@ -62,7 +61,7 @@ enter-included-requires : tie.Need-enter-included-requires Inv-loop μ-loop Inv-
 enter-included-requires c κs = search needs
 
 loop-holds : tie.Need-loop-holds Inv-loop μ-loop Inv-loop2 μ-loop2 Inv-loop3 μ-loop3
-loop-holds c = (search needs, begun-none 84 _ 0 0)
+loop-holds c = (search needs, begun-none _ _ _ _)
 
 cast-x : tie.Need-cast-x Inv-loop μ-loop Inv-loop2 μ-loop2 Inv-loop3 μ-loop3
 cast-x c = search needs
@@ -93,7 +92,13 @@ loop-less c = search needs
 
 loop-again : tie.Need-loop-again Inv-loop μ-loop Inv-loop2 μ-loop2 Inv-loop3 μ-loop3
 unfolding isActive
-loop-again c = (search needs, begun-more _ _ _ _ _ _ _ (c .before .before .before .loop .inv .1) (omega (arith, c .before .before .loop-test .taken, c .before .before .before .before .before .enter-included .ensures .1)) (c .one .ensures .0 ∙ ap (λ (x : Setting). cond (x .active) 1 0) (element-setting (c .before .before .before .before .before .before .before .before .before .before .before .before .before .args .t2) (c .before .before .before .loop .o) (omega (arith, c .before .before .loop-test .taken, c .before .before .before .before .before .enter-included .ensures .1)))))
+loop-again c = (
+  search needs,
+  let l = c .before .before .before .loop in
+      let n = c .before .before .before .before .before in
+      let i : l .o < stateObjects = omega (arith, c .before .before .loop-test .taken, n .enter-included .ensures .1) in
+      begun-more _ (l .inv .1) i (c .one .ensures .0 ∙ ap (λ (x : Setting). cond (x .active) 1 0) (element-setting (n .before .before .before .before .before .before .before .before .args .t2) (l .o) i)),
+)
 
 loop2-holds : tie.Need-loop2-holds Inv-loop μ-loop Inv-loop2 μ-loop2 Inv-loop3 μ-loop3
 unfolding every
@@ -128,10 +133,17 @@ loop2-less c = search needs
 
 loop2-again : tie.Need-loop2-again Inv-loop μ-loop Inv-loop2 μ-loop2 Inv-loop3 μ-loop3
 unfolding every
-loop2-again c = (search needs, rw (add-one, c .before .before .before .before .before .before .loop2 .inv .1, c .sound-at .ensures (leaders-made (sheetOf (c .before .before .before .before .before .before .before .before .before .before .before .before .before .before .before .before .before .before .args .s .now)) 84 (c .before .before .before .before .before .before .before .before .before .before .before .before .before .find-leaders .last .1 .0) (c .before .before .before .before .before .before .before .before .before .before .before .before .before .find-leaders .ensures .1)) (c .before .before .before .before .before .before .before .before .before .before .enter-included .ensures .3 (λ x l. nought 84 x)), element-setting (c .before .before .before .before .before .before .before .before .before .before .before .before .before .before .before .before .before .before .args .t2) (c .before .before .before .before .before .before .loop2 .o) (omega (arith, c .before .before .before .before .before .loop2-test .taken, c .before .before .before .before .before .before .before .before .before .before .enter-included .ensures .1))))
+loop2-again c = (
+  search needs,
+  let l = c .before .before .before .before .before .before .loop2 in
+      let n = c .before .before .before .before .before .before .before .before .before .before in let f = n .before .before .before .find-leaders in
+      let a = n .before .before .before .before .before .before .before .before .args in
+      let i : l .o < stateObjects = omega (arith, c .before .before .before .before .before .loop2-test .taken, n .enter-included .ensures .1) in
+      rw (add-one, l .inv .1, c .sound-at .ensures (leaders-made (sheetOf (a .s .now)) stateObjects (f .last .1 .0) (f .ensures .1)) (n .enter-included .ensures .3 (λ x l. nought stateObjects x)), element-setting (a .t2) (l .o) i),
+)
 
 loop3-holds : tie.Need-loop3-holds Inv-loop μ-loop Inv-loop2 μ-loop2 Inv-loop3 μ-loop3
-loop3-holds c = (c .before .before .before .before .before .enter-included .ensures .1, search needs, sym (and-behind (c .before .loop2 .good) (c .before .loop2 .good) (every (λ q. ltb q (c .before .before .before .before .before .enter-included .result) || isResting (setting (c .before .before .before .before .before .before .before .before .before .before .before .before .before .args .t2) q)) (c .before .before .before .before .before .enter-included .result)) (λ q. refl) ∙ ap (λ (b : Bool). b && c .before .loop2 .good) (every-all (λ q. ltb q (c .before .before .before .before .before .enter-included .result) || isResting (setting (c .before .before .before .before .before .before .before .before .before .before .before .before .before .args .t2) q)) (c .before .before .before .before .before .enter-included .result) (λ k l. ap (λ (b : Bool). b || isResting (setting (c .before .before .before .before .before .before .before .before .before .before .before .before .before .args .t2) k)) (lt-ltb k (c .before .before .before .before .before .enter-included .result) l)))))
+loop3-holds c = let n = c .before .before .before .before .before in (n .enter-included .ensures .1, omega arith, from-none _ _ _)
 
 cast-x-3 : tie.Need-cast-x-3 Inv-loop μ-loop Inv-loop2 μ-loop2 Inv-loop3 μ-loop3
 cast-x-3 c = search needs
@@ -153,21 +165,32 @@ loop3-less c = search needs
 
 loop3-again : tie.Need-loop3-again Inv-loop μ-loop Inv-loop2 μ-loop2 Inv-loop3 μ-loop3
 unfolding every
-loop3-again c = (search needs, search needs, rw (add-one, c .before .before .before .loop3 .inv .2, c .is-resting .ensures, element-setting (c .before .before .before .before .before .before .before .before .before .before .before .before .before .before .before .before .before .args .t2) (c .before .before .before .loop3 .o) (c .before .before .loop3-test .taken), le-ltb (c .before .before .before .loop3 .o) (c .before .before .before .before .before .before .before .before .before .enter-included .result) (c .before .before .before .loop3 .inv .1)) (and-assoc (c .before .before .before .before .before .loop2 .good) (every (λ q. ltb q (c .before .before .before .before .before .before .before .before .before .enter-included .result) || isResting (setting (c .before .before .before .before .before .before .before .before .before .before .before .before .before .before .before .before .before .args .t2) q)) (c .before .before .before .loop3 .o)) (isResting (setting (c .before .before .before .before .before .before .before .before .before .before .before .before .before .before .before .before .before .args .t2) (c .before .before .before .loop3 .o)))))
+loop3-again c =
+    let l = c .before .before .before .loop3 in let i = c .before .before .loop3-test .taken in
+    let n = c .before .before .before .before .before .before .before .before .before in
+    let st = n .before .before .before .before .before .before .before .before .args .t2 in (
+      omega (arith, i),
+      omega (arith, l .inv .1),
+      rw (add-one, l .inv .2, c .is-resting .ensures, element-setting st (l .o) i, le-ltb (l .o) (n .enter-included .result) (l .inv .1))
+          (and-assoc (c .before .before .before .before .before .loop2 .good) (every (λ q. ltb q (n .enter-included .result) || isResting (setting st q)) (l .o)) (isResting (setting st (l .o)))),
+    )
 
 returns-2 : tie.Need-returns-2 Inv-loop μ-loop Inv-loop2 μ-loop2 Inv-loop3 μ-loop3
 unfolding restingFrom
 returns-2 c =
-    let e : c .before .loop3 .o ≡ 84 = omega (arith, c .loop3-test .left, c .before .loop3 .inv .0) in
-    let g : c .before .before .before .loop2 .o ≡ (c .before .before .before .before .before .before .before .enter-included .result) = omega (arith, c .before .before .loop2-test .left, c .before .before .before .loop2 .inv .0) in
-    let good = every (λ q. flaggedSound (sheetOf (c .before .before .before .before .before .before .before .before .before .before .before .before .before .before .before .args .s .now)) ((c .before .before .before .before .before .before .before .before .before .before .before .before .before .before .before .args .t2) .programme) (c .before .before .before .before .before .loop .active) q (setting (c .before .before .before .before .before .before .before .before .before .before .before .before .before .before .before .args .t2) q)) in
-    c .before .loop3 .inv .2
-    ∙ ap₂ (λ (a b : Bool). a && b) (c .before .before .before .loop2 .inv .1 ∙ ap good g) (ap (every (λ q. ltb q (c .before .before .before .before .before .before .before .enter-included .result) || isResting (setting (c .before .before .before .before .before .before .before .before .before .before .before .before .before .before .before .args .t2) q))) e)
-    ∙ and-behind (good (c .before .before .before .before .before .before .before .enter-included .result)) (every (soundAt (sheetOf (c .before .before .before .before .before .before .before .before .before .before .before .before .before .before .before .args .s .now)) (c .before .before .before .before .before .before .before .before .before .before .before .before .before .before .before .args .t2)) (c .before .before .before .before .before .before .before .enter-included .result)) (restingFrom (c .before .before .before .before .before .before .before .before .before .before .before .before .before .before .before .args .t2) (c .before .before .before .before .before .before .before .enter-included .result))
+    let l = c .before .before .before .before .before .loop in let l2 = c .before .before .before .loop2 in let l3 = c .before .loop3 in
+    let entered = c .before .before .before .before .before .before .before in let n = entered .enter-included .result in
+    let counted = entered .before .before .before .before .before .before in let a = counted .before .before .args in let s = sheetOf (a .s .now) in
+    let e : l3 .o ≡ stateObjects = omega (arith, c .loop3-test .left, l3 .inv .0) in
+    let g : l2 .o ≡ n = omega (arith, c .before .before .loop2-test .left, l2 .inv .0) in
+    let good = every (λ q. flaggedSound s (a .t2 .programme) (l .active) q (setting (a .t2) q)) in
+    l3 .inv .2
+    ∙ ap₂ (λ (a b : Bool). a && b) (l2 .inv .1 ∙ ap good g) (ap (every (λ q. ltb q n || isResting (setting (a .t2) q))) e)
+    ∙ and-behind (good n) (every (soundAt s (a .t2)) n) (restingFrom (a .t2) n)
     (λ still.
-    let f : c .before .before .before .before .before .loop .active ≡ tabulate (λ o. cond (isActive (c .before .before .before .before .before .before .before .before .before .before .before .before .before .before .before .args .t2) o) 1 0) stateObjects = begun-all _ _ _ _ _ _ (c .before .before .before .before .before .loop .inv .1) (λ k a b. sym (ap (λ (t : Bool). cond t 1 0) (rest-inactive (c .before .before .before .before .before .before .before .before .before .before .before .before .before .before .before .args .t2) (c .before .before .before .before .before .before .before .enter-included .result) k still (omega (arith, c .before .before .before .before .loop-test .left, c .before .before .before .before .before .loop .inv .0, a)) b))) in
-    ap (λ (t : List ℕ). every (λ o. flaggedSound (sheetOf (c .before .before .before .before .before .before .before .before .before .before .before .before .before .before .before .args .s .now)) ((c .before .before .before .before .before .before .before .before .before .before .before .before .before .before .before .args .t2) .programme) t o (setting (c .before .before .before .before .before .before .before .before .before .before .before .before .before .before .before .args .t2) o)) (c .before .before .before .before .before .before .before .enter-included .result)) f ∙ all-flags (sheetOf (c .before .before .before .before .before .before .before .before .before .before .before .before .before .before .before .args .s .now)) (c .before .before .before .before .before .before .before .before .before .before .before .before .before .before .before .args .t2) (c .before .before .before .before .before .before .before .enter-included .result))
-    ∙ sym (sound-parts (sheetOf (c .before .before .before .before .before .before .before .before .before .before .before .before .before .before .before .args .s .now)) (c .before .before .before .before .before .before .before .before .before .before .before .before .before .before .before .args .t2) (c .before .before .before .before .before .before .before .enter-included .result) (c .before .before .before .before .before .before .before .enter-included .ensures .1) (c .before .before .before .before .before .before .before .enter-included .ensures .2) (rw (← c .before .before .before .before .before .before .before .before .before .before .before .before .before .count .ensures) (c .before .before .before .before .before .before .before .before .before .before .before .before .if1 .left)))
+    let f : l .active ≡ tabulate (λ o. cond (isActive (a .t2) o) 1 0) stateObjects = begun-all (l .inv .1) (λ k i j. sym (ap (λ (t : Bool). cond t 1 0) (rest-inactive (a .t2) n k still (omega (arith, c .before .before .before .before .loop-test .left, l .inv .0, i)) j))) in
+    ap (λ (t : List ℕ). every (λ o. flaggedSound s (a .t2 .programme) t o (setting (a .t2) o)) n) f ∙ all-flags s (a .t2) n)
+    ∙ sym (sound-parts s (a .t2) n (entered .enter-included .ensures .1) (entered .enter-included .ensures .2) (rw (← counted .count .ensures) (entered .before .before .before .before .before .if1 .left)))
 
 pub sound-spec : {M : Type 1} → statement M
 sound-spec =

@@ -5,6 +5,7 @@ use native.Mathlib.Omega.{arith}
 use native.Mathlib.Numerals.{add-one}
 use Rattle.profile.specs.Counting.{sum}
 use Rattle.sheet.specs.Words.{sheetOf}
+use Rattle.listener.specs.State.{stateObjects}
 use Rattle.listener.specs.steps.Tracks.{numberWhen, stateNumber}
 use Rattle.listener.proofs.StepLaws.{element-active}
 use borrow.Author.Needs.{needs}
@@ -12,10 +13,10 @@ use Rattle.listener.proofs.writing.state_number.Statement.{statement}
 use Rattle.listener.proofs.writing.state_number.Tie as tie
 
 abbrev Inv-loop : tie.InvT-loop
-Inv-loop s state total₀ o₀ total o = (o ≤ 84) × (total ≤ 4295032830 * o) × (total ≡ sum (numberWhen (sheetOf s) state) o)
+Inv-loop s state total₀ o₀ total o = (o ≤ stateObjects) × (total ≤ 4295032830 * o) × (total ≡ sum (numberWhen (sheetOf s) state) o)
 
 abbrev μ-loop : tie.MeasureT-loop
-μ-loop s state total₀ o₀ total o = 84 - o
+μ-loop s state total₀ o₀ total o = stateObjects - o
 
 loop-holds : tie.Need-loop-holds Inv-loop μ-loop
 unfolding sum
@@ -44,11 +45,16 @@ loop-less c = search needs
 
 loop-again : tie.Need-loop-again Inv-loop μ-loop
 unfolding sum numberWhen
-loop-again c = (search needs, omega (arith, c .number-when .ensures .1), rw (add-one, c .number-when .ensures .0, element-active (c .before .before .before .before .before .args .t2) (c .before .before .before .loop .o) (c .before .before .loop-test .taken), c .before .before .before .loop .inv .2))
+loop-again c = (
+  search needs,
+  omega (arith, c .number-when .ensures .1),
+  let l = c .before .before .before .loop in
+      rw (add-one, c .number-when .ensures .0, element-active (c .before .before .before .before .before .args .t2) (l .o) (c .before .before .loop-test .taken), l .inv .2),
+)
 
 returns : tie.Need-returns Inv-loop μ-loop
 unfolding stateNumber
-returns c = let e : c .before .loop .o ≡ 84 = omega arith in c .before .loop .inv .2 ∙ ap (sum _) e
+returns c = let e : c .before .loop .o ≡ stateObjects = omega arith in c .before .loop .inv .2 ∙ ap (sum _) e
 
 pub state-number-spec : {M : Type 1} → statement M
 state-number-spec =

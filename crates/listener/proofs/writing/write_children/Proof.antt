@@ -29,7 +29,7 @@ entry-requires c κs = search needs
 
 write-own-requires : tie.Need-write-own-requires Inv-loop μ-loop
 unfolding childTracks
-write-own-requires c κs = rw (c .before .entry .ensures) (room (λ j. ownTracks (sheetOf (c .before .before .before .before .before .before .before .args .s .now)) (entry (sheetOf (c .before .before .before .before .before .before .before .args .s .now)) objects (c .before .before .before .before .before .before .before .args .o) childList j)) (c .before .before .before .before .number .result) (c .before .before .before .before .before .before .before .args .at) (c .before .before .before .before .before .before .before .args .buffer .now) (c .before .before .before .loop .buffer) (c .before .before .before .loop .pos) (c .before .before .before .loop .i) (c .before .before .before .loop .inv) (c .before .before .loop-test .taken) (rw (c .before .before .before .before .number .ensures) (c .before .before .before .before .before .before .before .pre)))
+write-own-requires c κs = let n = c .before .before .before .before in rw (c .before .entry .ensures) (room (c .before .before .before .loop .inv) (c .before .before .loop-test .taken) (rw (n .number .ensures) (n .before .before .before .pre)))
 
 add-i : tie.Need-add-i Inv-loop μ-loop
 add-i c = search needs
@@ -38,14 +38,18 @@ loop-less : tie.Need-loop-less Inv-loop μ-loop
 loop-less c = search needs
 
 loop-again : tie.Need-loop-again Inv-loop μ-loop
-loop-again c = written-more _ _ _ _ _ _ _ (c .before .before .before .before .before .before .loop .inv) _ _ (c .before .before .before .before .before .loop-test .taken) (c .before .before .write-own .ensures .0 ∙ ap (λ (x : ℕ). c .before .before .before .before .before .before .loop .pos + length (ownTracks (sheetOf (c .before .before .before .before .before .before .before .before .before .before .args .s .now)) x)) (c .before .before .before .before .entry .ensures)) (c .before .before .write-own .ensures .1 ∙ ap (λ (x : ℕ). sets (c .before .before .before .before .before .before .loop .buffer) (c .before .before .before .before .before .before .loop .pos) (ownTracks (sheetOf (c .before .before .before .before .before .before .before .before .before .before .args .s .now)) x)) (c .before .before .before .before .entry .ensures))
+loop-again c =
+    let w = c .before .before .write-own .ensures in let e = c .before .before .before .before .entry .ensures in
+    let l = c .before .before .before .before .before .before .loop in
+    let s = sheetOf (c .before .before .before .before .before .before .before .before .before .before .args .s .now) in
+    written-more (l .inv) _ _ (c .before .before .before .before .before .loop-test .taken) (w .0 ∙ ap (λ (x : ℕ). l .pos + length (ownTracks s x)) e) (w .1 ∙ ap (λ (x : ℕ). sets (l .buffer) (l .pos) (ownTracks s x)) e)
 
 same-length : tie.Need-same-length Inv-loop μ-loop
-same-length c = same-long _ _ _ _ _ _ _ (c .before .loop .inv)
+same-length c = same-long (c .before .loop .inv)
 
 returns : tie.Need-returns Inv-loop μ-loop
 unfolding childTracks
-returns c = rw (← c .before .before .number .ensures) (written-all _ _ _ _ _ _ _ (c .before .loop .inv) (c .loop-test .left))
+returns c = rw (← c .before .before .number .ensures) (written-all (c .before .loop .inv) (c .loop-test .left))
 
 pub write-children-spec : {M : Type 1} → statement M
 write-children-spec =

@@ -1,9 +1,9 @@
 -- The tracks passed are written, one behind the other. Assumes nothing.
-use Prim.Native.Nat.{ℕ, _-_}
+use Prim.Native.Nat.{ℕ, _-_, _<_}
 use mathlib.Core.Path.{refl, ap}
 use mathlib.Core.List.{[], _∷_}
 use native.Mathlib.Omega.{arith}
-use lib.ListN.{set}
+use lib.ListN.{length, set}
 use Rattle.profile.specs.Counting.{tabulate}
 use Rattle.sheet.specs.Words.{sheetOf}
 use Rattle.profile.specs.Relations.{trackAt}
@@ -28,17 +28,19 @@ loop-holds c = written-none _ _ _ _
 entry-requires : tie.Need-entry-requires Inv-loop μ-loop
 entry-requires c κs = search needs
 
-mul-buffer : tie.Need-mul-buffer Inv-loop μ-loop
+-- there is room for the next track
+room-left : (c : tie.After-entry Inv-loop μ-loop) → c .before .before .loop .pos < length (c .before .before .loop .buffer)
 unfolding ownTracks tabulate
-mul-buffer c = omega (arith, room (λ j. trackAt (sheetOf (c .before .before .before .before .before .before .args .s .now)) (c .before .before .before .before .before .before .args .o) j ∷ []) (c .before .before .before .number .result) (c .before .before .before .before .before .before .args .at) (c .before .before .before .before .before .before .args .buffer .now) (c .before .before .loop .buffer) (c .before .before .loop .pos) (c .before .before .loop .i) (c .before .before .loop .inv) (c .before .loop-test .taken) (rw (c .before .before .before .number .ensures) (c .before .before .before .before .before .before .pre)), same-long (λ j. trackAt (sheetOf (c .before .before .before .before .before .before .args .s .now)) (c .before .before .before .before .before .before .args .o) j ∷ []) (c .before .before .before .number .result) (c .before .before .before .before .before .before .args .at) (c .before .before .before .before .before .before .args .buffer .now) (c .before .before .loop .buffer) (c .before .before .loop .pos) (c .before .before .loop .i) (c .before .before .loop .inv))
+room-left c = let n = c .before .before .before in omega (arith, room (c .before .before .loop .inv) (c .before .loop-test .taken) (rw (n .number .ensures) (n .before .before .before .pre)))
+
+mul-buffer : tie.Need-mul-buffer Inv-loop μ-loop
+mul-buffer c = omega (arith, room-left c, same-long (c .before .before .loop .inv))
 
 slice-write-buffer : tie.Need-slice-write-buffer Inv-loop μ-loop
-unfolding ownTracks tabulate
-slice-write-buffer c = omega (arith, room (λ j. trackAt (sheetOf (c .before .before .before .before .before .before .args .s .now)) (c .before .before .before .before .before .before .args .o) j ∷ []) (c .before .before .before .number .result) (c .before .before .before .before .before .before .args .at) (c .before .before .before .before .before .before .args .buffer .now) (c .before .before .loop .buffer) (c .before .before .loop .pos) (c .before .before .loop .i) (c .before .before .loop .inv) (c .before .loop-test .taken) (rw (c .before .before .before .number .ensures) (c .before .before .before .before .before .before .pre)))
+slice-write-buffer c = omega (arith, room-left c)
 
 add-pos : tie.Need-add-pos Inv-loop μ-loop
-unfolding ownTracks tabulate
-add-pos c = omega (arith, room (λ j. trackAt (sheetOf (c .before .before .before .before .before .before .args .s .now)) (c .before .before .before .before .before .before .args .o) j ∷ []) (c .before .before .before .number .result) (c .before .before .before .before .before .before .args .at) (c .before .before .before .before .before .before .args .buffer .now) (c .before .before .loop .buffer) (c .before .before .loop .pos) (c .before .before .loop .i) (c .before .before .loop .inv) (c .before .loop-test .taken) (rw (c .before .before .before .number .ensures) (c .before .before .before .before .before .before .pre)), same-long (λ j. trackAt (sheetOf (c .before .before .before .before .before .before .args .s .now)) (c .before .before .before .before .before .before .args .o) j ∷ []) (c .before .before .before .number .result) (c .before .before .before .before .before .before .args .at) (c .before .before .before .before .before .before .args .buffer .now) (c .before .before .loop .buffer) (c .before .before .loop .pos) (c .before .before .loop .i) (c .before .before .loop .inv))
+add-pos c = omega (arith, room-left c, same-long (c .before .before .loop .inv))
 
 add-i : tie.Need-add-i Inv-loop μ-loop
 add-i c = search needs
@@ -48,14 +50,14 @@ loop-less c = search needs
 
 loop-again : tie.Need-loop-again Inv-loop μ-loop
 unfolding trackAt
-loop-again c = written-more _ _ _ _ _ _ _ (c .before .before .loop .inv) _ _ (c .before .loop-test .taken) refl (ap (λ (x : ℕ). set (c .before .before .loop .buffer) (c .before .before .loop .pos) x) (c .entry .ensures))
+loop-again c = let l = c .before .before .loop in written-more (l .inv) _ _ (c .before .loop-test .taken) refl (ap (λ (x : ℕ). set (l .buffer) (l .pos) x) (c .entry .ensures))
 
 same-length : tie.Need-same-length Inv-loop μ-loop
-same-length c = same-long _ _ _ _ _ _ _ (c .before .loop .inv)
+same-length c = same-long (c .before .loop .inv)
 
 returns : tie.Need-returns Inv-loop μ-loop
 unfolding ownTracks tabulate
-returns c = rw (← c .before .before .number .ensures) (written-all _ _ _ _ _ _ _ (c .before .loop .inv) (c .loop-test .left))
+returns c = rw (← c .before .before .number .ensures) (written-all (c .before .loop .inv) (c .loop-test .left))
 
 pub write-own-spec : {M : Type 1} → statement M
 write-own-spec =
