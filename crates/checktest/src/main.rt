@@ -1,10 +1,10 @@
 // The proved checker run on stored sheets. Each argument names a file of data/, and gets a line: the name and the verdict. The
 // expected lines, in the file stdout, are those of the second checker in bindings/rust (tools/store-sheets).
 use checker::search::check;
-use console::reading::read_argument;
-use console::reading::write_argument;
 use console::writing::write_verdict;
 use libc::STDOUT_FILENO;
+use text::reading::read_argument;
+use text::reading::write_argument;
 
 // Prints the line of the sheet that an argument names.
 fn check_argument(i: usize) {

@@ -1,14 +1,14 @@
 // The commands of the listening bench, a line each:
 //     programme N | object N | gain N V | offset N V | list | state
 // N is 0 to 65535, V is -32768 to 32767 tenths, or `silence` for a gain. Any other line is unknown.
-use crate::lines::field;
-use crate::lines::field_count;
-use crate::numbers::GainValue;
-use crate::numbers::Number;
-use crate::numbers::Tenths;
-use crate::numbers::gain_value_of;
-use crate::numbers::number_of;
-use crate::numbers::tenths_of;
+use text::lines::field;
+use text::lines::field_count;
+use text::numbers::GainValue;
+use text::numbers::Number;
+use text::numbers::Tenths;
+use text::numbers::gain_value_of;
+use text::numbers::number_of;
+use text::numbers::tenths_of;
 use values::Gain;
 
 pub enum Command {

@@ -3,14 +3,14 @@ use bytes::scan::find;
 use console::bench::obey;
 use console::bench::opened;
 use console::commands::command_of;
-use console::lines::ROOM;
-use console::lines::extend;
-use console::lines::part;
-use console::lines::said;
-use console::reading::read_argument;
 use libc::STDERR_FILENO;
 use libc::STDIN_FILENO;
 use listener::State;
+use text::lines::ROOM;
+use text::lines::extend;
+use text::lines::part;
+use text::lines::said;
+use text::reading::read_argument;
 
 // Where the bench stands: the listener's state, how many bytes of an unfinished line were read, and whether the input goes on.
 struct Bench {

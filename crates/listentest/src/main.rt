@@ -4,11 +4,11 @@ mod scripts;
 mod steps;
 
 use console::answers::say;
-use console::reading::read_argument;
-use console::reading::write_argument;
 use libc::STDERR_FILENO;
 use libc::STDOUT_FILENO;
 use scripts::answer_script;
+use text::reading::read_argument;
+use text::reading::write_argument;
 
 // Runs the script that an argument names on a sheet.
 fn run_script(sheet: &[u8], i: usize) {

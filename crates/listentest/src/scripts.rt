@@ -9,11 +9,11 @@ use console::answers::say_unknown;
 use console::answers::say_words;
 use console::bench::obey;
 use console::bench::opened;
-use console::lines::said;
 use listener::Answer;
 use listener::STATE_OBJECTS;
 use listener::Setting;
 use listener::State;
+use text::lines::said;
 
 // Lists into lent words, and writes the answer with all of them.
 fn list_words(sheet: &[u8], state: State, words: &mut [u16]) {

@@ -2,15 +2,15 @@
 //     open | list N | put programme N | put object I active V W      (or inactive)
 use console::commands::Command;
 use console::commands::command_of;
-use console::lines::field;
-use console::lines::field_count;
-use console::numbers::GainValue;
-use console::numbers::Number;
-use console::numbers::Tenths;
-use console::numbers::gain_value_of;
-use console::numbers::number_of;
-use console::numbers::tenths_of;
 use listener::Setting;
+use text::lines::field;
+use text::lines::field_count;
+use text::numbers::GainValue;
+use text::numbers::Number;
+use text::numbers::Tenths;
+use text::numbers::gain_value_of;
+use text::numbers::number_of;
+use text::numbers::tenths_of;
 
 pub enum Step {
     Bench(Command),

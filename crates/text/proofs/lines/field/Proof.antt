@@ -1,7 +1,7 @@
 -- A turn for each field before the one that is asked for. Assumes nothing.
 use borrow.Author.Needs.{needs}
-use Rattle.console.proofs.lines.field.Statement.{statement}
-use Rattle.console.proofs.lines.field.Tie as tie
+use Rattle.text.proofs.lines.field.Statement.{statement}
+use Rattle.text.proofs.lines.field.Tie as tie
 
 abbrev Inv-loop : tie.InvT-loop
 Inv-loop line k at₀ left₀ at left = Unit {0}

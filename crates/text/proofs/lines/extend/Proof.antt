@@ -2,8 +2,8 @@
 use Prim.Native.Nat.{_-_}
 use lib.ListN.{length}
 use borrow.Author.Needs.{needs}
-use Rattle.console.proofs.lines.extend.Statement.{statement}
-use Rattle.console.proofs.lines.extend.Tie as tie
+use Rattle.text.proofs.lines.extend.Statement.{statement}
+use Rattle.text.proofs.lines.extend.Tie as tie
 
 abbrev Inv-loop : tie.InvT-loop
 Inv-loop line₀ count more n₀ i₀ line n i = Unit {0}

@@ -5,10 +5,10 @@ use mathlib.Core.List.{List, [], _∷_}
 use lib.Dec.{eqb, leb, ltb}
 use lib.IntN.{ℤ, pos, negsuc}
 use lib.ListN.{length, getD, drop}
-use Rattle.console.specs.declared.numbers.Number.{Number}
-use Rattle.console.specs.declared.numbers.Number.the-variants.{Nothing, Of}
-use Rattle.console.specs.declared.numbers.Tenths.{Tenths}
-use Rattle.console.specs.declared.numbers.Tenths.the-variants as tenths
+use Rattle.text.specs.declared.numbers.Number.{Number}
+use Rattle.text.specs.declared.numbers.Number.the-variants.{Nothing, Of}
+use Rattle.text.specs.declared.numbers.Tenths.{Tenths}
+use Rattle.text.specs.declared.numbers.Tenths.the-variants as tenths
 
 -- "0" to "9"
 unfoldable pub isDigit : ℕ → Bool

@@ -4,11 +4,11 @@ use mathlib.Core.Path.{_≡_, sym, _∙_}
 use native.Mathlib.Omega.{arith}
 use borrow.Author.Tests.{not-true, not-false}
 use lib.ListN.{length, drop}
-use Rattle.console.specs.Numbers.{digits, value}
-use Rattle.console.proofs.NumberLaws as laws
+use Rattle.text.specs.Numbers.{digits, value}
+use Rattle.text.proofs.NumberLaws as laws
 use borrow.Author.Needs.{needs}
-use Rattle.console.proofs.numbers.number_of.Statement.{statement}
-use Rattle.console.proofs.numbers.number_of.Tie as tie
+use Rattle.text.proofs.numbers.number_of.Statement.{statement}
+use Rattle.text.proofs.numbers.number_of.Tie as tie
 
 abbrev Inv-loop : tie.InvT-loop
 Inv-loop text n₀ i₀ n i = (i ≤ length text) × (0 < length text) × (n ≤ 65535) × (value n (drop i text) ≡ value 0 text) × (digits (drop i text) ≡ digits text)

@@ -1,7 +1,7 @@
 // Decimal numbers: digits, leading zeros among them, with a minus before them where the number may be negative.
 use values::Gain;
 ghost use mathlib.Core.Path.{_≡_};
-ghost use Rattle.console.specs.Numbers.{isDigit, numberOf, negative, positive, tenthsOf};
+ghost use Rattle.text.specs.Numbers.{isDigit, numberOf, negative, positive, tenthsOf};
 
 // What a field is read as: nothing, where it is no such number.
 pub enum Number {

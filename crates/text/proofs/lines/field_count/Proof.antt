@@ -1,8 +1,8 @@
 -- A turn for each field, 7 at most. Assumes nothing.
 use Prim.Native.Nat.{_-_}
 use borrow.Author.Needs.{needs}
-use Rattle.console.proofs.lines.field_count.Statement.{statement}
-use Rattle.console.proofs.lines.field_count.Tie as tie
+use Rattle.text.proofs.lines.field_count.Statement.{statement}
+use Rattle.text.proofs.lines.field_count.Tie as tie
 
 abbrev Inv-loop : tie.InvT-loop
 Inv-loop line n₀ n = Unit {0}

@@ -1,10 +1,10 @@
 -- By the number's range. Assumes nothing.
 use borrow.Author.Tests.{le-leb, lt-leb}
-use Rattle.console.specs.Numbers.{positive}
+use Rattle.text.specs.Numbers.{positive}
 use borrow.Author.Needs.{needs}
-use Rattle.console.proofs.NumberLaws as laws
-use Rattle.console.proofs.numbers.positive.Statement.{statement}
-use Rattle.console.proofs.numbers.positive.Tie as tie
+use Rattle.text.proofs.NumberLaws as laws
+use Rattle.text.proofs.numbers.positive.Statement.{statement}
+use Rattle.text.proofs.numbers.positive.Tie as tie
 
 enum-told : tie.Need-enum-told
 enum-told c = search needs

@@ -4,8 +4,8 @@ use mathlib.Core.Path.{_≡_}
 use lib.ListN.{length}
 use borrow.Author.Needs.{needs}
 use Rattle.io.proofs.Counting.{counts}
-use Rattle.console.proofs.reading.read_input.Statement.{statement}
-use Rattle.console.proofs.reading.read_input.Tie as tie
+use Rattle.text.proofs.reading.read_input.Statement.{statement}
+use Rattle.text.proofs.reading.read_input.Tie as tie
 
 abbrev Inv-loop : tie.InvT-loop
 Inv-loop fd buffer₀ n₀ buffer n = (length buffer ≡ length buffer₀) × (n ≤ length buffer)

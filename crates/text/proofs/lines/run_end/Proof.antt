@@ -2,8 +2,8 @@
 use Prim.Native.Nat.{_-_}
 use lib.ListN.{length}
 use borrow.Author.Needs.{needs}
-use Rattle.console.proofs.lines.run_end.Statement.{statement}
-use Rattle.console.proofs.lines.run_end.Tie as tie
+use Rattle.text.proofs.lines.run_end.Statement.{statement}
+use Rattle.text.proofs.lines.run_end.Tie as tie
 
 abbrev Inv-loop : tie.InvT-loop
 Inv-loop line from blank i₀ i = Unit {0}

@@ -1,8 +1,8 @@
 -- By the first byte. Assumes nothing.
-use Rattle.console.proofs.NumberLaws as laws
+use Rattle.text.proofs.NumberLaws as laws
 use borrow.Author.Needs.{needs}
-use Rattle.console.proofs.numbers.tenths_of.Statement.{statement}
-use Rattle.console.proofs.numbers.tenths_of.Tie as tie
+use Rattle.text.proofs.numbers.tenths_of.Statement.{statement}
+use Rattle.text.proofs.numbers.tenths_of.Tie as tie
 
 returns : tie.Need-returns
 returns c = laws.nothing _ (c .if1 .taken)

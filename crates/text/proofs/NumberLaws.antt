@@ -12,9 +12,9 @@ use lib.ListN.{length, getD, take, drop, length-drop}
 use mir.Syntax.{w16}
 use mir.Val.{toZ}
 use lib.Seq.{drop-cons, drop-length, take-all}
-use Rattle.console.specs.declared.numbers.Number.the-variants.{Nothing, Of}
-use Rattle.console.specs.declared.numbers.Tenths.the-variants as tenths
-use Rattle.console.specs.Numbers.{isDigit, digits, value, numberOf, minus, positive, negative, tenthsOf}
+use Rattle.text.specs.declared.numbers.Number.the-variants.{Nothing, Of}
+use Rattle.text.specs.declared.numbers.Tenths.the-variants as tenths
+use Rattle.text.specs.Numbers.{isDigit, digits, value, numberOf, minus, positive, negative, tenthsOf}
 
 both : (a b : Bool) → (a && b) ≡ true → (a ≡ true) × (b ≡ true)
 both true b h = (refl, h)
