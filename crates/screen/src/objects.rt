@@ -71,12 +71,11 @@ fn exceeding(s: &[u8], column: u8, n: u16) -> bool
     exceeds(s, column, n as u64)
 }
 
-// Whether the list or span at a position of a record ends beyond a section of so many records, or is above a limit.
-fn list_breaks(s: &[u8], many: u16, at: u32, position: u8, column: u8) -> bool
-    ensures { λ r. ⌜ r ≡ (ltb many (word (sheetOf (now (s .entry))) (at + position) + word (sheetOf (now (s .entry))) (at + (position + 1))) || exceeds (sheetOf (now (s .entry))) column (word (sheetOf (now (s .entry))) (at + (position + 1)))) ⌝ }
+// Whether a list or span of n ends beyond a section of so many records, or is above a limit.
+fn list_breaks(s: &[u8], many: u16, first: u16, n: u16, column: u8) -> bool
+    ensures { λ r. ⌜ r ≡ (ltb many (first + n) || exceeds (sheetOf (now (s .entry))) column n) ⌝ }
 {
-    let n = number_at(s, at, position);
-    beyond(many, word_at(s, at, position), n) | exceeding(s, column, n)
+    beyond(many, first, n) | exceeding(s, column, n)
 }
 
 // Whether a list or the span of an object, whose words begin at an index, may break rule 4 or 8.
@@ -92,13 +91,31 @@ fn object_lists_break(s: &[u8], at: u32, o: u16) -> bool
     ) {
         return true;
     }
-    if list_breaks(s, many, at, CHILD_LIST, CHILDREN_LIMIT) {
+    if list_breaks(
+        s,
+        many,
+        word_at(s, at, CHILD_LIST),
+        number_at(s, at, CHILD_LIST),
+        CHILDREN_LIMIT,
+    ) {
         return true;
     }
-    if list_breaks(s, many, at, COMPLEMENT_LIST, COMPLEMENTS_LIMIT) {
+    if list_breaks(
+        s,
+        many,
+        word_at(s, at, COMPLEMENT_LIST),
+        number_at(s, at, COMPLEMENT_LIST),
+        COMPLEMENTS_LIMIT,
+    ) {
         return true;
     }
-    list_breaks(s, count(s, VALUE_SETS), at, SET_SPAN, SPAN_LIMIT)
+    list_breaks(
+        s,
+        count(s, VALUE_SETS),
+        word_at(s, at, SET_SPAN),
+        number_at(s, at, SET_SPAN),
+        SPAN_LIMIT,
+    )
 }
 
 // Whether a pack is one of kind 3 with front 1.

@@ -3,12 +3,6 @@ use borrow.Author.Needs.{needs}
 use Rattle.screen.proofs.objects.list_breaks.Statement.{statement}
 use Rattle.screen.proofs.objects.list_breaks.Tie as tie
 
-number-at-requires : tie.Need-number-at-requires
-number-at-requires c κs = search needs
-
-word-at-requires : tie.Need-word-at-requires
-word-at-requires c κs = search needs
-
 beyond-requires : tie.Need-beyond-requires
 beyond-requires c κs = search needs
 
@@ -16,9 +10,7 @@ exceeding-requires : tie.Need-exceeding-requires
 exceeding-requires c κs = search needs
 
 returns : tie.Need-returns
-returns c = simp (c .exceeding .ensures, c .before .beyond .ensures, c .before .before .word-at .ensures, c .before .before .before .number-at .ensures)
+returns c = simp (c .exceeding .ensures, c .before .beyond .ensures)
 
 pub list-breaks-spec : {M : Type 1} → statement M
-list-breaks-spec =
-    tie.close
-    (tie.spec number-at-requires word-at-requires beyond-requires exceeding-requires returns)
+list-breaks-spec = tie.close (tie.spec beyond-requires exceeding-requires returns)
