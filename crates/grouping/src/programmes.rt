@@ -43,7 +43,10 @@ fn same_list(s: &[u8], p: u16, q: u16, at: u8) -> bool
 fn same_lists(s: &[u8], both: bool, p: u16, q: u16) -> bool
     ensures { λ r. ⌜ r ≡ sameLists (sheetOf (now (s .entry))) both p q ⌝ }
 {
-    same_list(s, p, q, CONTENT_LIST) & (!both | same_list(s, p, q, SET_LIST))
+    if !same_list(s, p, q, CONTENT_LIST) {
+        return false;
+    }
+    !both | same_list(s, p, q, SET_LIST)
 }
 
 // The first programme after p that has not the lists of the one before it, n where there is none: up to there all keep what p keeps.
