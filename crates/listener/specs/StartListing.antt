@@ -9,7 +9,7 @@ use Rattle.listener.specs.declared.Answer.{Answer}
 use Rattle.listener.specs.declared.Listing.{Listing}
 use Rattle.listener.specs.Programme.{started}
 use Rattle.listener.specs.Calls.{answerBy, notOpen, noProgramme}
-use Rattle.listener.specs.Listing.{Entry, entries, listedTracks, tooFewWords, listedBy, bufferedBy}
+use Rattle.listener.specs.Listing.{entries, listedTracks, tooFewWords, listedBy, bufferedBy}
 
 -- what the listing of a programme's start writes
 unfoldable pub startTracks : Sheet → ℕ → List ℕ

@@ -30,7 +30,7 @@ use tables::reads::leader_by;
 use tables::reads::names_set_by;
 use tables::reads::owner_by;
 use tables::reads::top_by;
-ghost use Prim.Native.Nat.{_*_, _≤_};
+ghost use Prim.Native.Nat.{_≤_};
 ghost use lib.Dec.{ltb};
 ghost use mathlib.Core.Path.{_≡_};
 ghost use Rattle.profile.specs.Rules.{badComplement, differs, setsDiffer};

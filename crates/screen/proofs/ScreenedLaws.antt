@@ -1,19 +1,19 @@
 -- A sheet that passes the screening is accepted. Assumes nothing.
-use Prim.Native.Nat.{ℕ, zero, suc, _+_, _-_, _<_, _≤_}
-use mathlib.Core.Path.{_≡_, refl, sym, ap, _∙_}
-use mathlib.Core.Bool.{Bool, true, false, not, cond, true≢false, _&&_, _||_}
+use Prim.Native.Nat.{ℕ, _+_, _-_, _<_, _≤_}
+use mathlib.Core.Path.{_≡_, refl, _∙_}
+use mathlib.Core.Bool.{Bool, true, false, _||_}
 use native.Mathlib.Omega.{arith}
 use lib.Dec.{eqb, leb, ltb}
-use borrow.Author.Tests.{eqb-true, ltb-true, leb-true, eq-eqb, not-false}
+use borrow.Author.Tests.{eqb-true, ltb-true, leb-true, not-false}
 use Rattle.sheet.specs.Words.{Sheet}
-use Rattle.sheet.specs.Layout.{count, start, field, first, number}
-use Rattle.sheet.specs.Fields.{programmes, contents, objects, packs, tracks, references, valueSets, contentList, setSpan}
+use Rattle.sheet.specs.Layout.{count, start, first, number}
+use Rattle.sheet.specs.Fields.{programmes, contents, objects, packs, tracks, valueSets, contentList, setSpan}
 use Rattle.profile.specs.Counting.{any, howMany, lowest}
 use Rattle.profile.specs.Relations.{hasSet, owner}
 use Rattle.profile.specs.Rules.{badObject, badPack, rule1, rule2, rule3, rule4, rule5, rule6, rule7, rule8, rule9, rule10, rule11, rule12, rule13, rule14, rule15, rule16, rule17, rule18, rule19, rule20, rule21, rule22, rule23, rule24, repeats}
 use Rattle.profile.specs.Verdict.{verdict, rules, ruleCount, ruleAt, numberAt, breaks, subjects, subjectKind, ruleBroken}
 use Rattle.profile.specs.declared.Verdict.the-variants.{Accepted}
-use Rattle.profile.proofs.BoolLaws.{or-false, or-none, or-none-3, or-none-4, and-both}
+use Rattle.profile.proofs.BoolLaws.{or-none, or-none-4, and-both}
 use Rattle.profile.proofs.CountingLaws.{any-none, any-howMany, finds, lowest-holds}
 use Rattle.profile.proofs.SumLaws.{any-nowhere}
 use Rattle.profile.proofs.GroupLaws.{any-witness}

@@ -58,7 +58,7 @@ ghost use Rattle.profile.specs.Rules.{rule15};
 ghost use Rattle.screen.specs.steps.Objects.{childrenBroken, gainsBroken, isFront, isPlain, objectBroken, objectGains, objectListsBroken, objectOffsets, objectValues, offsetsBroken, restKept, sourceKept, tracksBroken, valuesBroken};
 ghost use Rattle.sheet.specs.Fields.{objects};
 ghost use Rattle.sheet.specs.Layout.{start};
-ghost use Rattle.sheet.specs.Words.{sheetOf, word};
+ghost use Rattle.sheet.specs.Words.{sheetOf};
 ghost use Rattle.tables.specs.steps.Right.{Complemented, Named, Tops};
 
 // Whether a list or span of so many entries is above a limit.

@@ -23,7 +23,7 @@ use sheet::fields::TRACK_PACK;
 use sheet::fields::TRACKS;
 use sheet::layout::count;
 use sheet::layout::field;
-ghost use Prim.Native.Nat.{ℕ, _<_};
+ghost use Prim.Native.Nat.{_<_};
 ghost use lib.Dec.{eqb};
 ghost use lib.ListN.{getD, length};
 ghost use mathlib.Core.Bool.{false, true, _||_};

@@ -1,7 +1,7 @@
 // Sections, records and lists.
 use crate::fields::REFERENCES;
 use crate::words::word;
-ghost use Prim.Native.Nat.{_*_, _+_, _<_, _≤_};
+ghost use Prim.Native.Nat.{_*_, _+_, _<_};
 ghost use mathlib.Core.Path.{_≡_};
 ghost use Rattle.sheet.specs.Layout.{count, edition, end, entry, field, level, number, offset, recordWords, reference, start};
 ghost use Rattle.sheet.specs.Words.{sheetOf};

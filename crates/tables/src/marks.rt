@@ -17,7 +17,7 @@ use sheet::layout::field;
 use sheet::layout::number;
 use sheet::layout::offset;
 use sheet::words::word;
-ghost use Prim.Native.Nat.{ℕ, _+_, _≤_};
+ghost use Prim.Native.Nat.{_+_};
 ghost use lib.Dec.{eqb};
 ghost use lib.ListN.{getD, length};
 ghost use mathlib.Core.Bool.{cond};

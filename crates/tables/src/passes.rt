@@ -23,7 +23,7 @@ ghost use Rattle.tables.specs.steps.Namings.{items};
 ghost use Rattle.tables.specs.steps.Marks.{MarkedTimes, NamingsCounted, timesBy};
 ghost use Rattle.tables.specs.steps.Passes.{ListsCounted, TopsCounted};
 ghost use Rattle.tables.specs.declared.Mark.the-variants.{Count, First};
-ghost use Rattle.tables.specs.declared.Naming.the-variants.{ContentLists, ContentObjects};
+ghost use Rattle.tables.specs.declared.Naming.the-variants.{ContentLists};
 
 // Marks the n records that a record names, mostly none.
 fn mark_some(s: &[u8], kind: Naming, q: u16, n: u16, mark: Mark, table: &mut [u16])

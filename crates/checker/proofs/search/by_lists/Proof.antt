@@ -1,8 +1,6 @@
 -- The tables are right. Assumes nothing.
 use native.Mathlib.Omega.{arith}
-use Rattle.sheet.specs.Words.{sheetOf}
 use Rattle.tables.proofs.MarkLaws.{nought}
-use Rattle.checker.specs.steps.Tables.{Right, firstTable, secondTable}
 use borrow.Author.Needs.{needs}
 use Rattle.checker.proofs.search.by_lists.Statement.{statement}
 use Rattle.checker.proofs.search.by_lists.Tie as tie

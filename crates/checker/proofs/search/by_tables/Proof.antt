@@ -1,10 +1,8 @@
 -- The tables are right. Assumes nothing.
 use mathlib.Core.Path.{sym}
 use native.Mathlib.Omega.{arith}
-use Rattle.sheet.specs.Words.{sheetOf}
 use Rattle.profile.proofs.CountingLaws.{lowest-none}
 use Rattle.tables.proofs.MarkLaws.{nought}
-use Rattle.checker.specs.steps.Tables.{Right, firstTable, secondTable}
 use borrow.Author.Needs.{needs}
 use Rattle.checker.proofs.search.by_tables.Statement.{statement}
 use Rattle.checker.proofs.search.by_tables.Tie as tie

@@ -1,5 +1,5 @@
 -- What passes is accepted. Assumes nothing.
-use mathlib.Core.Path.{_≡_, sym}
+use mathlib.Core.Path.{sym}
 use Rattle.checker.specs.Checked.{checked}
 use borrow.Author.Needs.{needs}
 use Rattle.checker.proofs.search.sized_verdict.Statement.{statement}

@@ -1,5 +1,4 @@
 -- By the digit. Assumes nothing.
-use mathlib.Core.Path.{sym}
 use Rattle.checker.specs.steps.Rows.{subjectsOf}
 use Rattle.checker.proofs.SubjectLaws.{other-kind}
 use borrow.Author.Needs.{needs}

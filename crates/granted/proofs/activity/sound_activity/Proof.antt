@@ -1,5 +1,5 @@
 -- One of a whole group, or the object itself. Assumes nothing.
-use mathlib.Core.Path.{_≡_, refl, sym, ap, _∙_}
+use mathlib.Core.Path.{sym, _∙_}
 use Rattle.granted.specs.steps.Flags.{flaggedActivity}
 use borrow.Author.Needs.{needs}
 use Rattle.granted.proofs.activity.sound_activity.Statement.{statement}

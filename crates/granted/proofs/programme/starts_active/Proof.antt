@@ -1,5 +1,4 @@
 -- By the tables. Assumes nothing.
-use mathlib.Core.Path.{_≡_, refl, sym, ap, _∙_}
 use Rattle.granted.specs.Granted.{startsActive}
 use borrow.Author.Needs.{needs}
 use Rattle.granted.proofs.programme.starts_active.Statement.{statement}

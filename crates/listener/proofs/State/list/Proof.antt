@@ -1,5 +1,5 @@
 -- The machine's listing: answer, number and every word. Assumes nothing.
-use mathlib.Core.Path.{_≡_, sym, ap, _∙_}
+use mathlib.Core.Path.{sym, ap, _∙_}
 use lib.ListN.{length}
 use lib.Seq.{length-sets}
 use Rattle.sheet.specs.Words.{sheetOf}

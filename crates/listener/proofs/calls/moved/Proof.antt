@@ -1,6 +1,6 @@
 -- The settings so far are those of the objects passed, by the table of leaders. Assumes nothing.
 use Prim.Native.Nat.{_-_, _≤_}
-use mathlib.Core.Path.{_≡_, refl, ap, _∙_}
+use mathlib.Core.Path.{refl, ap, _∙_}
 use borrow.Author.Count.{below-none}
 use borrow.Author.Needs.{needs}
 use Rattle.sheet.specs.Words.{sheetOf}

@@ -1,5 +1,5 @@
 -- Moved in the group, kept elsewhere. Assumes nothing.
-use mathlib.Core.Path.{_≡_, refl, sym, ap, _∙_}
+use mathlib.Core.Path.{_≡_, sym, _∙_}
 use mir.Val.{toZ, ofZ}
 use mir.Syntax.{w16}
 use borrow.Author.Tests.{eq-eqb, ne-eqb}

@@ -1,5 +1,5 @@
 -- After 25 and 26, which are asked first. Assumes nothing.
-use mathlib.Core.Path.{_≡_, refl, sym, ap, _∙_}
+use mathlib.Core.Path.{sym, _∙_}
 use Rattle.sheet.specs.Words.{sheetOf}
 use Rattle.listener.specs.declared.Refusal.{Refusal}
 use Rattle.listener.specs.declared.Answer.the-variants.{Done, Refused}

@@ -1,5 +1,5 @@
 -- A resting setting for each object. Assumes nothing.
-use Rattle.listener.specs.State.{stateObjects, restingState}
+use Rattle.listener.specs.State.{restingState}
 use borrow.Author.Needs.{needs}
 use Rattle.listener.proofs.calls.resting_state.Statement.{statement}
 use Rattle.listener.proofs.calls.resting_state.Tie as tie

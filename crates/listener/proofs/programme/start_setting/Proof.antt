@@ -1,5 +1,5 @@
 -- An included object's start values, or rest. Assumes nothing.
-use mathlib.Core.Path.{_≡_, refl, sym, ap, _∙_}
+use mathlib.Core.Path.{sym, _∙_}
 use Rattle.values.proofs.Signs.{kept}
 use Rattle.listener.specs.Programme.{startSetting}
 use borrow.Author.Needs.{needs}

@@ -1,8 +1,8 @@
 -- The objects passed are written, one behind the other. Assumes nothing.
-use Prim.Native.Nat.{ℕ, _-_, _+_}
-use mathlib.Core.Path.{_≡_, refl, sym, ap, _∙_}
+use Prim.Native.Nat.{_-_, _+_}
+use mathlib.Core.Path.{ap, _∙_}
 use mathlib.Core.Bool.{Bool, cond}
-use mathlib.Core.List.{List, []}
+use mathlib.Core.List.{[]}
 use lib.ListN.{length}
 use lib.Seq.{sets}
 use native.Mathlib.Nat.{zero-add}

@@ -1,5 +1,5 @@
 -- The tracks of an active object, nothing else. Assumes nothing.
-use mathlib.Core.Path.{_≡_, refl, sym, ap, _∙_}
+use mathlib.Core.Path.{refl, ap, _∙_}
 use lib.ListN.{length}
 use lib.Seq.{length-sets}
 use borrow.Author.Needs.{needs}
