@@ -187,12 +187,12 @@ fn first_broken(sheet: &[u8]) -> Verdict
     Verdict::Accepted
 }
 
-// The verdict by the screening with tables of a size, or else by the search. It is called from several places, so that the compiler
+// The verdict by the screening with the tables of a number, or else by the search. It is called from several places, so that the compiler
 // keeps it apart and a small sheet does not pay for its tables (docs/SPEED.md).
-fn sized_verdict(sheet: &[u8], size: u8) -> Verdict
+fn sized_verdict(sheet: &[u8], tables: u8) -> Verdict
     ensures { λ r. ⌜ r ≡ checked (now (sheet .entry)) ⌝ }
 {
-    if passes(sheet, size) {
+    if passes(sheet, tables) {
         return Verdict::Accepted;
     }
     first_broken(sheet)

@@ -26,7 +26,7 @@ ghost use mathlib.Core.Bool.{false, true};
 ghost use mathlib.Core.Path.{_≡_};
 ghost use Rattle.profile.specs.Verdict.{verdict};
 ghost use Rattle.profile.specs.declared.Verdict.the-variants.{Accepted};
-ghost use Rattle.screen.specs.steps.Screened.{Filled, Noughts, RecordsAndTotalsKept, RecordsTabled, headerBroken};
+ghost use Rattle.screen.specs.steps.Screened.{TablesFilled, Noughts, RecordsAndTotalsKept, RecordsTabled, headerBroken};
 ghost use Rattle.sheet.specs.Words.{sheetOf};
 ghost use Rattle.tables.specs.steps.Right.{Spanned};
 
@@ -48,7 +48,7 @@ fn entries(s: &[u8], section: u8, k: u16) -> u32
 
 // The lists of a section that have more entries together, twice as many as section 6 can have, are left to the search: where many records
 // share long lists, walking them takes too long, and for nothing where the sheet doesn't pass.
-const MOST_ENTRIES: u32 = 65536;
+const MANY_ENTRIES: u32 = 65536;
 
 // Whether a section's lists have few entries together, as they have in a short sheet. Nothing rests on this but time.
 fn few_entries(s: &[u8], section: u8) -> bool {
@@ -56,7 +56,7 @@ fn few_entries(s: &[u8], section: u8) -> bool {
         return true;
     }
     let n = count(s, section);
-    let mut left = MOST_ENTRIES;
+    let mut left = MANY_ENTRIES;
     let mut k: u16 = 0;
     while k < n {
         let e = entries(s, section, k);
@@ -93,7 +93,7 @@ fn fill_tables(
     owners: &mut [u16],
 )
     requires { ⌜ Noughts (now named) (now spanned) (now listed) (now tops) (now complements) (now owners) ⌝ }
-    ensures { λ r. ⌜ Filled (sheetOf (now (s .entry))) (now (named .entry)) (now (spanned .entry)) (now (listed .entry)) (now (tops .entry)) (now (complements .entry)) (now (owners .entry)) (now (named .exit)) (now (spanned .exit)) (now (listed .exit)) (now (tops .exit)) (now (complements .exit)) (now (owners .exit)) ⌝ }
+    ensures { λ r. ⌜ TablesFilled (sheetOf (now (s .entry))) (now (named .entry)) (now (spanned .entry)) (now (listed .entry)) (now (tops .entry)) (now (complements .entry)) (now (owners .entry)) (now (named .exit)) (now (spanned .exit)) (now (listed .exit)) (now (tops .exit)) (now (complements .exit)) (now (owners .exit)) ⌝ }
 {
     count_tops(s, tops, named);
     count_lists(s, named, complements, spanned, owners);

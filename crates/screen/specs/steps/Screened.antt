@@ -93,7 +93,7 @@ pub record Noughts (named spanned listed tops complements owners : List ℕ) : T
   pub owners-nought : Standing (λ x. 0) owners
 
 -- they are filled: as long as before, and right
-pub record Filled (s : Sheet) (named₀ spanned₀ listed₀ tops₀ complements₀ owners₀ named spanned listed tops complements owners : List ℕ) : Type 0 where
+pub record TablesFilled (s : Sheet) (named₀ spanned₀ listed₀ tops₀ complements₀ owners₀ named spanned listed tops complements owners : List ℕ) : Type 0 where
   pub named-long : length named ≡ length named₀
   pub spanned-long : length spanned ≡ length spanned₀
   pub listed-long : length listed ≡ length listed₀
