@@ -2,8 +2,6 @@
 use crate::Named;
 use crate::Range;
 use crate::included::in_whole_group_by;
-use relations::groups::leader_of;
-use relations::groups::wholly_included;
 use relations::objects::leader;
 use relations::programmes::named_set;
 use relations::sets::effective_maximum;
@@ -110,8 +108,9 @@ pub fn granted_range(s: &[u8], p: u16, o: u16, sort: Sort) -> Range
 pub fn in_whole_group(s: &[u8], p: u16, o: u16) -> bool
     ensures { λ r. ⌜ r ≡ inWholeGroup (sheetOf (now (s .entry))) p o ⌝ }
 {
-    let l = leader_of(s, o);
-    leader(s, l) & wholly_included(s, p, l)
+    let none: [u16; 1] = [0];
+    let t = &none[..0];
+    in_whole_group_by(s, p, t, t, o)
 }
 
 // "Active are included objects, but of a wholly included group the leader only."

@@ -21,7 +21,8 @@ use Rattle.listener.specs.declared.Setting.{Setting}
 use Rattle.listener.specs.declared.State.{State}
 use Rattle.listener.specs.State.{stateObjects, blank, setting, active}
 use Rattle.listener.specs.Sound.{activeMembers, soundActivity, soundAt}
-use Rattle.granted.specs.steps.Flags.{flagged, flaggedMembers, flaggedActivity}
+use Rattle.granted.specs.steps.Flags.{flaggedMembers, flaggedActivity}
+use Rattle.tables.specs.steps.Members.{flagged}
 use Rattle.listener.specs.steps.Settings.{flaggedSound}
 
 -- a pass over a table of noughts

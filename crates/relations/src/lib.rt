@@ -42,11 +42,3 @@ pub enum RecordTest {
     // a programme whose contents have this content
     HasContent(u16),
 }
-
-// What a member of a group is tested for.
-pub enum MemberTest {
-    // this programme includes it
-    IncludedIn(u16),
-    // this programme names a set for it
-    SetIn(u16),
-}

@@ -3,11 +3,8 @@ use crate::GroupTest;
 use crate::PairTest;
 use crate::TabledTest;
 use relations::EntryTest;
-use relations::MemberTest;
 use relations::entries::how_many_entries;
-use relations::entries::one;
 use relations::entries::times;
-use relations::groups::member;
 use relations::groups::members;
 use relations::objects::channels;
 use relations::objects::kind;
@@ -25,17 +22,17 @@ use sheet::layout::field;
 use sheet::layout::number;
 use sheet::layout::reference;
 use sheet::layout::wide_field;
+use tables::MemberTest;
+use tables::members::members_passing;
 use tables::reads::included_by;
 use tables::reads::leader_by;
-use tables::reads::names_set_by;
 use tables::reads::owner_by;
 use tables::reads::top_by;
 ghost use Prim.Native.Nat.{_≤_};
 ghost use lib.Dec.{ltb};
 ghost use mathlib.Core.Path.{_≡_};
 ghost use Rattle.profile.specs.Rules.{badComplement, differs, setsDiffer};
-ghost use Rattle.relations.specs.steps.Tests.{howManyMembers, memberTest};
-ghost use Rattle.rules.specs.steps.Loops.{anyGroup, anyTabled, badChannel, earlierEntry, fieldsDiffer, groupRight, groupTest, tabledRight, tabledTest, memberRight, ownSet, pairRight, pairTest, totalTimes, twoEntries};
+ghost use Rattle.rules.specs.steps.Loops.{anyGroup, anyTabled, badChannel, earlierEntry, fieldsDiffer, groupRight, groupTest, tabledRight, tabledTest, ownSet, pairRight, pairTest, totalTimes, twoEntries};
 ghost use Rattle.sheet.specs.Fields.{complementList};
 ghost use Rattle.sheet.specs.Words.{sheetOf};
 ghost use Rattle.tables.specs.steps.Right.{Complemented, Included, Tops};
@@ -189,30 +186,6 @@ pub fn two_entries(
     while j < n {
         found = found | earlier_entry(s, owners, leaders, first, test, j);
         j += 1;
-    }
-    found
-}
-
-// Whether a member passes the test, with the table that the test reads.
-fn member_passes(s: &[u8], marks: &[u16], test: MemberTest, o: u16) -> bool
-    ensures { λ r. ⌜ (memberRight (sheetOf (now (s .entry))) test (now (marks .entry)) → r ≡ memberTest (sheetOf (now (s .entry))) test o) ⌝ }
-{
-    match test {
-        MemberTest::IncludedIn(p) => included_by(s, p, marks, o),
-        MemberTest::SetIn(p) => names_set_by(s, p, marks, o),
-    }
-}
-
-// How many members of a leader's group pass the test.
-fn members_passing(s: &[u8], marks: &[u16], test: MemberTest, l: u16) -> u32
-    ensures { λ r. ⌜ (memberRight (sheetOf (now (s .entry))) test (now (marks .entry)) → r ≡ howManyMembers (sheetOf (now (s .entry))) l test) ⌝ }
-{
-    let n = members(s, l);
-    let mut found: u32 = 0;
-    let mut i: u32 = 0;
-    while i < n {
-        found += one(member_passes(s, marks, test, member(s, l, i as u16))) as u32;
-        i += 1;
     }
     found
 }

@@ -5,3 +5,4 @@ pub mod Marks
 pub mod Passes
 pub mod Right
 pub mod Coverage
+pub mod Members

@@ -3,6 +3,7 @@
 pub mod coverage;
 pub mod entry_counts;
 pub mod marks;
+pub mod members;
 pub mod namings;
 pub mod passes;
 pub mod reads;
@@ -34,4 +35,14 @@ pub enum Mark {
     Store(u16),
     // this number is written there, where 0 stands
     First(u16),
+}
+
+// What a member of a group is tested for.
+pub enum MemberTest {
+    // this programme includes it
+    IncludedIn(u16),
+    // this programme names a set for it
+    SetIn(u16),
+    // it is flagged
+    Flagged,
 }

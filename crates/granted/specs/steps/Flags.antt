@@ -7,11 +7,8 @@ use lib.ListN.{getD}
 use Rattle.sheet.specs.Words.{Sheet}
 use Rattle.profile.specs.Counting.{howMany}
 use Rattle.profile.specs.Relations.{member, members, leaderOf}
+use Rattle.tables.specs.steps.Members.{flagged}
 use Rattle.granted.specs.Granted.{inWholeGroup}
-
--- an object's flag, none past the table's end
-unfoldable pub flagged : List ℕ → ℕ → Bool
-flagged t o = not (eqb (getD t o 0) 0)
 
 -- how many members of a leader's group are flagged
 unfoldable pub flaggedMembers : Sheet → List ℕ → ℕ → ℕ

@@ -12,8 +12,6 @@ use Rattle.relations.specs.declared.EntryTest.{EntryTest}
 use Rattle.relations.specs.declared.EntryTest.the-variants.{Is, Lacks, NoObjectsPack, OtherPack, Ordinal, OrdinalPast, SetOf}
 use Rattle.relations.specs.declared.RecordTest.{RecordTest}
 use Rattle.relations.specs.declared.RecordTest.the-variants.{Names, ObjectsPack, Leader, LeaderOf, OwnerOf, HasContent}
-use Rattle.relations.specs.declared.MemberTest.{MemberTest}
-use Rattle.relations.specs.declared.MemberTest.the-variants.{IncludedIn, SetIn}
 
 -- an entry passes the test
 abbrev pub entryTest : Sheet → EntryTest → ℕ → Bool
@@ -53,12 +51,3 @@ anyRecord s section test = any (recordTest s test) (count s section)
 -- the first that does, or the number of records
 unfoldable pub lowestRecord : Sheet → ℕ → RecordTest → ℕ
 lowestRecord s section test = lowest (recordTest s test) (count s section)
-
--- a member of a group passes the test
-abbrev pub memberTest : Sheet → MemberTest → ℕ → Bool
-memberTest s (IncludedIn p) o = includes s p o
-memberTest s (SetIn p) o = namesSet s p o
-
--- how many members of a leader's group pass it
-unfoldable pub howManyMembers : Sheet → ℕ → MemberTest → ℕ
-howManyMembers s l test = howMany (λ i. memberTest s test (member s l i)) (members s l)

@@ -10,8 +10,6 @@ use Rattle.profile.specs.Counting.{any, howMany, sum, twoOf}
 use Rattle.profile.specs.Relations.{times, leader, leaderOf, members, includes, included, whollyIncluded, owner, channels, trackAt}
 use Rattle.profile.specs.Rules.{badComplement, differs, setsNamed, setsDiffer}
 use Rattle.tables.specs.steps.Right.{Tops, Complemented, Leaders, Owners, Included, NamedSets}
-use Rattle.relations.specs.declared.MemberTest.{MemberTest}
-use Rattle.relations.specs.declared.MemberTest.the-variants.{IncludedIn, SetIn}
 use Rattle.rules.specs.declared.Key.{Key}
 use Rattle.rules.specs.declared.Key.the-variants.{Entry, Owner, Ordinal}
 use Rattle.rules.specs.declared.PairTest.{PairTest}
@@ -89,11 +87,7 @@ abbrev pub groupTest : Sheet → ℕ → GroupTest → ℕ → Bool
 groupTest s p Split l = leader s l && not (eqb (included s p l) 0) && not (eqb (included s p l) 1) && not (whollyIncluded s p l)
 groupTest s p PartlySet l = leader s l && whollyIncluded s p l && not (eqb (setsNamed s p l) 0) && not (eqb (setsNamed s p l) (members s l))
 
--- the tables that the tests of members and groups read are right
-abbrev pub memberRight : Sheet → MemberTest → List ℕ → Type 0
-memberRight s (IncludedIn p) marks = Included s p marks
-memberRight s (SetIn p) sets = NamedSets s p sets
-
+-- the table of sets that the test reads is right
 abbrev pub groupRight : Sheet → ℕ → GroupTest → List ℕ → Type 0
 groupRight s p Split sets = Unit {0}
 groupRight s p PartlySet sets = NamedSets s p sets

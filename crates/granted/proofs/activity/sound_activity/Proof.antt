@@ -1,6 +1,7 @@
 -- One of a whole group, or the object itself. Assumes nothing.
 use mathlib.Core.Path.{sym, _∙_}
-use Rattle.granted.specs.steps.Flags.{flaggedActivity}
+use Rattle.granted.specs.steps.Flags.{flaggedActivity, flaggedMembers}
+use Rattle.tables.specs.steps.Members.{howManyMembers}
 use borrow.Author.Needs.{needs}
 use Rattle.granted.proofs.activity.sound_activity.Statement.{statement}
 use Rattle.granted.proofs.activity.sound_activity.Tie as tie
@@ -11,15 +12,15 @@ in-whole-group-by-requires c κs = search needs
 leader-by-requires : tie.Need-leader-by-requires
 leader-by-requires c κs = search needs
 
-flagged-members-requires : tie.Need-flagged-members-requires
-flagged-members-requires c κs = search needs
+members-passing-requires : tie.Need-members-passing-requires
+members-passing-requires c κs = search needs
 
 flagged-requires : tie.Need-flagged-requires
 flagged-requires c κs = search needs
 
 returns : tie.Need-returns
-unfolding flaggedActivity
-returns c = λ led right. simp (sym (c .before .before .before .in-whole-group-by .ensures led right) ∙ c .before .before .if1 .taken, c .flagged-members .ensures, c .before .leader-by .ensures led)
+unfolding flaggedActivity flaggedMembers howManyMembers
+returns c = λ led right. simp (sym (c .before .before .before .in-whole-group-by .ensures led right) ∙ c .before .before .if1 .taken, c .members-passing .ensures tt, c .before .leader-by .ensures led)
 
 returns-2 : tie.Need-returns-2
 unfolding flaggedActivity
@@ -31,7 +32,7 @@ sound-activity-spec =
     (tie.spec
     in-whole-group-by-requires
     leader-by-requires
-    flagged-members-requires
+    members-passing-requires
     flagged-requires
     returns
     returns-2)

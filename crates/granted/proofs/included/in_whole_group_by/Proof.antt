@@ -1,6 +1,7 @@
 -- The leader by the table, its members by the marks. Assumes nothing.
 use mathlib.Core.Path.{sym, _∙_}
-use Rattle.profile.specs.Relations.{whollyIncluded}
+use Rattle.profile.specs.Relations.{included, whollyIncluded}
+use Rattle.tables.specs.steps.Members.{howManyMembers}
 use Rattle.granted.specs.Granted.{inWholeGroup}
 use borrow.Author.Needs.{needs}
 use Rattle.granted.proofs.included.in_whole_group_by.Statement.{statement}
@@ -12,15 +13,15 @@ leader-by-requires c κs = search needs
 leader-requires : tie.Need-leader-requires
 leader-requires c κs = search needs
 
-included-members-requires : tie.Need-included-members-requires
-included-members-requires c κs = search needs
+members-passing-requires : tie.Need-members-passing-requires
+members-passing-requires c κs = search needs
 
 members-requires : tie.Need-members-requires
 members-requires c κs = search needs
 
 returns : tie.Need-returns
-unfolding inWholeGroup whollyIncluded
-returns c = λ led right. simp (sym (c .before .before .before .leader .ensures) ∙ c .before .before .if1 .taken, c .before .included-members .ensures right, c .members .ensures .0, sym (c .before .before .before .before .leader-by .ensures led))
+unfolding inWholeGroup whollyIncluded included howManyMembers
+returns c = λ led right. simp (sym (c .before .before .before .leader .ensures) ∙ c .before .before .if1 .taken, c .before .members-passing .ensures right, c .members .ensures .0, sym (c .before .before .before .before .leader-by .ensures led))
 
 returns-2 : tie.Need-returns-2
 unfolding inWholeGroup whollyIncluded
@@ -32,7 +33,7 @@ in-whole-group-by-spec =
     (tie.spec
     leader-by-requires
     leader-requires
-    included-members-requires
+    members-passing-requires
     members-requires
     returns
     returns-2)

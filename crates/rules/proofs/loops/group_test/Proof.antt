@@ -3,7 +3,7 @@ use mathlib.Core.Path.{sym, _∙_}
 use borrow.Author.Tests.{eq-eqb, ne-eqb, not-true, not-false}
 use Rattle.profile.specs.Relations.{included, whollyIncluded}
 use Rattle.profile.specs.Rules.{setsNamed}
-use Rattle.relations.specs.steps.Tests.{howManyMembers}
+use Rattle.tables.specs.steps.Members.{howManyMembers}
 use Rattle.sheet.specs.Words.{sheetOf}
 use Rattle.tables.specs.steps.Right.{NamedSets}
 use Rattle.rules.proofs.GroupTestLaws.{no-leader}

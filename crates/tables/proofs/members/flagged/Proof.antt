@@ -4,10 +4,10 @@ use Prim.Native.Nat.{ℕ}
 use mathlib.Core.Bool.{not}
 use lib.Dec.{eqb}
 use lib.ListN.{List·getD-eq-default}
-use Rattle.granted.specs.steps.Flags.{flagged}
+use Rattle.tables.specs.steps.Members.{flagged}
 use borrow.Author.Needs.{needs}
-use Rattle.granted.proofs.activity.flagged.Statement.{statement}
-use Rattle.granted.proofs.activity.flagged.Tie as tie
+use Rattle.tables.proofs.members.flagged.Statement.{statement}
+use Rattle.tables.proofs.members.flagged.Tie as tie
 
 mul-result : tie.Need-mul-result
 mul-result c = search needs

@@ -1,21 +1,21 @@
 -- The count so far is that of the members passed. Assumes nothing.
-use mathlib.Core.Path.{_≡_, refl, ap, _∙_}
 use Prim.Native.Nat.{_-_, _≤_}
+use mathlib.Core.Path.{_≡_, refl, ap, _∙_}
 use native.Mathlib.Omega.{arith}
 use native.Mathlib.Numerals.{add-one}
 use Rattle.profile.specs.Counting.{howMany}
-use Rattle.profile.specs.Relations.{member, members, includes, included}
-use Rattle.tables.specs.steps.Right.{Included}
+use Rattle.profile.specs.Relations.{member}
 use Rattle.sheet.specs.Words.{sheetOf}
+use Rattle.tables.specs.steps.Members.{howManyMembers, memberRight, memberTest}
+use Rattle.tables.proofs.members.members_passing.Statement.{statement}
+use Rattle.tables.proofs.members.members_passing.Tie as tie
 use borrow.Author.Needs.{needs}
-use Rattle.granted.proofs.included.included_members.Statement.{statement}
-use Rattle.granted.proofs.included.included_members.Tie as tie
 
 abbrev Inv-loop : tie.InvT-loop
-Inv-loop s p marks l n found₀ i₀ found i = (i ≤ n) × (found ≤ i) × (Included (sheetOf s) p marks → found ≡ howMany (λ j. includes (sheetOf s) p (member (sheetOf s) l j)) i)
+Inv-loop s marks test l n found₀ i₀ found i = (i ≤ n) × (found ≤ i) × (memberRight (sheetOf s) test marks → found ≡ howMany (λ j. memberTest (sheetOf s) test marks (member (sheetOf s) l j)) i)
 
 abbrev μ-loop : tie.MeasureT-loop
-μ-loop s p marks l n found₀ i₀ found i = n - i
+μ-loop s marks test l n found₀ i₀ found i = n - i
 
 members-requires : tie.Need-members-requires Inv-loop μ-loop
 members-requires c κs = search needs
@@ -30,8 +30,8 @@ cast-member c = search needs
 member-requires : tie.Need-member-requires Inv-loop μ-loop
 member-requires c κs = search needs
 
-included-by-requires : tie.Need-included-by-requires Inv-loop μ-loop
-included-by-requires c κs = search needs
+member-passes-requires : tie.Need-member-passes-requires Inv-loop μ-loop
+member-passes-requires c κs = search needs
 
 one-requires : tie.Need-one-requires Inv-loop μ-loop
 one-requires c κs = search needs
@@ -50,14 +50,14 @@ loop-less c = search needs
 
 loop-again : tie.Need-loop-again Inv-loop μ-loop
 unfolding howMany
-loop-again c = (search needs, omega (arith, c .one .ensures .1), λ right. rw (add-one, c .before .before .before .before .loop .inv .2 right, c .one .ensures .0, c .before .included-by .ensures right, c .before .before .member .ensures))
+loop-again c = (search needs, omega (arith, c .one .ensures .1), λ right. rw (add-one, c .before .before .before .before .loop .inv .2 right, c .one .ensures .0, c .before .member-passes .ensures right, c .before .before .member .ensures))
 
 returns : tie.Need-returns Inv-loop μ-loop
-unfolding included
+unfolding howManyMembers
 returns c = let e : c .before .loop .i ≡ c .before .before .members .result = omega arith in λ right. c .before .loop .inv .2 right ∙ ap (howMany _) (e ∙ c .before .before .members .ensures .0)
 
-pub included-members-spec : {M : Type 1} → statement M
-included-members-spec =
+pub members-passing-spec : {M : Type 1} → statement M
+members-passing-spec =
     tie.close
     (tie.spec
     Inv-loop
@@ -66,7 +66,7 @@ included-members-spec =
     loop-holds
     cast-member
     member-requires
-    included-by-requires
+    member-passes-requires
     one-requires
     cast-found
     add-found
