@@ -1,9 +1,8 @@
 -- Activity by flags, one for each active object, in the steps of the code. Assumes nothing.
 use Prim.Native.Nat.{ℕ}
-use mathlib.Core.Bool.{Bool, cond, not}
+use mathlib.Core.Bool.{Bool, cond}
 use mathlib.Core.List.{List}
 use lib.Dec.{eqb}
-use lib.ListN.{getD}
 use Rattle.sheet.specs.Words.{Sheet}
 use Rattle.profile.specs.Counting.{howMany}
 use Rattle.profile.specs.Relations.{member, members, leaderOf}

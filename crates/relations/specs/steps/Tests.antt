@@ -6,7 +6,7 @@ use Rattle.sheet.specs.Words.{Sheet}
 use Rattle.sheet.specs.Layout.{count, field, number, entry}
 use Rattle.sheet.specs.Fields.{programmes, contents, objects, packs, tracks, contentList, contentObject, complementList, packKind, trackPack, trackOrdinal}
 use Rattle.profile.specs.Counting.{any, howMany, lowest}
-use Rattle.profile.specs.Relations.{lists, hasObjectsPack, leader, member, members, includes, hasSet, namesSet}
+use Rattle.profile.specs.Relations.{lists, hasObjectsPack, leader, hasSet}
 use Rattle.profile.specs.Rules.{lacks}
 use Rattle.relations.specs.declared.EntryTest.{EntryTest}
 use Rattle.relations.specs.declared.EntryTest.the-variants.{Is, Lacks, NoObjectsPack, OtherPack, Ordinal, OrdinalPast, SetOf}
