@@ -1,7 +1,7 @@
 -- What the steps of the pass leave in the tables. Assumes nothing.
 use Prim.Native.Nat.{ℕ, zero, suc, _+_, _-_, _*_, _/_, _<_, _≤_}
 use mathlib.Core.Path.{_≡_, refl, sym, ap, ap₂, subst, _∙_}
-use mathlib.Core.Bool.{Bool, true, false, true≢false, cond, not, _||_}
+use mathlib.Core.Bool.{Bool, true, false, true≢false, cond, not, _&&_, _||_}
 use mathlib.Core.List.{List, [], _∷_}
 use mathlib.Core.Logic.{⊎-elim}
 use native.Mathlib.Omega.{arith}
@@ -9,7 +9,7 @@ use native.Mathlib.Nat.{zero-add, le-of-suc-le-suc}
 use native.Mathlib.Numerals.{add-one}
 use borrow.Author.Count.{below-more}
 use borrow.Author.Tests.{eqb-true, eqb-false, eq-eqb, ne-eqb, ltb-true, ltb-false, lt-ltb, not-false}
-use lib.Dec.{eqb, ltb}
+use lib.Dec.{eqb, leb, ltb}
 use lib.ListN.{length, getD, set, length-set}
 use Rattle.sheet.specs.Words.{Sheet, sheetOf, word}
 use Rattle.sheet.specs.Layout.{count, offset, start, recordWords, field, number, reference, entry}
@@ -18,7 +18,7 @@ use Rattle.sheet.proofs.WordLaws.{at as words-at}
 use Rattle.profile.specs.Counting.{any, howMany}
 use Rattle.profile.specs.Relations.{member, members, namedSet, owner}
 use Rattle.profile.specs.Rules.{ownerAt, setsDiffer}
-use Rattle.profile.proofs.BoolLaws.{or-none, or-either}
+use Rattle.profile.proofs.BoolLaws.{or-none, or-either, or-true}
 use Rattle.profile.proofs.CountingLaws.{any-none}
 use Rattle.profile.proofs.GroupLaws.{any-witness}
 use Rattle.profile.proofs.SumLaws.{any-nowhere, howMany-shift}
@@ -213,7 +213,7 @@ bytes-alike t base u v at a b h = same-sets (sheetOf t) u v each
 -- a group by its leader and its list
 module _ (s : Sheet) (t : List ℕ) (sections : SectionOffsets) (first n e l : ℕ) (a : Begins s sections) (b : first ≡ field s objects l complementList)
     (c : n ≡ number s objects l complementList) (d : e ≡ getD t l 0) where
-  many-counted : manyListed s t (sections .references) first n e ≡ manyIn s t l
+  pub many-counted : manyListed s t (sections .references) first n e ≡ manyIn s t l
   unfolding manyIn members member entry reference
   many-counted = rw (a .0, b, c, d) (sym (howMany-shift (λ i. not (eqb (getD t (member s l i) 0) 0)) (number s objects l complementList)))
 
@@ -228,6 +228,11 @@ module _ (s : Sheet) (t : List ℕ) (sections : SectionOffsets) (first n e l : �
       each : 1 < getD t l 0 → (i : ℕ) → i < members s l → 1 < getD t (member s l i) 0 → setsDiffer s (getD t l 0 - 2) (getD t (member s l i) 0 - 2) ≡ false
       each k zero m r = sets-own s (getD t l 0 - 2)
       each k (suc i) m r = rw (sym d) (rw (sym (a .0), sym b) (kept .agreeing (rw d k) i (rw c (le-of-suc-le-suc m)) (rw (a .0, b) r)))
+
+-- a group is whole where all members are included, and sets are named for all or none
+pub all-whole : (n many set : ℕ) → (eqb many n && (eqb set 0 || eqb set n)) ≡ true → groupWhole n many set ≡ true
+unfolding groupWhole
+all-whole n many set e = ap (λ (b : Bool). leb many 1 || b) e ∙ or-true (leb many 1)
 
 -- a group of two: where both are included, sets are named for both or none
 pair-whole : (a b p q : Bool) → (a ≡ true → b ≡ true → p ≡ q) → groupWhole 2 (cond a 1 0 + cond b 1 0) (cond p 1 0 + cond q 1 0) ≡ true

@@ -12,12 +12,12 @@ use sheet::layout::field;
 use sheet::layout::number;
 use sheet::words::word;
 use sheet::words::word_count;
-ghost use Prim.Native.Nat.{ℕ, _+_, _-_, _<_};
+ghost use Prim.Native.Nat.{ℕ, _+_, _-_, _<_, _≤_};
 ghost use lib.ListN.{getD, length};
 ghost use mathlib.Core.Bool.{false, true};
 ghost use mathlib.Core.Logic.{_⊎_};
 ghost use mathlib.Core.Path.{_≡_};
-ghost use Rattle.grouping.specs.steps.Groups.{GroupKept, ListKept, PairKept};
+ghost use Rattle.grouping.specs.steps.Groups.{GroupKept, ListKept, PairKept, manyListed};
 ghost use Rattle.grouping.specs.steps.Passing.{Begins};
 ghost use Rattle.grouping.specs.steps.Rows.{OnlyComplement, RowAdded, RowsAdded, RowsComplete};
 ghost use Rattle.profile.specs.Rules.{setsDiffer};
@@ -41,8 +41,8 @@ fn noted_differ(s: &[u8], sets: u16, e: u16, c: u16) -> bool
     sets_differ(s, sets, e - 2, c - 2)
 }
 
-// Of a group whose leader has e in the table, and whose n complements are listed from `first` on: one member at most is included, or all
-// are, sets are named for all or none, and those of the complements have the words of the leader's.
+// Of a group whose leader has e in the table, and whose n complements are listed from `first` on: all members are included, sets are
+// named for all or none, and those of the complements have the words of the leader's.
 fn members_kept(
     s: &[u8],
     sections: SectionOffsets,
@@ -71,7 +71,7 @@ fn members_kept(
         i += 1;
     }
     let all = n as u32 + 1;
-    (many <= 1) | (many == all) & ((noted == 0) | (noted == all))
+    (many == all) & ((noted == 0) | (noted == all))
 }
 
 // A group of two, by what the table has for both.
@@ -90,7 +90,7 @@ fn pair_kept(s: &[u8], sets: u16, e: u16, c: u16) -> bool
     !noted_differ(s, sets, e, c)
 }
 
-// The group of a leader, which has m as its complement where it has one.
+// The group of a leader of which two members or more are included; m is its complement where it has one.
 pub fn group_kept(s: &[u8], sections: SectionOffsets, included: &[u16], l: u16, m: u16) -> bool
     ensures { λ r. ⌜ (r ≡ true → Begins (sheetOf (now (s .entry))) sections → OnlyComplement (sheetOf (now (s .entry))) l m → GroupKept (sheetOf (now (s .entry))) (now (included .entry)) l) ⌝ }
 {
@@ -100,6 +100,40 @@ pub fn group_kept(s: &[u8], sections: SectionOffsets, included: &[u16], l: u16, 
         return pair_kept(s, sections.sets, e, at(included, m));
     }
     let first = field(s, OBJECTS, l, COMPLEMENT_LIST);
+    members_kept(s, sections, first, n, included, e)
+}
+
+// Whether of such a group one member at most is included. Section 6 begins at `base`.
+fn one_included(s: &[u8], base: u16, first: u16, n: u16, included: &[u16], e: u16) -> bool
+    ensures { λ r. ⌜ (r ≡ true → manyListed (sheetOf (now (s .entry))) (now (included .entry)) base first n e ≤ 1) ⌝ }
+{
+    let mut many: u32 = one(e != 0) as u32;
+    let mut i: u16 = 0;
+    while i < n {
+        let c = at(
+            included,
+            word(s, base as usize + (first as usize + i as usize)),
+        );
+        many += one(c != 0) as u32;
+        i += 1;
+    }
+    many <= 1
+}
+
+// The group of a leader that has m as a complement. Where one of the two is not included, one member at most has to be.
+fn row_kept(s: &[u8], sections: SectionOffsets, included: &[u16], l: u16, m: u16) -> bool
+    ensures { λ r. ⌜ (r ≡ true → Begins (sheetOf (now (s .entry))) sections → OnlyComplement (sheetOf (now (s .entry))) l m → GroupKept (sheetOf (now (s .entry))) (now (included .entry)) l) ⌝ }
+{
+    let first = field(s, OBJECTS, l, COMPLEMENT_LIST);
+    let n = number(s, OBJECTS, l, COMPLEMENT_LIST);
+    let e = at(included, l);
+    let c = at(included, m);
+    if (e == 0) | (c == 0) {
+        return one_included(s, sections.references, first, n, included, e);
+    }
+    if n == 1 {
+        return pair_kept(s, sections.sets, e, c);
+    }
     members_kept(s, sections, first, n, included, e)
 }
 
@@ -141,7 +175,7 @@ pub fn groups_kept(
         let l = leading[i];
         let m = partners[i];
         if !row_passes(included, asked, l, m) {
-            if !group_kept(s, sections, included, l, m) {
+            if !row_kept(s, sections, included, l, m) {
                 return false;
             }
             asked = l as u32;

@@ -20,7 +20,7 @@ use tables::Mark;
 use tables::Naming;
 use tables::marks::clear;
 use tables::marks::first_namers;
-use tables::marks::mark_items;
+use tables::marks::mark_objects;
 ghost use Prim.Native.Nat.{_+_, _<_};
 ghost use lib.ListN.{length};
 ghost use mathlib.Core.Bool.{true};
@@ -133,7 +133,7 @@ fn leaders_from(
         if !groups_asked(s, sections, leaders, p, included, groups) {
             return p;
         }
-        mark_items(s, Naming::Included, p, Mark::Store(0), included);
+        mark_objects(s, p, Mark::Store(0), included);
         p = next_other(s, both, p, n);
     }
     p

@@ -6,8 +6,9 @@ use sheet::fields::TRACK_PACK;
 use sheet::fields::TRACKS;
 use sheet::layout::count;
 use sheet::layout::field;
-use sheet::layout::number;
 use sheet::layout::reference;
+use sheet::layout::start;
+use sheet::words::word;
 ghost use Prim.Native.Nat.{_+_, _<_, _≤_};
 ghost use lib.Dec.{leb, ltb};
 ghost use lib.ListN.{getD, length};
@@ -59,7 +60,8 @@ pub fn odd_tracks(s: &[u8], next: &[u16], again: &[u16], first: u16, n: u16, pac
         | among(again, first, n)
 }
 
-// What the table tells of the list at a position of a record.
+// What the table tells of the list at a position of a record. The index of the record is found once for both words, which keeps this
+// small enough to be drawn into the rules.
 pub fn look_up(s: &[u8], table: &[u16], section: u8, k: u16, at: u8) -> Lookup
     ensures { λ r. ⌜ LookedUp (sheetOf (now (s .entry))) (now (table .entry)) section k at r ⌝ }
 {
@@ -69,8 +71,9 @@ pub fn look_up(s: &[u8], table: &[u16], section: u8, k: u16, at: u8) -> Lookup
             found: false,
         };
     }
-    let first = field(s, section, k, at);
-    let n = number(s, section, k, at);
+    let record = start(s, section, k as u32);
+    let first = word(s, record + at as usize);
+    let n = word(s, record + (at as usize + 1));
     Lookup {
         known: inside(s, table, first, n),
         found: among(table, first, n),

@@ -12,7 +12,6 @@ use sheet::fields::PROGRAMMES;
 use sheet::fields::REFERENCES;
 use sheet::fields::SET_LIST;
 use sheet::fields::SET_SPAN;
-use sheet::layout::entry;
 use sheet::layout::field;
 use sheet::layout::number;
 use sheet::layout::offset;
@@ -26,7 +25,6 @@ ghost use Rattle.profile.specs.Counting.{howMany};
 ghost use Rattle.profile.specs.Relations.{times};
 ghost use Rattle.sheet.specs.Words.{sheetOf, word};
 ghost use Rattle.tables.specs.steps.Marks.{Filled, MarkedTimes, NamingsCounted, Standing, firstBy, marked, timesBy};
-ghost use Rattle.tables.specs.steps.Namings.{item};
 ghost use Rattle.tables.specs.steps.Right.{Included, NamedSets};
 ghost use Rattle.tables.specs.declared.Naming.the-variants.{ContentObjects, Included as IncludedObjects};
 
@@ -84,26 +82,17 @@ pub fn mark_object(s: &[u8], q: u16, mark: Mark, table: &mut [u16])
     mark_at(table, field(s, CONTENTS, q, CONTENT_OBJECT) as u32, mark);
 }
 
-// The object of the content at a place of a programme's list.
-fn included_object(s: &[u8], q: u16, i: u16) -> u16
-    ensures { λ r. ⌜ r ≡ item (sheetOf (now (s .entry))) IncludedObjects q i ⌝ }
-{
-    field(
-        s,
-        CONTENTS,
-        entry(s, PROGRAMMES, q, CONTENT_LIST, i),
-        CONTENT_OBJECT,
-    )
-}
-
 // Marks the objects that a programme includes.
-fn mark_objects(s: &[u8], q: u16, mark: Mark, table: &mut [u16])
-    ensures { λ r. ⌜ MarkedTimes mark (timesBy (sheetOf (now (s .entry))) IncludedObjects q) (now (table .entry)) (now (table .exit)) ⌝ }
+pub fn mark_objects(s: &[u8], p: u16, mark: Mark, table: &mut [u16])
+    ensures { λ r. ⌜ MarkedTimes mark (timesBy (sheetOf (now (s .entry))) IncludedObjects p) (now (table .entry)) (now (table .exit)) ⌝ }
 {
-    let n = number(s, PROGRAMMES, q, CONTENT_LIST);
+    let base = offset(s, REFERENCES) as usize;
+    let first = field(s, PROGRAMMES, p, CONTENT_LIST) as usize;
+    let n = number(s, PROGRAMMES, p, CONTENT_LIST);
     let mut i: u16 = 0;
     while i < n {
-        mark_at(table, included_object(s, q, i) as u32, mark);
+        let c = word(s, base + (first + i as usize));
+        mark_at(table, field(s, CONTENTS, c, CONTENT_OBJECT) as u32, mark);
         i += 1;
     }
 }
@@ -181,7 +170,7 @@ pub fn mark_included(s: &[u8], p: u16, table: &mut [u16])
     ensures { λ r. ⌜ (length (now (table .exit)) ≡ length (now (table .entry))) × Included (sheetOf (now (s .entry))) p (now (table .exit)) ⌝ }
 {
     clear(table);
-    mark_items(s, Naming::Included, p, Mark::Store(1), table);
+    mark_objects(s, p, Mark::Store(1), table);
 }
 
 // Writes 1 for the value sets that a programme names, into a table of noughts.

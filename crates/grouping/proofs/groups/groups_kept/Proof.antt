@@ -49,8 +49,8 @@ shared-slice-read-m c = search needs
 row-passes-requires : tie.Need-row-passes-requires Inv-loop μ-loop
 row-passes-requires c κs = search needs
 
-group-kept-requires : tie.Need-group-kept-requires Inv-loop μ-loop
-group-kept-requires c κs = search needs
+row-kept-requires : tie.Need-row-kept-requires Inv-loop μ-loop
+row-kept-requires c κs = search needs
 
 returns-4 : tie.Need-returns-4 Inv-loop μ-loop
 returns-4 c = λ e. absurd (true≢false (sym e))
@@ -104,7 +104,7 @@ groups-kept-spec =
     mul-m
     shared-slice-read-m
     row-passes-requires
-    group-kept-requires
+    row-kept-requires
     returns-4
     cast-asked
     add-i

@@ -12,7 +12,8 @@ use Rattle.sheet.specs.Layout.{offset}
 use Rattle.sheet.specs.Fields.{valueSets}
 use Rattle.profile.specs.Counting.{howMany}
 use Rattle.profile.specs.Rules.{setsDiffer}
-use Rattle.grouping.specs.steps.Groups.{groupWhole, listedIn, manyListed, setsListed}
+use Rattle.grouping.specs.steps.Groups.{listedIn, manyListed, setsListed}
+use Rattle.grouping.proofs.PassLaws.{all-whole}
 use borrow.Author.Needs.{needs}
 use Rattle.grouping.proofs.groups.members_kept.Statement.{statement}
 use Rattle.grouping.proofs.groups.members_kept.Tie as tie
@@ -120,10 +121,9 @@ add-all : tie.Need-add-all Inv-loop μ-loop
 add-all c = search needs
 
 returns-3 : tie.Need-returns-3 Inv-loop μ-loop
-unfolding groupWhole
 returns-3 c =
     let here = c .before .loop in let z : here .i ≡ c .before .before .before .before .before .before .before .before .before .args .n = omega (arith, here .inv .0, c .loop-test .left) in
-    λ e at. record { whole = rw (here .inv .3, here .inv .4, z, add-one) at e; agreeing = rw z at (here .inv .5 (at .2)) }
+    λ e at. record { whole = all-whole _ _ _ (rw (here .inv .3, here .inv .4, z, add-one) at e); agreeing = rw z at (here .inv .5 (at .2)) }
 
 pub members-kept-spec : {M : Type 1} → statement M
 members-kept-spec =

@@ -89,8 +89,8 @@ returns-2 c =
       kept = λ pass full apart before. l .loop .inv .2 pass apart (l .before .before .before .before .before .before .before .before .clear2 .ensures .0 ∙ full .1) (l .before .before .before .before .clear3 .ensures .0 ∙ full .2) before .1;
     }
 
-mark-items-requires : tie.Need-mark-items-requires Inv-loop μ-loop
-mark-items-requires c κs = search needs
+mark-objects-requires : tie.Need-mark-objects-requires Inv-loop μ-loop
+mark-objects-requires c κs = search needs
 
 next-other-requires : tie.Need-next-other-requires Inv-loop μ-loop
 next-other-requires c κs = search needs
@@ -103,14 +103,14 @@ loop-again c =
     let a = c .before .before .before .before .before .before .before .before .before .before .before .before .before .before .before .before .before .before .before .before .before .before .before .before .before .before .before .before .before .before .before .before .before .before .before .before .before .before .before .before .before .before .before .args in
     let here = c .before .before .before .before .before .before .before .before .before .before .before .before .before .before .before .before .before .before .loop in
     let named = c .before .before .before .before .before .before .before .before .before .before .before .before .before .before .before .before .before .before .before .before .before .before .before .before .before .before .before .before .before .before .first-namers in let enter = c .before .before .before .before .before .before .before .before .before .before .before .before .before .before .before .enter in
-    let asked = c .before .before .before .before .before .before .before .before .groups-asked in let cleared = c .before .before .before .mark-items in
+    let asked = c .before .before .before .before .before .before .before .before .groups-asked in let cleared = c .before .before .before .mark-objects in
     let at = c .before .before .before .before .before .before .before .before .before .before .before .before .before .before .before .before .before .before .before .before .before .before .before .before .before .before .before .before .before .before .before .before .before .before .before .before .section-offsets .ensures in
     let led : Leaders (sheetOf (a .s .now)) (named .last .1 .1 .0) = λ x l. named .ensures .1 x l ∙ ap (firstBy (sheetOf (a .s .now)) Complements x) (c .before .before .before .before .before .before .before .before .before .before .before .before .before .before .before .before .before .before .before .before .before .before .before .before .before .before .before .before .before .before .before .before .before .before .clear .ensures .1 x (rw (named .ensures .0) at l)) in (
       asked .ensures .0 ∙ here .inv .0,
       cleared .ensures .0 ∙ enter .ensures .0 ∙ here .inv .1,
       λ pass apart full full₂ before.
           let so = here .inv .2 pass apart full full₂ before in let entered = enter .ensures .1 (not-false _ (c .before .before .before .before .before .before .before .before .before .before .before .before .if1 .left)) at (pass .0) in let groups = asked .ensures .1 (not-false _ (c .before .before .before .before .before .if2 .left)) at led in (
-            led-ready (sheetOf (a .s .now)) (a .wanted .both) (a .owners .now) (a .alike .now) (here .p) (here .included) (enter .last .1 .1 .1 .1 .1 .1 .0) (here .groups) (asked .last .1 .1 .1 .1 .1 .0) pass entered (so .0) groups (asked .ensures .0) (c .next-other .result) (cleared .last .1 .1 .1 .1 .0) (c .next-other .ensures .0) (enter .ensures .0) (cleared .ensures .0) (cleared .ensures .1),
+            led-ready (sheetOf (a .s .now)) (a .wanted .both) (a .owners .now) (a .alike .now) (here .p) (here .included) (enter .last .1 .1 .1 .1 .1 .1 .0) (here .groups) (asked .last .1 .1 .1 .1 .1 .0) pass entered (so .0) groups (asked .ensures .0) (c .next-other .result) (cleared .last .1 .1 .1 .0) (c .next-other .ensures .0) (enter .ensures .0) (cleared .ensures .0) (cleared .ensures .1),
             c .next-other .ensures .1 (led-more (sheetOf (a .s .now)) (a .wanted .both) (a .owners .now) (a .alike .now) (here .p) (here .included) (enter .last .1 .1 .1 .1 .1 .1 .0) (here .groups) (asked .last .1 .1 .1 .1 .1 .0) pass entered (so .0) groups (asked .ensures .0) apart (so .1)),
           ),
     )
@@ -157,7 +157,7 @@ leaders-from-spec =
     same-length-5
     same-length-6
     returns-2
-    mark-items-requires
+    mark-objects-requires
     next-other-requires
     loop-less
     loop-again
