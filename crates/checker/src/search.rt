@@ -15,7 +15,8 @@ use screen::screening::passes;
 use screen::screening::small_passes;
 use sheet::fields::OBJECTS;
 use sheet::fields::PROGRAMMES;
-use tables::entry_counts::fewer_in_section;
+use tables::CountedEntries;
+use tables::entry_counts::fewer_entries;
 ghost use lib.ListN.{length};
 ghost use mathlib.Core.Path.{_≡_};
 ghost use Rattle.checker.specs.Checked.{checked};
@@ -84,7 +85,7 @@ const FEW_ENTRIES: u32 = 8192;
 
 // Whether they have. The verdict is the same either way.
 fn crowded(s: &[u8], section: u8) -> bool {
-    fewer_in_section(s, section, FEW_ENTRIES + 1) == 0
+    fewer_entries(s, CountedEntries::Lists(section), FEW_ENTRIES + 1) == 0
 }
 
 // With tables over the references, where the section's lists have many entries. No sheet has more references.

@@ -16,8 +16,10 @@ use sheet::layout::count;
 use sheet::layout::field;
 use sheet::layout::number;
 use sheet::layout::offset;
+use tables::CountedEntries;
 use tables::Mark;
 use tables::Naming;
+use tables::entry_counts::fewer_entries;
 use tables::marks::clear;
 use tables::marks::first_namers;
 use tables::marks::mark_objects;
@@ -145,17 +147,8 @@ fn short_lists(s: &[u8]) -> bool {
     if o < 64 {
         return false;
     }
-    let n = count(s, PROGRAMMES);
-    if n == 0 {
-        return false;
-    }
-    let mut entries: u32 = 0;
-    let mut p: u16 = 0;
-    while p < n {
-        entries += number(s, PROGRAMMES, p, CONTENT_LIST) as u32;
-        p += 1;
-    }
-    entries / (n as u32) < o as u32 / 32
+    let most = count(s, PROGRAMMES) as u32 * (o as u32 / 32);
+    fewer_entries(s, CountedEntries::Namings(Naming::ContentLists), most) != 0
 }
 
 // The same in tables with a place for each object: by the leaders where the content lists are short, else by the rows. Which way it is

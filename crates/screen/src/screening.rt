@@ -3,20 +3,14 @@ use crate::records::header_breaks;
 use crate::records::records_pass;
 use crate::totals::totals_break;
 use grouping::programmes::programmes_pass;
-use sheet::fields::CHILD_LIST;
-use sheet::fields::COMPLEMENT_LIST;
-use sheet::fields::CONTENT_LABELS;
-use sheet::fields::CONTENT_LIST;
 use sheet::fields::CONTENTS;
 use sheet::fields::OBJECTS;
-use sheet::fields::PROGRAMME_LABELS;
 use sheet::fields::PROGRAMMES;
-use sheet::fields::SET_LIST;
-use sheet::fields::SET_SPAN;
-use sheet::fields::TRACK_LIST;
 use sheet::fields::VALUE_SETS;
 use sheet::layout::count;
-use sheet::layout::number;
+use tables::CountedEntries;
+use tables::Naming;
+use tables::entry_counts::fewer_entries;
 use tables::passes::count_contents;
 use tables::passes::count_lists;
 use tables::passes::count_tops;
@@ -30,43 +24,21 @@ ghost use Rattle.screen.specs.steps.Screened.{TablesFilled, Noughts, Rec
 ghost use Rattle.sheet.specs.Words.{sheetOf};
 ghost use Rattle.tables.specs.steps.Right.{Spanned};
 
-// How many entries the lists and the span of a record have.
-fn entries(s: &[u8], section: u8, k: u16) -> u32
-    ensures { λ r. ⌜ r ≤ 262140 ⌝ }
-{
-    match section {
-        1 => number(s, PROGRAMMES, k, CONTENT_LIST) as u32
-            + number(s, PROGRAMMES, k, SET_LIST) as u32
-            + number(s, PROGRAMMES, k, PROGRAMME_LABELS) as u32,
-        2 => number(s, CONTENTS, k, CONTENT_LABELS) as u32,
-        _ => number(s, OBJECTS, k, TRACK_LIST) as u32
-            + number(s, OBJECTS, k, CHILD_LIST) as u32
-            + number(s, OBJECTS, k, COMPLEMENT_LIST) as u32
-            + number(s, OBJECTS, k, SET_SPAN) as u32,
-    }
-}
-
 // The lists of a section that have more entries together, twice as many as section 6 can have, are left to the search: where many records
 // share long lists, walking them takes too long, and for nothing where the sheet doesn't pass.
 const MANY_ENTRIES: u32 = 65536;
 
-// Whether a section's lists have few entries together, as they have in a short sheet. Nothing rests on this but time.
-fn few_entries(s: &[u8], section: u8) -> bool {
+// Whether each section's lists, with the spans of the objects, have few entries together, as they have in a short sheet. Nothing rests on
+// this but time.
+fn few_entries(s: &[u8]) -> bool {
     if s.len() < 8192 {
         return true;
     }
-    let n = count(s, section);
-    let mut left = MANY_ENTRIES;
-    let mut k: u16 = 0;
-    while k < n {
-        let e = entries(s, section, k);
-        if left < e {
-            return false;
-        }
-        left -= e;
-        k += 1;
-    }
-    true
+    let most = MANY_ENTRIES + 1;
+    let left = fewer_entries(s, CountedEntries::Lists(OBJECTS), most);
+    (fewer_entries(s, CountedEntries::Lists(PROGRAMMES), most) != 0)
+        & (fewer_entries(s, CountedEntries::Lists(CONTENTS), most) != 0)
+        & (fewer_entries(s, CountedEntries::Namings(Naming::SetSpans), left) != 0)
 }
 
 // Whether the header and the sections keep rules 1, 2, 3 and 7, and the lists have few entries.
@@ -79,7 +51,7 @@ fn header_passes(s: &[u8]) -> bool
     if header_breaks(s) {
         return false;
     }
-    few_entries(s, PROGRAMMES) & few_entries(s, CONTENTS) & few_entries(s, OBJECTS)
+    few_entries(s)
 }
 
 // Fills tables of noughts: how often each object and content is named, in how many spans each value set is, and whose it is.

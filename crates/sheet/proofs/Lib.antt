@@ -1,2 +1,2 @@
 pub mod WordLaws
-mod IndexLaws
+pub mod IndexLaws

@@ -6,3 +6,4 @@ pub mod Passes
 pub mod Right
 pub mod Coverage
 pub mod Members
+pub mod EntryCounts

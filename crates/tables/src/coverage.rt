@@ -1,8 +1,9 @@
 // Counting how often each record is named, by the indices that the records' lists cover: linear in the sheet's words, also where
 // many records share one long list. Each list or span is a run of indices.
+use crate::CountedEntries;
 use crate::Mark;
 use crate::Naming;
-use crate::entry_counts::fewer_namings;
+use crate::entry_counts::fewer_entries;
 use crate::marks::after;
 use crate::marks::count_namings;
 use crate::namings::items;
@@ -180,7 +181,7 @@ fn count_cover(s: &[u8], kind: Naming, m: u16, table: &mut [u16])
 pub fn count_covered(s: &[u8], kind: Naming, table: &mut [u16])
     ensures { λ r. ⌜ NamingsCounted (sheetOf (now (s .entry))) kind (now (table .entry)) (now (table .exit)) ⌝ }
 {
-    if fewer_namings(s, kind, FEW_INDICES + 1) == 0 {
+    if fewer_entries(s, CountedEntries::Namings(kind), FEW_INDICES + 1) == 0 {
         let m = reach(s, kind);
         if m <= 32768 {
             count_cover(s, kind, m as u16, table);

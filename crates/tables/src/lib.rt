@@ -46,3 +46,11 @@ pub enum MemberTest {
     // it is flagged
     Flagged,
 }
+
+// Which entries are counted.
+pub enum CountedEntries {
+    // those of all lists of a section's records
+    Lists(u8),
+    // those by which records name others in one way
+    Namings(Naming),
+}

@@ -17,14 +17,8 @@ returns-2 c = λ e. absurd (true≢false (sym e))
 few-entries-requires : tie.Need-few-entries-requires
 few-entries-requires c κs = search needs
 
-few-entries-requires-2 : tie.Need-few-entries-requires-2
-few-entries-requires-2 c κs = search needs
-
-few-entries-requires-3 : tie.Need-few-entries-requires-3
-few-entries-requires-3 c κs = search needs
-
 returns-3 : tie.Need-returns-3
-returns-3 c = λ e. sym (c .before .before .before .before .header-breaks .ensures) ∙ c .before .before .before .if2 .left
+returns-3 c = λ e. sym (c .before .before .header-breaks .ensures) ∙ c .before .if2 .left
 
 pub header-passes-spec : {M : Type 1} → statement M
 header-passes-spec =
@@ -34,6 +28,4 @@ header-passes-spec =
     header-breaks-requires
     returns-2
     few-entries-requires
-    few-entries-requires-2
-    few-entries-requires-3
     returns-3)
