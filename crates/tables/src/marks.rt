@@ -1,6 +1,7 @@
 // Passes that mark a table. A record past the table's end is passed over.
 use crate::Mark;
 use crate::Naming;
+use crate::namings::items;
 use crate::namings::namers;
 use sheet::fields::CHILD_LIST;
 use sheet::fields::COMPLEMENT_LIST;
@@ -131,6 +132,15 @@ pub fn mark_items(s: &[u8], kind: Naming, q: u16, mark: Mark, table: &mut [u16])
     }
 }
 
+// The same, told at once of a record that names none, as most do.
+pub fn mark_some(s: &[u8], kind: Naming, q: u16, mark: Mark, table: &mut [u16])
+    ensures { λ r. ⌜ MarkedTimes mark (timesBy (sheetOf (now (s .entry))) kind q) (now (table .entry)) (now (table .exit)) ⌝ }
+{
+    if items(s, kind, q) != 0 {
+        mark_items(s, kind, q, mark, table);
+    }
+}
+
 // Counts how often each record is named.
 pub fn count_namings(s: &[u8], kind: Naming, table: &mut [u16])
     ensures { λ r. ⌜ NamingsCounted (sheetOf (now (s .entry))) kind (now (table .entry)) (now (table .exit)) ⌝ }
@@ -149,7 +159,7 @@ pub fn first_namers(s: &[u8], kind: Naming, table: &mut [u16])
 {
     let mut q: u16 = namers(s, kind);
     while 0 < q {
-        mark_items(s, kind, q - 1, Mark::Store(q), table);
+        mark_some(s, kind, q - 1, Mark::Store(q), table);
         q -= 1;
     }
 }

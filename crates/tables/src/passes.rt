@@ -4,36 +4,23 @@ use crate::Naming;
 use crate::marks::mark_items;
 use crate::marks::mark_list;
 use crate::marks::mark_object;
-use sheet::fields::CHILD_LIST;
-use sheet::fields::COMPLEMENT_LIST;
+use crate::marks::mark_some;
+use crate::namings::items;
 use sheet::fields::CONTENT_LIST;
 use sheet::fields::CONTENTS;
 use sheet::fields::OBJECTS;
 use sheet::fields::PROGRAMMES;
 use sheet::fields::REFERENCES;
-use sheet::fields::SET_SPAN;
 use sheet::layout::count;
 use sheet::layout::field;
 use sheet::layout::number;
 use sheet::layout::offset;
 ghost use Prim.Native.Nat.{suc, _<_};
-ghost use mathlib.Core.Path.{_≡_};
 ghost use Rattle.sheet.specs.Words.{sheetOf};
-ghost use Rattle.tables.specs.steps.Namings.{items};
 ghost use Rattle.tables.specs.steps.Marks.{MarkedTimes, NamingsCounted, timesBy};
 ghost use Rattle.tables.specs.steps.Passes.{ListsCounted, TopsCounted};
 ghost use Rattle.tables.specs.declared.Mark.the-variants.{Count, First};
 ghost use Rattle.tables.specs.declared.Naming.the-variants.{ContentLists};
-
-// Marks the n records that a record names, mostly none.
-fn mark_some(s: &[u8], kind: Naming, q: u16, n: u16, mark: Mark, table: &mut [u16])
-    requires { ⌜ n ≡ items (sheetOf (now s)) kind q ⌝ }
-    ensures { λ r. ⌜ MarkedTimes mark (timesBy (sheetOf (now (s .entry))) kind q) (now (table .entry)) (now (table .exit)) ⌝ }
-{
-    if n != 0 {
-        mark_items(s, kind, q, mark, table);
-    }
-}
 
 // Counts how often contents name each object, in two tables.
 pub fn count_tops(s: &[u8], tops: &mut [u16], named: &mut [u16])
@@ -68,12 +55,12 @@ pub fn count_contents(s: &[u8], listed: &mut [u16])
     }
 }
 
-// Counts the n records that a record names, mostly none, and keeps its own number, one more, where it is the first to name one.
-fn mark_both(s: &[u8], kind: Naming, q: u16, n: u16, counts: &mut [u16], firsts: &mut [u16])
-    requires { ⌜ (n ≡ items (sheetOf (now s)) kind q) × (q < 65535) ⌝ }
+// Counts the records that a record names, mostly none, and keeps its own number, one more, where it is the first to name one.
+fn mark_both(s: &[u8], kind: Naming, q: u16, counts: &mut [u16], firsts: &mut [u16])
+    requires { ⌜ q < 65535 ⌝ }
     ensures { λ r. ⌜ MarkedTimes Count (timesBy (sheetOf (now (s .entry))) kind q) (now (counts .entry)) (now (counts .exit)) × MarkedTimes (First (suc q)) (timesBy (sheetOf (now (s .entry))) kind q) (now (firsts .entry)) (now (firsts .exit)) ⌝ }
 {
-    if n != 0 {
+    if items(s, kind, q) != 0 {
         mark_items(s, kind, q, Mark::Count, counts);
         mark_items(s, kind, q, Mark::First(q + 1), firsts);
     }
@@ -93,30 +80,9 @@ pub fn count_lists(
     let n = count(s, OBJECTS);
     let mut q: u16 = 0;
     while q < n {
-        mark_some(
-            s,
-            Naming::Children,
-            q,
-            number(s, OBJECTS, q, CHILD_LIST),
-            Mark::Count,
-            named,
-        );
-        mark_some(
-            s,
-            Naming::Complements,
-            q,
-            number(s, OBJECTS, q, COMPLEMENT_LIST),
-            Mark::Count,
-            complements,
-        );
-        mark_both(
-            s,
-            Naming::SetSpans,
-            q,
-            number(s, OBJECTS, q, SET_SPAN),
-            spanned,
-            owners,
-        );
+        mark_some(s, Naming::Children, q, Mark::Count, named);
+        mark_some(s, Naming::Complements, q, Mark::Count, complements);
+        mark_both(s, Naming::SetSpans, q, spanned, owners);
         q += 1;
     }
 }

@@ -26,11 +26,11 @@ loop-holds c =
     let a = c .before .before .before .args in let e : namers (sheetOf (a .s .now)) (a .kind) - c .namers .result ≡ 0 = omega (arith, c .namers .ensures) in
     (omega (arith, c .namers .ensures), (refl, rw e (λ x l. refl)))
 
-sub-mark-items : tie.Need-sub-mark-items Inv-loop μ-loop
-sub-mark-items c = search needs
+sub-mark-some : tie.Need-sub-mark-some Inv-loop μ-loop
+sub-mark-some c = search needs
 
-mark-items-requires : tie.Need-mark-items-requires Inv-loop μ-loop
-mark-items-requires c κs = search needs
+mark-some-requires : tie.Need-mark-some-requires Inv-loop μ-loop
+mark-some-requires c κs = search needs
 
 sub-q : tie.Need-sub-q Inv-loop μ-loop
 sub-q c = search needs
@@ -41,7 +41,7 @@ loop-less c = search needs
 loop-again : tie.Need-loop-again Inv-loop μ-loop
 loop-again c =
     let a = c .before .before .before .before .before .before .before .before .before .args in let s = sheetOf (a .s .now) in let l = c .before .before .before .before .before .loop in
-    let items = c .before .before .mark-items in let n = namers s (a .kind) - l .q in let e : suc (l .q - 1) ≡ l .q = omega (arith, c .before .before .before .before .loop-test .taken) in
+    let items = c .before .before .mark-some in let n = namers s (a .kind) - l .q in let e : suc (l .q - 1) ≡ l .q = omega (arith, c .before .before .before .before .loop-test .taken) in
     let f : namers s (a .kind) - (l .q - 1) ≡ suc n = omega (arith, l .inv .0, c .before .before .before .before .loop-test .taken) in
     (omega (arith, l .inv .0), (items .ensures .0 ∙ l .inv .1 .0, rw f (first-more s (a .kind) (a .table .now) (l .table) (items .last .1 .1 .1 .1 .0) (l .q - 1) n (items .ensures .0) (rw e (l .inv .1 .1)) (rw e (items .ensures .1)))))
 
@@ -62,8 +62,8 @@ first-namers-spec =
     μ-loop
     namers-requires
     loop-holds
-    sub-mark-items
-    mark-items-requires
+    sub-mark-some
+    mark-some-requires
     sub-q
     loop-less
     loop-again

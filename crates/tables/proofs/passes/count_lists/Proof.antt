@@ -34,23 +34,14 @@ loop-holds : tie.Need-loop-holds Inv-loop μ-loop
 unfolding sum repeat firstFrom
 loop-holds c = (search needs, (refl, λ x l. refl), (refl, λ x l. refl), (refl, λ x l. refl), refl, (λ z. z))
 
-number-requires : tie.Need-number-requires Inv-loop μ-loop
-number-requires c κs = search needs
-
 mark-some-requires : tie.Need-mark-some-requires Inv-loop μ-loop
-mark-some-requires c κs = c .before .number .ensures
-
-number-requires-2 : tie.Need-number-requires-2 Inv-loop μ-loop
-number-requires-2 c κs = search needs
+mark-some-requires c κs = search needs
 
 mark-some-requires-2 : tie.Need-mark-some-requires-2 Inv-loop μ-loop
-mark-some-requires-2 c κs = c .before .number2 .ensures
-
-number-requires-3 : tie.Need-number-requires-3 Inv-loop μ-loop
-number-requires-3 c κs = search needs
+mark-some-requires-2 c κs = search needs
 
 mark-both-requires : tie.Need-mark-both-requires Inv-loop μ-loop
-mark-both-requires c κs = (c .before .before .number3 .ensures, search needs)
+mark-both-requires c κs = search needs
 
 add-q : tie.Need-add-q Inv-loop μ-loop
 add-q c = search needs
@@ -60,18 +51,16 @@ loop-less c = search needs
 
 loop-again : tie.Need-loop-again Inv-loop μ-loop
 loop-again c =
-    let a = c .before .before .before .before .before .before .before .before .before .before .before .before .before .before .before .before .before .before .before .before .before .before .before .before .before .before .args in
-    let l = c .before .before .before .before .before .before .before .before .before .before .before .before .before .before .before .before .before .before .before .loop in
-    let m = c .before .before .before .before .before .before .before .before .before .before .before .before .before .before .before .mark-some in
-    let n = c .before .before .before .before .before .before .before .before .before .before .mark-some2 in let b = c .before .before .before .before .mark-both in
-    let s = sheetOf (a .s .now) in
+    let both = c .before .before .before .before in let second = both .before .before .before .before .before in let first = second .before .before .before .before in
+    let l = first .before .before .before .loop in let a = first .before .before .before .before .before .before .before .before .before .before .args in
+    let m = first .mark-some in let n = second .mark-some2 in let b = both .mark-both in let s = sheetOf (a .s .now) in
     let more = namers-more Count s in (
-      omega (arith, c .before .before .before .before .before .before .before .before .before .before .before .before .before .before .before .before .before .before .loop-test .taken),
-      more Children (a .named .now) (l .named) (m .last .1 .1 .1 .1 .1 .0) (l .q) (l .inv .1) (m .ensures),
-      more Complements (a .complements .now) (l .complements) (n .last .1 .1 .1 .1 .1 .0) (l .q) (l .inv .2) (n .ensures),
-      more SetSpans (a .spanned .now) (l .spanned) (b .last .1 .1 .1 .1 .0) (l .q) (l .inv .3) (b .ensures .0),
+      omega (arith, first .before .before .loop-test .taken),
+      more Children (a .named .now) (l .named) (m .last .1 .1 .1 .1 .0) (l .q) (l .inv .1) (m .ensures),
+      more Complements (a .complements .now) (l .complements) (n .last .1 .1 .1 .1 .0) (l .q) (l .inv .2) (n .ensures),
+      more SetSpans (a .spanned .now) (l .spanned) (b .last .1 .1 .1 .0) (l .q) (l .inv .3) (b .ensures .0),
       b .ensures .1 .0 ∙ l .inv .4,
-      λ z. first-next s SetSpans (l .owners) (b .last .1 .1 .1 .1 .1 .0) (l .q) (b .ensures .1 .0) (l .inv .5 z) (b .ensures .1 .1),
+      λ z. first-next s SetSpans (l .owners) (b .last .1 .1 .1 .1 .0) (l .q) (b .ensures .1 .0) (l .inv .5 z) (b .ensures .1 .1),
     )
 
 same-length : tie.Need-same-length Inv-loop μ-loop
@@ -101,11 +90,8 @@ count-lists-spec =
     μ-loop
     count-requires
     loop-holds
-    number-requires
     mark-some-requires
-    number-requires-2
     mark-some-requires-2
-    number-requires-3
     mark-both-requires
     add-q
     loop-less

@@ -1,11 +1,16 @@
 -- Nothing to mark, or all of it, in each table. Assumes nothing.
-use mathlib.Core.Path.{_≡_, refl, sym}
+use mathlib.Core.Path.{_≡_, refl, sym, _∙_}
 use native.Mathlib.Numerals.{add-one}
+use Rattle.sheet.specs.Words.{sheetOf}
 use Rattle.profile.specs.Counting.{howMany}
+use Rattle.tables.specs.steps.Namings.{items}
 use Rattle.tables.specs.steps.Marks.{repeat, timesBy}
 use borrow.Author.Needs.{needs}
 use Rattle.tables.proofs.passes.mark_both.Statement.{statement}
 use Rattle.tables.proofs.passes.mark_both.Tie as tie
+
+items-requires : tie.Need-items-requires
+items-requires c κs = search needs
 
 mark-items-requires : tie.Need-mark-items-requires
 mark-items-requires c κs = search needs
@@ -28,13 +33,14 @@ returns c = (c .before .before .before .before .before .before .mark-items .ensu
 returns-2 : tie.Need-returns-2
 unfolding timesBy howMany repeat
 returns-2 c =
-    let start = c .before .before .before .before in let e : start .args .n ≡ 0 = c .if1 .left in
-    ((refl, rw (sym (start .pre .0), e) (λ x l. refl)), (refl, rw (sym (start .pre .0), e) (λ x l. refl)))
+    let a = c .before .before .before .before .before .args in let e : items (sheetOf (a .s .now)) (a .kind) (a .q) ≡ 0 = sym (c .before .items .ensures) ∙ c .if1 .left in
+    ((refl, rw e (λ x l. refl)), (refl, rw e (λ x l. refl)))
 
 pub mark-both-spec : {M : Type 1} → statement M
 mark-both-spec =
     tie.close
     (tie.spec
+    items-requires
     mark-items-requires
     add-t12
     mark-items-requires-2
