@@ -44,9 +44,7 @@ slice-relend-prefix-kept-from-3 : tie.Need-slice-relend-prefix-kept-from-3
 slice-relend-prefix-kept-from-3 c = search needs
 
 slice-aggregate-kept-from-4 : tie.Need-slice-aggregate-kept-from-4
-slice-aggregate-kept-from-4 c =
-    let at-if1 = c .before .before .before .before .before .before in let at-count = at-if1 .before in let entry = at-count .before .before .before .before .before .before in
-    sym (length-take-le (at-count .count .result) (entry .args .included .now) (at-if1 .if1 .left))
+slice-aggregate-kept-from-4 c = sym (length-take-le (c .before .before .before .before .before .before .before .count .result) (c .before .before .before .before .before .before .before .before .before .before .before .before .before .args .included .now) (c .before .before .before .before .before .before .if1 .left))
 
 kept-from-requires : tie.Need-kept-from-requires
 kept-from-requires c κs = search needs
@@ -65,14 +63,13 @@ same-length-3 c = search needs
 
 returns-4 : tie.Need-returns-4
 returns-4 c =
-    let at-kept-from = c .before .before .before .before .before .before .before in let at-if3 = at-kept-from .before .before .before .before .before in let at-if2 = at-if3 .before in let at-if1 = at-if2 .before in let at-count = at-if1 .before in let entry = at-count .before .before .before .before .before .before in
-    let a = entry .args in let n = at-count .count in let kept = at-kept-from .kept-from in (
+    let a = c .before .before .before .before .before .before .before .before .before .before .before .before .before .before .before .before .before .before .before .before .before .args in let n = c .before .before .before .before .before .before .before .before .before .before .before .before .before .before .before .count in let kept = c .before .before .before .before .before .before .before .kept-from in (
       search needs,
       search needs,
       search needs,
       λ e owns ground p l.
           kept .ensures .kept (owns, alike-empty (sheetOf (a .s .now)), λ f. ground .0)
-          (length-take-le (n .result) (a .first .now) (at-if2 .if2 .left) ∙ n .ensures, length-take-le (n .result) (a .second .now) (at-if3 .if3 .left) ∙ n .ensures, length-take-le (n .result) (a .included .now) (at-if1 .if1 .left) ∙ n .ensures)
+          (length-take-le (n .result) (a .first .now) (c .before .before .before .before .before .before .before .before .before .before .before .before .before .if2 .left) ∙ n .ensures, length-take-le (n .result) (a .second .now) (c .before .before .before .before .before .before .before .before .before .before .before .before .if3 .left) ∙ n .ensures, length-take-le (n .result) (a .included .now) (c .before .before .before .before .before .before .before .before .before .before .before .before .before .before .if1 .left) ∙ n .ensures)
           (ground .1) (λ q l. absurd (omega arith)) p (omega (arith, eqb-true (kept .result) (c .count2 .result) e, c .count2 .ensures, l)),
     )
 

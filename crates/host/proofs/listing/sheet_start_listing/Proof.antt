@@ -67,10 +67,9 @@ same-length c = ap length (c .before .before .write-words .ensures) ∙ simp len
 
 returns-2 : tie.Need-returns-2
 returns-2 c =
-    let at-write-words = c .before .before in let at-if1 = at-write-words .before .before .before in let at-step = at-if1 .before in let entry = at-step .before .before .before .before .before .before .before in
-    let t = heard (at-step) in
-    let enough = enough-bytes t (entry .args .buffer .now) (at-if1 .if1 .left) in
-    (number-kept _ (t .most) ∙ enough .0, at-write-words .write-words .ensures ∙ enough .1)
+    let t = heard (c .before .before .before .before .before .before) in
+    let enough = enough-bytes t (c .before .before .before .before .before .before .before .before .before .before .before .before .before .args .buffer .now) (c .before .before .before .before .before .if1 .left) in
+    (number-kept _ (t .most) ∙ enough .0, c .before .before .write-words .ensures ∙ enough .1)
 
 returns-3 : tie.Need-returns-3
 returns-3 c =

@@ -22,9 +22,7 @@ is-resting-requires c κs = search needs
 
 returns : tie.Need-returns
 unfolding flaggedSound
-returns c =
-    let at-if1 = c .before .before .before in let at-included-by = at-if1 .before in let entry = at-included-by .before .before .before .before .before in
-    λ led right. let p : toZ w16 (ofZ w16 (entry .args .x .offset)) ≡ entry .args .x .offset = search needs in simp (p, c .sound-values .ensures, c .before .sound-activity .ensures led right, and-assoc) (simp (sym (at-included-by .included-by .ensures right) ∙ at-if1 .if1 .taken))
+returns c = λ led right. let p : toZ w16 (ofZ w16 (c .before .before .before .before .before .before .before .before .before .args .x .offset)) ≡ c .before .before .before .before .before .before .before .before .before .args .x .offset = search needs in simp (p, c .sound-values .ensures, c .before .sound-activity .ensures led right, and-assoc) (simp (sym (c .before .before .before .before .included-by .ensures right) ∙ c .before .before .before .if1 .taken))
 
 returns-2 : tie.Need-returns-2
 unfolding flaggedSound
