@@ -61,5 +61,9 @@ playedOn s (handed st) calls buffer = playedFrom s st calls buffer (answered s s
 
 -- on lent bytes: what opens it opens all that it rests on
 unfoldable pub played : List ℕ → Beginning → List Call → List ℕ → Outcome
-unfolding judged every concatBelow tabulate setFor restingState setting active sameGain sameOffset isResting startValue grantedMinimum grantedMaximum grants inWholeGroup startsActive startSetting started gainFits offsetFits soundGain soundOffset activeMembers soundActivity soundAt sound opens answerBy replyBy notOpen notSound notIncluded opened noProgramme programmeAnswer chosenProgramme notInGroup objectAnswer movedSetting moved chosenObject noRange outsideRange valueAnswer withSetting withGain withOffset gainSet offsetSet ownEntries objectEntries entries listedTracks tooFewWords listingAnswer listed bufferedBy buffered answerNumber reply run answered playedFrom playedOn
+unfolding judged every concatBelow tabulate setFor restingState setting active sameGain sameOffset isResting startValue grantedMinimum
+    grantedMaximum grants inWholeGroup startsActive startSetting started gainFits offsetFits soundGain soundOffset activeMembers soundActivity
+    soundAt sound opens answerBy replyBy notOpen notSound notIncluded opened noProgramme programmeAnswer chosenProgramme notInGroup objectAnswer
+    movedSetting moved chosenObject noRange outsideRange valueAnswer withSetting withGain withOffset gainSet offsetSet ownEntries objectEntries
+    entries listedTracks tooFewWords listingAnswer listed bufferedBy buffered answerNumber reply run answered playedFrom playedOn
 played bytes beginning calls buffer = playedOn (sheetOf bytes) beginning calls buffer

@@ -3,7 +3,7 @@ use Prim.Native.Nat.{ℕ, _+_, _-_}
 use mathlib.Core.List.{List, [], _∷_, _++_, map}
 use lib.ListN.{replicate, set}
 use Rattle.sheet.specs.Fields.{tracks, trackOrdinal}
-use Rattle.profile.specs.Build.{build, put, bytesOf, absent, programme, content, plain, object, slider, leaf, below, speakers, frontPack, sidePack, channelTracks, gainSet}
+use Rattle.profile.specs.Build.{build, put, bytesOf, absent, programme, content, plain, object, slider, leaf, below, speakers, frontPack, sidePack, channelTracks, gainRow}
 
 -- the word of a number below 0
 abbrev minus : ℕ → ℕ
@@ -57,10 +57,10 @@ ranges =
       packs = sidePack ∷ [];
       tracks = channelTracks 0 1;
       sets =
-          gainSet absent 0 absent absent
-          ∷ gainSet absent 1 absent absent
-          ∷ gainSet absent 1 (minus 600) 210
-          ∷ gainSet (minus 40) 1 silence 0
+          gainRow absent 0 absent absent
+          ∷ gainRow absent 1 absent absent
+          ∷ gainRow absent 1 (minus 600) 210
+          ∷ gainRow (minus 40) 1 silence 0
           ∷ [];
     }))
 
@@ -93,12 +93,12 @@ pair =
           ∷ [];
       packs = sidePack ∷ [];
       tracks = channelTracks 0 1;
-      sets = replicate 2 (gainSet (minus 50) 0 absent absent);
+      sets = replicate 2 (gainRow (minus 50) 0 absent absent);
     }))
 
 -- level 2: two beds, of 24 and 4 channels
-unfoldable pub beds : List ℕ
-beds =
+unfoldable pub twoBeds : List ℕ
+twoBeds =
     bytesOf (build (record {
       level = 2;
       programmes = programme (0 ∷ 1 ∷ []) [] ∷ [];

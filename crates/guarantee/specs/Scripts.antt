@@ -9,7 +9,7 @@ use lib.ListN.{length, set, replicate}
 use Rattle.sheet.specs.Words.{sheetOf}
 use Rattle.values.specs.declared.Gain.{Gain}
 use Rattle.values.specs.declared.Gain.the-variants.{Silent, Tenths}
-use Rattle.profile.specs.Build.{build, put, bytesOf, entries, rowWords, sectionWords, sectionEntries, pairs, programme as programmeRow, content, plain, object as objectRow, slider, leaf, below, speakers, frontPack, sidePack, channelTracks, gainSet}
+use Rattle.profile.specs.Build.{build, put, bytesOf, rowEntries, rowWords, sectionWords, sectionEntries, pairs, programme as programmeRow, content, plain, object as objectRow, slider, leaf, below, speakers, frontPack, sidePack, channelTracks, gainRow}
 use Rattle.listener.specs.declared.Setting.{Setting}
 use Rattle.listener.specs.declared.State.{State}
 use Rattle.listener.specs.State.{stateObjects, resting}
@@ -17,7 +17,7 @@ use Rattle.guarantee.specs.Run.{Call}
 use Rattle.guarantee.specs.Run.Call.{programme, object, gain, offset}
 use Rattle.guarantee.specs.Played.{Beginning, Outcome, playedOn, played}
 use Rattle.guarantee.specs.Played.Beginning.{fresh, handed}
-use Rattle.guarantee.specs.ScriptSheets.{playWords, play, brokenPlay, levelZeroPlay, ranges, family, pair, beds}
+use Rattle.guarantee.specs.ScriptSheets.{playWords, play, brokenPlay, levelZeroPlay, ranges, family, pair, twoBeds}
 
 -- a number below 0
 abbrev minus : ℕ → ℤ
@@ -234,7 +234,7 @@ germanSteps =
     ∷ []
 
 unfoldable pub scripts : List Script
-unfolding script resumed unsound unopened listing playStart germanStart state placed playWords play brokenPlay levelZeroPlay ranges family pair beds build put bytesOf entries rowWords sectionWords sectionEntries pairs programmeRow content plain objectRow slider leaf below speakers frontPack sidePack channelTracks gainSet played
+unfolding script resumed unsound unopened listing playStart germanStart state placed playWords play brokenPlay levelZeroPlay ranges family pair twoBeds build put bytesOf rowEntries rowWords sectionWords sectionEntries pairs programmeRow content plain objectRow slider leaf below speakers frontPack sidePack channelTracks gainRow played
 scripts =
     -- The play: the empty list of calls
     script play [] playStart playTracks
@@ -317,7 +317,7 @@ scripts =
     (0 ∷ 0 ∷ [])
     ∷ script pair (object 0 gives 0 ∷ programme 1 gives 0 ∷ object 0 gives 28 ∷ []) (state 1 (2 is on (up 0) (pos 0) ∷ [])) (0 ∷ [])
     -- Level 2: 28 entries
-    ∷ script beds [] (state 0 (0 is on (up 0) (pos 0) ∷ 1 is on (up 0) (pos 0) ∷ [])) (below 28)
+    ∷ script twoBeds [] (state 0 (0 is on (up 0) (pos 0) ∷ 1 is on (up 0) (pos 0) ∷ [])) (below 28)
     ∷ []
 
 -- each script comes to its outcome

@@ -28,7 +28,7 @@ use Rattle.listener.specs.Listing.{Entry, entries, listedTracks, tooFewWords, l
 use Rattle.listener.specs.StartListing.{startTracks, startNumber, startAnswer, startListed, startBuffered}
 use Rattle.guarantee.specs.Guarantee.{mostEntries}
 use Rattle.guarantee.proofs.MostLaws.{start-most}
-use Rattle.host.specs.HostListing.{bytesOf, tooFewBytes, hostAnswer, negated, answerNumber, hostListed, hostBuffered}
+use Rattle.host.specs.HostListing.{bytesOf, tooFewBytes, hostAnswer, negated, answerCode, hostListed, hostBuffered}
 use Rattle.host.specs.steps.Words.{hostWords}
 
 -- an answer is not both
@@ -124,18 +124,18 @@ module _ (s : Sheet) (p : ℕ) (r : Listing) (words : List ℕ) (e : r ≡ start
   -- a refusal is handed on
   pub told-refused : (q : Refusal) (buffer : List ℕ) → r .answer ≡ Refused q
       → (negated (refusalNumber q) ≡ hostListed s p (length buffer)) × (buffer ≡ hostBuffered s p buffer)
-  unfolding hostListed hostBuffered answerNumber bufferedBy
+  unfolding hostListed hostBuffered answerCode bufferedBy
   told-refused q buffer d = let a = refused-both s p (length buffer) q (sym told-answer ∙ d) in (rw a refl, rw a refl)
 
 module _ {s : Sheet} {p n : ℕ} {words : List ℕ} (t : Told s p n words) (buffer : List ℕ) where
   pub few-bytes : length buffer < 2 * n → (negated (refusalNumber TooFewWords) ≡ hostListed s p (length buffer)) × (buffer ≡ hostBuffered s p buffer)
-  unfolding hostListed hostBuffered answerNumber bufferedBy
+  unfolding hostListed hostBuffered answerCode bufferedBy
   few-bytes l =
       let h : ltb (length buffer) (2 * startNumber s p) ≡ true = rw (← t .number) (lt-ltb _ _ l) in
       (rw (done-room s p (length buffer) (t .answer), h) refl, rw (done-room s p (length buffer) (t .answer), h) refl)
 
   pub enough-bytes : 2 * n ≤ length buffer → (pos n ≡ hostListed s p (length buffer)) × (sets buffer 0 (bytesOf (take n words)) ≡ hostBuffered s p buffer)
-  unfolding hostListed hostBuffered answerNumber bufferedBy
+  unfolding hostListed hostBuffered answerCode bufferedBy
   enough-bytes l =
       let h : ltb (length buffer) (2 * startNumber s p) ≡ false = rw (← t .number) (le-ltb _ _ l) in
       (rw (done-room s p (length buffer) (t .answer), h) (ap pos (t .number)), rw (done-room s p (length buffer) (t .answer), h) (ap (λ (x : List ℕ). sets buffer 0 (bytesOf x)) (t .written)))

@@ -38,12 +38,12 @@ negated zero = pos 0
 negated (suc n) = negsuc n
 
 -- "It gives the number of entries, or the refusal's number negated"
-unfoldable pub answerNumber : ℕ → Answer → ℤ
-answerNumber n Done = pos n
-answerNumber n (Refused r) = negated (refusalNumber r)
+unfoldable pub answerCode : ℕ → Answer → ℤ
+answerCode n Done = pos n
+answerCode n (Refused r) = negated (refusalNumber r)
 
 unfoldable pub hostListed : Sheet → ℕ → ℕ → ℤ
-hostListed s p bytes = answerNumber (startNumber s p) (hostAnswer s p bytes)
+hostListed s p bytes = answerCode (startNumber s p) (hostAnswer s p bytes)
 
 -- the buffer's bytes afterwards: later ones stay, and a refusal writes nothing
 unfoldable pub hostBuffered : Sheet → ℕ → List ℕ → List ℕ

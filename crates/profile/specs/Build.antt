@@ -13,10 +13,10 @@ abbrev pub Row : Type 0
 Row = List Part
 
 -- the entries of a record's lists
-unfoldable pub entries : Row → List ℕ
-entries [] = []
-entries (word w ∷ r) = entries r
-entries (list xs ∷ r) = xs ++ entries r
+unfoldable pub rowEntries : Row → List ℕ
+rowEntries [] = []
+rowEntries (word w ∷ r) = rowEntries r
+rowEntries (list xs ∷ r) = xs ++ rowEntries r
 
 -- the words of a record whose entries begin at `at` in section 6
 unfoldable pub rowWords : ℕ → Row → List ℕ
@@ -27,11 +27,11 @@ rowWords at (list xs ∷ r) = at ∷ length xs ∷ rowWords (at + length xs) r
 -- the words of a section, and what its lists put into section 6
 unfoldable pub sectionWords : ℕ → List Row → List ℕ
 sectionWords at [] = []
-sectionWords at (r ∷ rs) = rowWords at r ++ sectionWords (at + length (entries r)) rs
+sectionWords at (r ∷ rs) = rowWords at r ++ sectionWords (at + length (rowEntries r)) rs
 
 unfoldable pub sectionEntries : List Row → List ℕ
 sectionEntries [] = []
-sectionEntries (r ∷ rs) = entries r ++ sectionEntries rs
+sectionEntries (r ∷ rs) = rowEntries r ++ sectionEntries rs
 
 -- a sheet's records, section by section
 pub record Parts : Type 0 where
@@ -134,5 +134,5 @@ unfoldable pub channelTracks : ℕ → ℕ → List Row
 channelTracks pack channels = map (λ n. plain (pack ∷ n ∷ [])) (below channels)
 
 -- a value set without offset words: gain, own, gain minimum, gain maximum
-unfoldable pub gainSet : ℕ → ℕ → ℕ → ℕ → Row
-gainSet gain own minimum maximum = plain (gain ∷ own ∷ minimum ∷ maximum ∷ replicate 3 absent)
+unfoldable pub gainRow : ℕ → ℕ → ℕ → ℕ → Row
+gainRow gain own minimum maximum = plain (gain ∷ own ∷ minimum ∷ maximum ∷ replicate 3 absent)

@@ -11,7 +11,7 @@ use Rattle.profile.specs.declared.Verdict.{Verdict}
 use Rattle.profile.specs.declared.Verdict.the-variants.{Accepted, Broken}
 use Rattle.profile.specs.Verdict.{verdict}
 use Rattle.profile.specs.Judged.{judged}
-use Rattle.profile.specs.Build.{Row, Parts, build, put, bytesOf, absent, eng, programme, content, object, still, slider, leaf, parent, below, speakers, frontPack, sidePack, channelTracks, gainSet, plain, entries, rowWords, sectionWords, sectionEntries, pairs}
+use Rattle.profile.specs.Build.{Row, Parts, build, put, bytesOf, absent, eng, programme, content, object, still, slider, leaf, parent, below, speakers, frontPack, sidePack, channelTracks, gainRow, plain, rowEntries, rowWords, sectionWords, sectionEntries, pairs}
 use Rattle.profile.specs.Build.Part.{word, list}
 use Rattle.profile.specs.Cases.{Case, sheetA}
 
@@ -75,10 +75,10 @@ wide = slider absent 65416 120
 
 -- a set that says nothing
 abbrev silentSet : Row
-silentSet = gainSet absent 0 absent absent
+silentSet = gainRow absent 0 absent absent
 
 unfoldable pub ruleCases : List Case
-unfolding case caseA sheet single scene narrators beds labelled sheetA build put bytesOf programme content object slider leaf parent below speakers frontPack sidePack channelTracks gainSet plain entries rowWords sectionWords sectionEntries pairs judged
+unfolding case caseA sheet single scene narrators beds labelled sheetA build put bytesOf programme content object slider leaf parent below speakers frontPack sidePack channelTracks gainRow plain rowEntries rowWords sectionWords sectionEntries pairs judged
 ruleCases =
     -- 1
     record { bytes = bytesOf (take 15 sheetA); answer = Broken 1 Header }
@@ -99,7 +99,7 @@ ruleCases =
     ∷ case (labelled 1 [] (31 ∷ [])) (Broken 6 (Content 0))
     ∷ caseA objects 0 objectGainMinimum 0 (Broken 6 (Object 0))
     ∷ case (single (slider absent 65416 32768) sidePack silentSet) (Broken 6 (Object 0))
-    ∷ case (single wide sidePack (gainSet absent 0 65416 120)) (Broken 6 (ValueSet 0))
+    ∷ case (single wide sidePack (gainRow absent 0 65416 120)) (Broken 6 (ValueSet 0))
     -- 7: the minimums hold at level 0
     ∷ case (record { level = 0; programmes = []; contents = []; objects = []; packs = []; tracks = []; sets = [] }) (Broken 7 (Programme 0))
     -- 8: a programme has a content, at level 0 too, where labels have no maximum
@@ -127,14 +127,14 @@ ruleCases =
     -- 15: a gain of 0 is a gain
     ∷ case (scene (parent (1 ∷ []) ∷ object 0 (0 ∷ []) [] [] (0 ∷ 0 ∷ replicate 5 absent) 0 0 ∷ []) []) (Broken 15 (Object 1))
     -- 16: a set with own 1 has its object as the place
-    ∷ case (single still sidePack (gainSet absent 1 absent absent)) (Broken 16 (Object 0))
+    ∷ case (single still sidePack (gainRow absent 1 absent absent)) (Broken 16 (Object 0))
     -- 17: any object precedes any set
     ∷ case (single still sidePack (plain (absent ∷ 0 ∷ absent ∷ absent ∷ 0 ∷ absent ∷ absent ∷ []))) (Broken 17 (ValueSet 0))
     ∷ case (single (0 ∷ absent ∷ absent ∷ absent ∷ 0 ∷ absent ∷ absent ∷ []) sidePack (plain (absent ∷ 0 ∷ absent ∷ absent ∷ 0 ∷ absent ∷ absent ∷ []))) (Broken 17 (Object 0))
     -- 18: a set's own range may be wider than the object's, its own gain may not leave the object's, an inherited one not the set's
-    ∷ case (single wide sidePack (gainSet 100 1 65336 200)) Accepted
-    ∷ case (single wide sidePack (gainSet 150 1 65336 200)) (Broken 18 (ValueSet 0))
-    ∷ case (single (slider 100 65416 120) sidePack (gainSet absent 1 65486 50)) (Broken 18 (ValueSet 0))
+    ∷ case (single wide sidePack (gainRow 100 1 65336 200)) Accepted
+    ∷ case (single wide sidePack (gainRow 150 1 65336 200)) (Broken 18 (ValueSet 0))
+    ∷ case (single (slider 100 65416 120) sidePack (gainRow absent 1 65486 50)) (Broken 18 (ValueSet 0))
     -- 19: an object that lists itself
     ∷ case (scene (object 0 (0 ∷ []) [] (0 ∷ []) still 0 0 ∷ []) []) (Broken 19 (Object 0))
     -- 20: absent differs from 0
@@ -146,7 +146,7 @@ ruleCases =
     -- 22: sets for two of three; sets that differ, absent and 0; a set twice; a set of an object that is not included
     ∷ case (narrators (below 3) (below 3) wide wide (replicate 3 silentSet)) Accepted
     ∷ case (narrators (below 3) (0 ∷ 2 ∷ []) wide wide (replicate 3 silentSet)) (Broken 22 (Programme 0))
-    ∷ case (narrators (below 3) (below 3) wide wide (silentSet ∷ gainSet 0 0 absent absent ∷ silentSet ∷ [])) (Broken 22 (Programme 0))
+    ∷ case (narrators (below 3) (below 3) wide wide (silentSet ∷ gainRow 0 0 absent absent ∷ silentSet ∷ [])) (Broken 22 (Programme 0))
     ∷ case (narrators (2 ∷ []) (2 ∷ 2 ∷ []) wide wide (replicate 3 silentSet)) (Broken 22 (Programme 0))
     ∷ case (narrators (2 ∷ []) (0 ∷ []) wide wide (replicate 3 silentSet)) (Broken 22 (Programme 0))
     -- 23: seventeen lone objects at level 2

@@ -61,10 +61,12 @@ kept-from-requires : tie.Need-kept-from-requires
 kept-from-requires c κs = search needs
 
 returns-4 : tie.Need-returns-4
-returns-4 c = λ kept apart p l.
-    let objects = c .before .before .before .before .before .before .before .before .before .count2 in
-    let full = length-take-le {A = ℕ} (objects .result) (replicate 2048 0) (omega (arith, c .before .before .before .before .before .before .before .before .if3 .left)) ∙ objects .ensures in
-    c .before .before .before .kept-from .ensures .kept (λ x h. absurd (omega (arith, h)), alike-empty (sheetOf (c .before .before .before .before .before .before .before .before .before .before .before .before .before .before .before .args .s .now)), λ f. absurd (true≢false (sym f))) (full, full, full) apart
+returns-4 c =
+    let at-kept-from = c .before .before .before in let at-if3 = at-kept-from .before .before .before .before .before in let at-count2 = at-if3 .before in let entry = at-count2 .before .before .before .before .before .before in
+    λ kept apart p l.
+    let objects = at-count2 .count2 in
+    let full = length-take-le {A = ℕ} (objects .result) (replicate 2048 0) (omega (arith, at-if3 .if3 .left)) ∙ objects .ensures in
+    at-kept-from .kept-from .ensures .kept (λ x h. absurd (omega (arith, h)), alike-empty (sheetOf (entry .args .s .now)), λ f. absurd (true≢false (sym f))) (full, full, full) apart
     (λ q h. (kept q h .0, kept q h .1, λ f. absurd (true≢false (sym f)))) p l .1
 
 pub grouped-programmes-spec : {M : Type 1} → statement M

@@ -62,34 +62,43 @@ array-borrow-prefix-leaders : tie.Need-array-borrow-prefix-leaders
 array-borrow-prefix-leaders c = search needs
 
 slice-aggregate-kept-from-3 : tie.Need-slice-aggregate-kept-from-3
-slice-aggregate-kept-from-3 c = sym (length-take-le (c .before .before .before .before .before .before .before .before .before .before .before .before .before .before .before .before .before .count .result) (c .before .before .before .before .before .before .before .before .before .first-namers2 .last .1 .1 .0) (omega (arith, c .before .before .before .before .before .before .before .before .before .before .before .before .before .before .before .before .if1 .left, c .before .before .before .before .before .before .before .before .before .first-namers2 .ensures .0)))
+slice-aggregate-kept-from-3 c =
+    let at-first-namers2 = c .before .before .before .before .before .before .before .before .before in let at-if1 = at-first-namers2 .before .before .before .before .before .before .before in let at-count = at-if1 .before in
+    sym (length-take-le (at-count .count .result) (at-first-namers2 .first-namers2 .last .1 .1 .0) (omega (arith, at-if1 .if1 .left, at-first-namers2 .first-namers2 .ensures .0)))
 
 array-borrow-prefix-second : tie.Need-array-borrow-prefix-second
 array-borrow-prefix-second c = search needs
 
 slice-aggregate-kept-from-4 : tie.Need-slice-aggregate-kept-from-4
-slice-aggregate-kept-from-4 c = sym (length-take-le (c .before .before .before .before .before .before .before .before .before .before .before .before .before .before .before .before .before .before .count .result) (replicate 2048 0) (omega (arith, c .before .before .before .before .before .before .before .before .before .before .before .before .before .before .before .before .before .if1 .left)))
+slice-aggregate-kept-from-4 c =
+    let at-if1 = c .before .before .before .before .before .before .before .before .before .before .before .before .before .before .before .before .before in let at-count = at-if1 .before in
+    sym (length-take-le (at-count .count .result) (replicate 2048 0) (omega (arith, at-if1 .if1 .left)))
 
 array-borrow-prefix-included : tie.Need-array-borrow-prefix-included
 array-borrow-prefix-included c = search needs
 
 slice-aggregate-kept-from-5 : tie.Need-slice-aggregate-kept-from-5
-slice-aggregate-kept-from-5 c = sym (length-take-le (c .before .before .before .before .before .before .before .before .before .before .before .before .before .before .before .before .before .before .before .count .result) (replicate 2048 0) (omega (arith, c .before .before .before .before .before .before .before .before .before .before .before .before .before .before .before .before .before .before .if1 .left)))
+slice-aggregate-kept-from-5 c =
+    let at-if1 = c .before .before .before .before .before .before .before .before .before .before .before .before .before .before .before .before .before .before in let at-count = at-if1 .before in
+    sym (length-take-le (at-count .count .result) (replicate 2048 0) (omega (arith, at-if1 .if1 .left)))
 
 kept-from-requires : tie.Need-kept-from-requires
 kept-from-requires c κs = search needs
 
 returns-3 : tie.Need-returns-3
-returns-3 c = λ apart.
-    let objects = c .before .before .before .before .before .before .before .before .before .before .before .before .before .before .before .before .before .before .before .before .before .before .before .count in
-    let owners = c .before .before .before .before .before .before .before .before .before .before .before .before .before .before .before .before .before .before .first-namers in
-    let leaders = c .before .before .before .before .before .before .before .before .before .before .before .before .before .before .before .first-namers2 in
-    let full = length-take-le {A = ℕ} (objects .result) (replicate 2048 0) (omega (arith, c .before .before .before .before .before .before .before .before .before .before .before .before .before .before .before .before .before .before .before .before .before .before .if1 .left)) ∙ objects .ensures in
-    c .before .before .before .kept-from .ensures .kept (
-      firsts-made (sheetOf (c .before .before .before .before .before .before .before .before .before .before .before .before .before .before .before .before .before .before .before .before .before .before .before .before .before .args .s .now)) (replicate 4680 0) (λ x h. nought 4680 x) SetSpans (owners .last .1 .1 .0) (owners .ensures .0) (owners .ensures .1),
-      c .before .before .before .before .before .before .before .before .before .before .fill-alike .ensures .1 (λ x h. nought 4680 x),
-      λ f. c .before .before .before .before .before .before .before .before .before .before .before .before .before .before .before .before .before .before .before .before .before .sets-once .ensures (not-false _ (c .before .before .before .before .before .before .before .before .before .before .before .before .before .before .before .before .before .before .before .before .if2 .left)),
-    ) (length-take-le (objects .result) (leaders .last .1 .1 .0) (omega (arith, c .before .before .before .before .before .before .before .before .before .before .before .before .before .before .before .before .before .before .before .before .before .before .if1 .left, leaders .ensures .0)) ∙ objects .ensures, full, full) apart (λ q h. absurd (omega (arith, h)))
+returns-3 c =
+    let at-kept-from = c .before .before .before in let at-fill-alike = at-kept-from .before .before .before .before .before .before .before in let at-first-namers2 = at-fill-alike .before .before .before .before .before in let at-first-namers = at-first-namers2 .before .before .before in let at-if2 = at-first-namers .before .before in let at-sets-once = at-if2 .before in let at-if1 = at-sets-once .before in
+    let at-count = at-if1 .before in let entry = at-count .before .before in
+    λ apart.
+    let objects = at-count .count in
+    let owners = at-first-namers .first-namers in
+    let leaders = at-first-namers2 .first-namers2 in
+    let full = length-take-le {A = ℕ} (objects .result) (replicate 2048 0) (omega (arith, at-if1 .if1 .left)) ∙ objects .ensures in
+    at-kept-from .kept-from .ensures .kept (
+      firsts-made (sheetOf (entry .args .s .now)) (replicate 4680 0) (λ x h. nought 4680 x) SetSpans (owners .last .1 .1 .0) (owners .ensures .0) (owners .ensures .1),
+      at-fill-alike .fill-alike .ensures .1 (λ x h. nought 4680 x),
+      λ f. at-sets-once .sets-once .ensures (not-false _ (at-if2 .if2 .left)),
+    ) (length-take-le (objects .result) (leaders .last .1 .1 .0) (omega (arith, at-if1 .if1 .left, leaders .ensures .0)) ∙ objects .ensures, full, full) apart (λ q h. absurd (omega (arith, h)))
 
 pub kept-programmes-spec : {M : Type 1} → statement M
 kept-programmes-spec =

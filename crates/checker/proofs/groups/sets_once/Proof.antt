@@ -24,7 +24,9 @@ all-once-requires : tie.Need-all-once-requires
 all-once-requires c κs = search needs
 
 returns : tie.Need-returns
-returns c = λ e. laws.sets-once (sheetOf (c .before .before .before .before .before .before .before .args .s .now)) (c .before .before .before .before .count-namings .last .1 .1 .0) (spans-made (sheetOf (c .before .before .before .before .before .before .before .args .s .now)) (replicate 4680 0) (λ x l. nought 4680 x) (c .before .before .before .before .count-namings .last .1 .1 .0) (c .before .before .before .before .count-namings .ensures .0) (c .before .before .before .before .count-namings .ensures .1)) (λ v l. c .all-once .ensures e v (rw (c .before .count .ensures) l))
+returns c =
+    let at-count-namings = c .before .before .before .before in let entry = at-count-namings .before .before .before in
+    λ e. laws.sets-once (sheetOf (entry .args .s .now)) (at-count-namings .count-namings .last .1 .1 .0) (spans-made (sheetOf (entry .args .s .now)) (replicate 4680 0) (λ x l. nought 4680 x) (at-count-namings .count-namings .last .1 .1 .0) (at-count-namings .count-namings .ensures .0) (at-count-namings .count-namings .ensures .1)) (λ v l. c .all-once .ensures e v (rw (c .before .count .ensures) l))
 
 pub sets-once-spec : {M : Type 1} → statement M
 sets-once-spec =

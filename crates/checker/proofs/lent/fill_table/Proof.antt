@@ -92,43 +92,57 @@ same-length : tie.Need-same-length
 same-length c = search needs
 
 returns-2 : tie.Need-returns-2
-returns-2 c = (c .before .before .count-covered .ensures .0 ∙ c .before .before .before .before .before .before .count-namings .ensures .0, λ noughts. rw (c .before .before .before .before .before .before .before .before .enum-told2 .given .1) (named-made (sheetOf (c .before .before .before .before .before .before .before .before .before .before .before .before .args .s .now)) (c .before .before .before .before .before .before .before .before .before .before .before .before .args .table .now) noughts (c .before .before .before .before .before .before .count-namings .last .1 .1 .0) (c .before .before .count-covered .last .1 .1 .0) (c .before .before .before .before .before .before .count-namings .ensures .0) (c .before .before .count-covered .ensures .0) (c .before .before .before .before .before .before .count-namings .ensures .1) (c .before .before .count-covered .ensures .1)))
+returns-2 c =
+    let at-count-covered = c .before .before in let at-count-namings = at-count-covered .before .before .before .before in let at-enum-told2 = at-count-namings .before .before in let entry = at-enum-told2 .before .before .before .before in
+    (at-count-covered .count-covered .ensures .0 ∙ at-count-namings .count-namings .ensures .0, λ noughts. rw (at-enum-told2 .enum-told2 .given .1) (named-made (sheetOf (entry .args .s .now)) (entry .args .table .now) noughts (at-count-namings .count-namings .last .1 .1 .0) (at-count-covered .count-covered .last .1 .1 .0) (at-count-namings .count-namings .ensures .0) (at-count-covered .count-covered .ensures .0) (at-count-namings .count-namings .ensures .1) (at-count-covered .count-covered .ensures .1)))
 
 same-length-2 : tie.Need-same-length-2
 same-length-2 c = search needs
 
 returns-3 : tie.Need-returns-3
-returns-3 c = (c .before .before .count-covered2 .ensures .0, λ noughts. rw (c .before .before .before .before .enum-told3 .given .1) (spans-made (sheetOf (c .before .before .before .before .before .before .before .before .args .s .now)) (c .before .before .before .before .before .before .before .before .args .table .now) noughts (c .before .before .count-covered2 .last .1 .1 .0) (c .before .before .count-covered2 .ensures .0) (c .before .before .count-covered2 .ensures .1)))
+returns-3 c =
+    let at-count-covered2 = c .before .before in let at-enum-told3 = at-count-covered2 .before .before in let entry = at-enum-told3 .before .before .before .before in
+    (at-count-covered2 .count-covered2 .ensures .0, λ noughts. rw (at-enum-told3 .enum-told3 .given .1) (spans-made (sheetOf (entry .args .s .now)) (entry .args .table .now) noughts (at-count-covered2 .count-covered2 .last .1 .1 .0) (at-count-covered2 .count-covered2 .ensures .0) (at-count-covered2 .count-covered2 .ensures .1)))
 
 same-length-3 : tie.Need-same-length-3
 same-length-3 c = search needs
 
 returns-4 : tie.Need-returns-4
-returns-4 c = (c .before .before .count-covered3 .ensures .0, λ noughts. rw (c .before .before .before .before .enum-told4 .given .1) (counts-made (sheetOf (c .before .before .before .before .before .before .before .before .args .s .now)) (c .before .before .before .before .before .before .before .before .args .table .now) noughts ContentLists (c .before .before .count-covered3 .last .1 .1 .0) (c .before .before .count-covered3 .ensures .0) (c .before .before .count-covered3 .ensures .1)))
+returns-4 c =
+    let at-count-covered3 = c .before .before in let at-enum-told4 = at-count-covered3 .before .before in let entry = at-enum-told4 .before .before .before .before in
+    (at-count-covered3 .count-covered3 .ensures .0, λ noughts. rw (at-enum-told4 .enum-told4 .given .1) (counts-made (sheetOf (entry .args .s .now)) (entry .args .table .now) noughts ContentLists (at-count-covered3 .count-covered3 .last .1 .1 .0) (at-count-covered3 .count-covered3 .ensures .0) (at-count-covered3 .count-covered3 .ensures .1)))
 
 same-length-4 : tie.Need-same-length-4
 same-length-4 c = search needs
 
 returns-5 : tie.Need-returns-5
-returns-5 c = (c .before .before .count-namings2 .ensures .0, λ noughts. rw (c .before .before .before .before .enum-told5 .given .1) (counts-made (sheetOf (c .before .before .before .before .before .before .before .before .args .s .now)) (c .before .before .before .before .before .before .before .before .args .table .now) noughts ContentObjects (c .before .before .count-namings2 .last .1 .1 .0) (c .before .before .count-namings2 .ensures .0) (c .before .before .count-namings2 .ensures .1)))
+returns-5 c =
+    let at-count-namings2 = c .before .before in let at-enum-told5 = at-count-namings2 .before .before in let entry = at-enum-told5 .before .before .before .before in
+    (at-count-namings2 .count-namings2 .ensures .0, λ noughts. rw (at-enum-told5 .enum-told5 .given .1) (counts-made (sheetOf (entry .args .s .now)) (entry .args .table .now) noughts ContentObjects (at-count-namings2 .count-namings2 .last .1 .1 .0) (at-count-namings2 .count-namings2 .ensures .0) (at-count-namings2 .count-namings2 .ensures .1)))
 
 same-length-5 : tie.Need-same-length-5
 same-length-5 c = search needs
 
 returns-6 : tie.Need-returns-6
-returns-6 c = (c .before .before .count-covered4 .ensures .0, λ noughts. rw (c .before .before .before .before .enum-told6 .given .1) (counts-made (sheetOf (c .before .before .before .before .before .before .before .before .args .s .now)) (c .before .before .before .before .before .before .before .before .args .table .now) noughts Complements (c .before .before .count-covered4 .last .1 .1 .0) (c .before .before .count-covered4 .ensures .0) (c .before .before .count-covered4 .ensures .1)))
+returns-6 c =
+    let at-count-covered4 = c .before .before in let at-enum-told6 = at-count-covered4 .before .before in let entry = at-enum-told6 .before .before .before .before in
+    (at-count-covered4 .count-covered4 .ensures .0, λ noughts. rw (at-enum-told6 .enum-told6 .given .1) (counts-made (sheetOf (entry .args .s .now)) (entry .args .table .now) noughts Complements (at-count-covered4 .count-covered4 .last .1 .1 .0) (at-count-covered4 .count-covered4 .ensures .0) (at-count-covered4 .count-covered4 .ensures .1)))
 
 same-length-6 : tie.Need-same-length-6
 same-length-6 c = search needs
 
 returns-7 : tie.Need-returns-7
-returns-7 c = (c .before .before .first-namers .ensures .0, λ noughts. rw (c .before .before .before .before .enum-told7 .given .1) (firsts-made (sheetOf (c .before .before .before .before .before .before .before .before .args .s .now)) (c .before .before .before .before .before .before .before .before .args .table .now) noughts SetSpans (c .before .before .first-namers .last .1 .1 .0) (c .before .before .first-namers .ensures .0) (c .before .before .first-namers .ensures .1)))
+returns-7 c =
+    let at-first-namers = c .before .before in let at-enum-told7 = at-first-namers .before .before in let entry = at-enum-told7 .before .before .before .before in
+    (at-first-namers .first-namers .ensures .0, λ noughts. rw (at-enum-told7 .enum-told7 .given .1) (firsts-made (sheetOf (entry .args .s .now)) (entry .args .table .now) noughts SetSpans (at-first-namers .first-namers .last .1 .1 .0) (at-first-namers .first-namers .ensures .0) (at-first-namers .first-namers .ensures .1)))
 
 same-length-7 : tie.Need-same-length-7
 same-length-7 c = search needs
 
 returns-8 : tie.Need-returns-8
-returns-8 c = (c .before .before .first-namers2 .ensures .0, λ noughts. rw (c .before .before .before .before .enum-told8 .given .1) (firsts-made (sheetOf (c .before .before .before .before .before .before .before .before .args .s .now)) (c .before .before .before .before .before .before .before .before .args .table .now) noughts Complements (c .before .before .first-namers2 .last .1 .1 .0) (c .before .before .first-namers2 .ensures .0) (c .before .before .first-namers2 .ensures .1)))
+returns-8 c =
+    let at-first-namers2 = c .before .before in let at-enum-told8 = at-first-namers2 .before .before in let entry = at-enum-told8 .before .before .before .before in
+    (at-first-namers2 .first-namers2 .ensures .0, λ noughts. rw (at-enum-told8 .enum-told8 .given .1) (firsts-made (sheetOf (entry .args .s .now)) (entry .args .table .now) noughts Complements (at-first-namers2 .first-namers2 .last .1 .1 .0) (at-first-namers2 .first-namers2 .ensures .0) (at-first-namers2 .first-namers2 .ensures .1)))
 
 same-length-8 : tie.Need-same-length-8
 same-length-8 c = search needs

@@ -22,7 +22,9 @@ grouped-programmes-requires : tie.Need-grouped-programmes-requires
 grouped-programmes-requires c κs = search needs
 
 by-tables-requires-2 : tie.Need-by-tables-requires-2
-by-tables-requires-2 c κs = subst (λ (x : ℕ). Unbroken (sheetOf (c .before .before .before .before .args .s .now)) x (c .before .before .before .before .args .section) (c .grouped-programmes .result)) (sym (c .before .match .keys3)) (unbroken-21 (sheetOf (c .before .before .before .before .args .s .now)) (c .before .before .before .before .args .section) (c .grouped-programmes .result) (c .grouped-programmes .ensures (c .before .before .before .before .pre .0) (c .before .before .before .before .pre .1 (c .before .match .keys3))))
+by-tables-requires-2 c κs =
+    let entry = c .before .before .before .before in
+    subst (λ (x : ℕ). Unbroken (sheetOf (entry .args .s .now)) x (entry .args .section) (c .grouped-programmes .result)) (sym (c .before .match .keys3)) (unbroken-21 (sheetOf (entry .args .s .now)) (entry .args .section) (c .grouped-programmes .result) (c .grouped-programmes .ensures (entry .pre .0) (entry .pre .1 (c .before .match .keys3))))
 
 by-tables-requires-3 : tie.Need-by-tables-requires-3
 by-tables-requires-3 c κs = subst (λ (x : ℕ). Unbroken (sheetOf (c .before .before .before .args .s .now)) x (c .before .before .before .args .section) (c .before .before .before .args .kept)) (sym (c .match .keys4)) (unbroken-22 (sheetOf (c .before .before .before .args .s .now)) (c .before .before .before .args .section) (c .before .before .before .args .kept) (c .before .before .before .pre .0))

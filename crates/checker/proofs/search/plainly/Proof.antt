@@ -23,7 +23,9 @@ broken-below-requires : tie.Need-broken-below-requires
 broken-below-requires c κs = λ j l. absurd (omega (arith, l))
 
 returns : tie.Need-returns
-returns c = c .before .broken-below .ensures .1 (empty-right (sheetOf (c .before .before .before .before .before .args .s .now)) (firstTable (c .before .before .before .before .before .args .rule) (c .before .before .before .before .before .args .section))) (empty-right (sheetOf (c .before .before .before .before .before .args .s .now)) (secondTable (c .before .before .before .before .before .args .rule) (c .before .before .before .before .before .args .section)))
+returns c =
+    let entry = c .before .before .before .before .before in
+    c .before .broken-below .ensures .1 (empty-right (sheetOf (entry .args .s .now)) (firstTable (entry .args .rule) (entry .args .section))) (empty-right (sheetOf (entry .args .s .now)) (secondTable (entry .args .rule) (entry .args .section)))
 
 pub plainly-spec : {M : Type 1} → statement M
 plainly-spec =

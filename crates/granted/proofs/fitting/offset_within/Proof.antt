@@ -22,11 +22,12 @@ offset-in-range-requires c κs = search needs
 returns : tie.Need-returns
 unfolding offsetWithin
 returns c =
-    let p : toZ w16 (ofZ w16 (c .before .before .before .before .args .offset)) ≡ c .before .before .before .before .args .offset = search needs in
-    let q : toZ w16 (ofZ w16 (c .before .before .before .signed .result)) ≡ c .before .before .before .signed .result = search needs in
-    let r : toZ w16 (ofZ w16 (c .before .before .signed2 .result)) ≡ c .before .before .signed2 .result = search needs in
+    let at-signed2 = c .before .before in let at-signed = at-signed2 .before in let entry = at-signed .before in
+    let p : toZ w16 (ofZ w16 (entry .args .offset)) ≡ entry .args .offset = search needs in
+    let q : toZ w16 (ofZ w16 (at-signed .signed .result)) ≡ at-signed .signed .result = search needs in
+    let r : toZ w16 (ofZ w16 (at-signed2 .signed2 .result)) ≡ at-signed2 .signed2 .result = search needs in
     simp (c .offset-in-range .ensures, c .before .legal-offset .ensures, p, q, r)
-    (simp (c .before .before .signed2 .ensures, c .before .before .before .signed .ensures))
+    (simp (at-signed2 .signed2 .ensures, at-signed .signed .ensures))
 
 pub offset-within-spec : {M : Type 1} → statement M
 offset-within-spec =

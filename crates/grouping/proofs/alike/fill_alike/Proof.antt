@@ -45,7 +45,9 @@ loop-less : tie.Need-loop-less Inv-loop μ-loop
 loop-less c = search needs
 
 loop-again : tie.Need-loop-again Inv-loop μ-loop
-loop-again c = (search needs, c .before .before .mark-at .ensures .0 ∙ c .before .before .before .before .before .before .loop .inv .1, λ noughts. alike-more (sheetOf (c .before .before .before .before .before .before .before .before .before .before .before .before .before .args .s .now)) (c .before .before .before .before .before .before .loop .table) (c .before .before .mark-at .last .0) (c .before .before .before .before .before .before .loop .v) (c .before .before .before .before .leader-alike .result) (c .before .before .mark-at .ensures .1) (c .before .before .before .before .leader-alike .ensures .1 (c .before .before .before .before .before .before .before .before .offset .ensures)) (c .before .before .before .before .before .before .loop .inv .2 noughts))
+loop-again c =
+    let at-mark-at = c .before .before in let at-leader-alike = at-mark-at .before .before in let at-loop = at-leader-alike .before .before in let at-offset = at-loop .before .before in let entry = at-offset .before .before .before .before .before in
+    (search needs, at-mark-at .mark-at .ensures .0 ∙ at-loop .loop .inv .1, λ noughts. alike-more (sheetOf (entry .args .s .now)) (at-loop .loop .table) (at-mark-at .mark-at .last .0) (at-loop .loop .v) (at-leader-alike .leader-alike .result) (at-mark-at .mark-at .ensures .1) (at-leader-alike .leader-alike .ensures .1 (at-offset .offset .ensures)) (at-loop .loop .inv .2 noughts))
 
 same-length : tie.Need-same-length Inv-loop μ-loop
 same-length c = c .before .loop .inv .1

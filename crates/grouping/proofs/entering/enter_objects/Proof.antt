@@ -73,8 +73,9 @@ loop-less c = search needs
 
 loop-again : tie.Need-loop-again Inv-loop μ-loop
 loop-again c =
-    let a = c .before .before .before .before .before .before .before .before .before .before .before .before .before .before .before .args in let here = c .before .before .before .before .before .before .before .loop in let from = c .before .before .before .before .before .before .before .before .before .before .before .before .field in let object = c .before .before .before .before .object-from in
-    let changed = c .before .before .before .change in let now = changed .ensures .1 (not-false _ (c .if2 .left)) in (
+    let at-change = c .before .before .before in let at-object-from = at-change .before in let at-loop = at-object-from .before .before .before in let at-field = at-loop .before .before .before .before .before in let entry = at-field .before .before .before in
+    let a = entry .args in let here = at-loop .loop in let from = at-field .field in let object = at-object-from .object-from in
+    let changed = at-change .change in let now = changed .ensures .1 (not-false _ (c .if2 .left)) in (
       search needs,
       changed .ensures .0 ∙ here .inv .1,
       λ at.

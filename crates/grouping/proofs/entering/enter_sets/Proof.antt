@@ -115,15 +115,17 @@ loop-less c = search needs
 
 loop-again : tie.Need-loop-again Inv-loop μ-loop
 loop-again c =
-    let a = c .before .before .before .before .before .before .before .before .before .before .before .before .before .before .before .before .before .before .before .before .before .before .before .args in let here = c .before .before .before .before .before .before .before .before .before .before .before .before .loop in
-    let from = c .before .before .before .before .before .before .before .before .before .before .before .before .before .before .before .before .field in let set = c .before .before .before .before .before .before .before .before .before .before .word in let owner = c .before .before .before .before .before .before .before .before .at in let standing = c .before .before .before .before .before .before .representative in
-    let changed = c .before .before .before .change in (
+    let at-change = c .before .before .before in let at-representative = at-change .before .before .before in let at-if3 = at-representative .before in let at-at = at-if3 .before in let at-if2 = at-at .before in let at-word = at-if2 .before in let at-loop = at-word .before .before in let at-field = at-loop .before .before .before .before in let at-count = at-field .before in
+    let entry = at-count .before .before .before .before .before .before in
+    let a = entry .args in let here = at-loop .loop in
+    let from = at-field .field in let set = at-word .word in let owner = at-at .at in let standing = at-representative .representative in
+    let changed = at-change .change in (
       search needs,
       changed .ensures .0 ∙ here .inv .1,
       λ at owns.
           sets-more (sheetOf (a .s .now)) (a .alike .now) (a .owners .now) (a .p) (here .j) (set .result) (owner .result) (standing .result) (a .included .now) (here .included) (changed .last .0) owns
           (set .ensures ∙ set-entry (sheetOf (a .s .now)) (a .sections .references) (from .result) (a .p) (here .j) at (from .ensures))
-          (omega (arith, c .before .before .before .before .before .before .before .before .before .if2 .left, c .before .before .before .before .before .before .before .before .before .before .before .before .before .before .before .before .before .count .ensures)) (owner .ensures) (c .before .before .before .before .before .before .before .if3 .left) (standing .ensures) (here .inv .1) (changed .ensures .0) (here .inv .2 at owns)
+          (omega (arith, at-if2 .if2 .left, at-count .count .ensures)) (owner .ensures) (at-if3 .if3 .left) (standing .ensures) (here .inv .1) (changed .ensures .0) (here .inv .2 at owns)
           (changed .ensures .1 (not-false _ (c .if5 .left))),
     )
 

@@ -37,7 +37,9 @@ same-length-2 : tie.Need-same-length-2 Inv-loop μ-loop
 same-length-2 c = c .before .before .before .before .before .add-row .ensures .1 ∙ c .before .before .before .before .before .before .before .before .before .before .loop .inv .2
 
 returns : tie.Need-returns Inv-loop μ-loop
-returns c = (c .before .before .before .before .before .add-row .ensures .0 ∙ c .before .before .before .before .before .before .before .before .before .before .loop .inv .1, c .before .before .before .before .before .add-row .ensures .1 ∙ c .before .before .before .before .before .before .before .before .before .before .loop .inv .2, λ few. absurd (omega (arith, few, c .if1 .taken)))
+returns c =
+    let at-add-row = c .before .before .before .before .before in let at-loop = at-add-row .before .before .before .before .before in
+    (at-add-row .add-row .ensures .0 ∙ at-loop .loop .inv .1, at-add-row .add-row .ensures .1 ∙ at-loop .loop .inv .2, λ few. absurd (omega (arith, few, c .if1 .taken)))
 
 add-j : tie.Need-add-j Inv-loop μ-loop
 add-j c = search needs
@@ -47,13 +49,14 @@ loop-less c = search needs
 
 loop-again : tie.Need-loop-again Inv-loop μ-loop
 loop-again c =
-    let a = c .before .before .before .before .before .before .before .before .before .before .before .before .before .before .before .args in let here = c .before .before .before .before .before .before .before .before .before .before .loop in let row = c .before .before .before .before .before .add-row in let entry = c .before .before .before .before .before .before .entry in (
+    let at-add-row = c .before .before .before .before .before in let at-entry = at-add-row .before in let at-loop-test = at-entry .before .before .before in let at-loop = at-loop-test .before in let at-number = at-loop .before in let entry′ = at-number .before .before .before .before in
+    let a = entry′ .args in let here = at-loop .loop in let row = at-add-row .add-row in let entry = at-entry .entry in (
       search needs,
       row .ensures .0 ∙ here .inv .1,
       row .ensures .1 ∙ here .inv .2,
       λ few.
           let added = row .ensures .2 few in let so = here .inv .3 (omega (arith, few, added .0)) in
-          (so .0, λ listed. rw (added .0) (listed-row (sheetOf (a .s .now)) (here .leading) (row .last .0) (here .partners) (row .last .1 .0) (here .g) (a .l) (here .j) (entry .result) (entry .ensures) (added .1) (added .2) (omega (arith, c .before .before .before .before .before .before .before .before .before .loop-test .taken, c .before .before .before .before .before .before .before .before .before .before .before .number .ensures)) (so .1 listed))),
+          (so .0, λ listed. rw (added .0) (listed-row (sheetOf (a .s .now)) (here .leading) (row .last .0) (here .partners) (row .last .1 .0) (here .g) (a .l) (here .j) (entry .result) (entry .ensures) (added .1) (added .2) (omega (arith, at-loop-test .loop-test .taken, at-number .number .ensures)) (so .1 listed))),
     )
 
 same-length-3 : tie.Need-same-length-3 Inv-loop μ-loop

@@ -66,19 +66,20 @@ loop-less c = search needs
 
 loop-again : tie.Need-loop-again Inv-loop μ-loop
 loop-again c =
-    let a = c .before .before .before .before .before .before .before .before .before .before .before .before .before .args in let i : ℕ = c .before .before .before .before .before .loop .i in let Kept : ℕ → Type 0 = GroupKept (sheetOf (a .s .now)) (a .included .now) in let P : ℕ → Type 0 = λ j. RowKept (sheetOf (a .s .now)) (a .included .now) (getD (a .leading .now) j 0) (getD (a .partners .now) j 0) in
+    let at-shared-slice-known5 = c .before .before .before in let at-loop-test = at-shared-slice-known5 .before in let at-loop = at-loop-test .before in let entry = at-loop .before .before .before .before .before .before .before .before in
+    let a = entry .args in let i : ℕ = at-loop .loop .i in let Kept : ℕ → Type 0 = GroupKept (sheetOf (a .s .now)) (a .included .now) in let P : ℕ → Type 0 = λ j. RowKept (sheetOf (a .s .now)) (a .included .now) (getD (a .leading .now) j 0) (getD (a .partners .now) j 0) in
     let few : a .g < 65535 = omega arith in (
       search needs,
       λ at listed.
-          let so = c .before .before .before .before .before .loop .inv .1 at listed in
+          let so = at-loop .loop .inv .1 at listed in
           ⊎-elim
           (λ w.
-          let kept = w .1 .ensures (not-false _ (w .2 .left)) at (listed few .2 i (c .before .before .before .before .loop-test .taken)) in
+          let kept = w .1 .ensures (not-false _ (w .2 .left)) at (listed few .2 i (at-loop-test .loop-test .taken)) in
           (subst (λ (x : ℕ). x < 65536 → Kept x) (sym (w .3)) (λ small. kept), below-more P i (so .1) (inr kept)))
           (λ v. (
             subst (λ (x : ℕ). x < 65536 → Kept x) (sym (v .1)) (so .0),
             below-more P i (so .1) (⊎-elim (λ q. inl q)
-                (λ q. let z : getD (a .leading .now) i 0 ≡ c .before .before .before .before .before .loop .asked = q in inr (subst Kept (sym z) (so .0 (omega (arith, z, c .before .before .before .shared-slice-known5 .given i)))))
+                (λ q. let z : getD (a .leading .now) i 0 ≡ at-loop .loop .asked = q in inr (subst Kept (sym z) (so .0 (omega (arith, z, at-shared-slice-known5 .shared-slice-known5 .given i)))))
                 (c .before .row-passes .ensures (not-false _ (v .0 .left)))),
           ))
           (c .if4 .came),

@@ -103,7 +103,8 @@ loop-less c = search needs
 loop-again : tie.Need-loop-again Inv-loop μ-loop
 unfolding howMany
 loop-again c =
-    let a = c .before .before .before .before .before .before .before .before .before .before .before .before .before .before .before .args in let before = c .before .before .before .before .before .before .before .loop .inv in let read = c .before .before .before .before .at in let word = c .before .before .before .before .before .word in
+    let at-if2 = c .before .before in let at-noted-differ = at-if2 .before in let at-at = at-noted-differ .before in let at-word = at-at .before in let at-loop = at-word .before .before in let entry = at-loop .before .before .before .before .before .before .before .before in
+    let a = entry .args in let before = at-loop .loop .inv in let read = at-at .at in let word = at-word .word in
     let had : ℕ → ℕ = listedIn (sheetOf (a .s .now)) (a .included .now) (a .sections .references) (a .first) in (
       search needs,
       omega (arith, before .1, c .before .one3 .ensures .1),
@@ -111,10 +112,10 @@ loop-again c =
       rw (add-one, c .before .one3 .ensures .0, before .3, read .ensures, word .ensures) (omega arith),
       rw (add-one, c .one4 .ensures .0, before .4, read .ensures, word .ensures) (omega arith),
       λ at k.
-          below-more (λ j. 1 < had j → setsDiffer (sheetOf (a .s .now)) (a .e - 2) (had j - 2) ≡ false) (c .before .before .before .before .before .before .before .loop .i) (before .5 at k)
+          below-more (λ j. 1 < had j → setsDiffer (sheetOf (a .s .now)) (a .e - 2) (had j - 2) ≡ false) (at-loop .loop .i) (before .5 at k)
           (λ l.
           let z = read .ensures ∙ ap (λ (x : ℕ). getD (a .included .now) x 0) (word .ensures) in
-          rw (sym z) (c .before .before .before .noted-differ .ensures (c .before .before .if2 .left) at k (rw z l))),
+          rw (sym z) (at-noted-differ .noted-differ .ensures (at-if2 .if2 .left) at k (rw z l))),
     )
 
 add-all : tie.Need-add-all Inv-loop μ-loop

@@ -21,7 +21,9 @@ noted-differ-requires : tie.Need-noted-differ-requires
 noted-differ-requires c κs = search needs
 
 returns-4 : tie.Need-returns-4
-returns-4 c = λ e at. let more = above-one (sheetOf (c .before .before .before .before .before .args .s .now)) (c .before .before .before .before .before .args .e) (c .before .before .before .before .before .args .c) (c .before .before .if2 .left) (c .before .if3 .left) in pair-sets (sheetOf (c .before .before .before .before .before .args .s .now)) (c .before .before .before .before .before .args .e) (c .before .before .before .before .before .args .c) (more .0) (more .1) (c .noted-differ .ensures (not-true _ e) at (more .0))
+returns-4 c =
+    let at-if2 = c .before .before in let entry = at-if2 .before .before .before in
+    λ e at. let more = above-one (sheetOf (entry .args .s .now)) (entry .args .e) (entry .args .c) (at-if2 .if2 .left) (c .before .if3 .left) in pair-sets (sheetOf (entry .args .s .now)) (entry .args .e) (entry .args .c) (more .0) (more .1) (c .noted-differ .ensures (not-true _ e) at (more .0))
 
 pub pair-kept-spec : {M : Type 1} → statement M
 pair-kept-spec = tie.close (tie.spec returns returns-2 returns-3 noted-differ-requires returns-4)

@@ -66,11 +66,12 @@ same-length-4 c = search needs
 
 returns-4 : tie.Need-returns-4
 returns-4 c =
-    let a = c .before .before .before .before .before .before .before .before .before .before .before .before .before .before .args in let changed = c .before .before .change2 in (
+    let at-change2 = c .before .before in let at-if3 = at-change2 .before .before in let at-group-kept = at-if3 .before in let at-entry = at-group-kept .before in let entry′ = at-entry .before .before .before .before .before .before .before .before in
+    let a = entry′ .args in let changed = at-change2 .change2 in (
       changed .ensures .0,
       λ e at.
           let now = changed .ensures .1 e in
-          (now .0, others (a .groups .now) (changed .last .0) (a .l) (a .seen + 2) (changed .ensures .0) (now .2), inr (inl (c .before .before .before .before .before .group-kept .ensures (not-false _ (c .before .before .before .before .if3 .left)) at (λ one. c .before .before .before .before .before .before .entry .ensures), put (a .groups .now) (changed .last .0) (a .l) (a .seen + 2) (changed .ensures .0) (now .2) (now .0)))),
+          (now .0, others (a .groups .now) (changed .last .0) (a .l) (a .seen + 2) (changed .ensures .0) (now .2), inr (inl (at-group-kept .group-kept .ensures (not-false _ (at-if3 .if3 .left)) at (λ one. at-entry .entry .ensures), put (a .groups .now) (changed .last .0) (a .l) (a .seen + 2) (changed .ensures .0) (now .2) (now .0)))),
     )
 
 pub group-asked-spec : {M : Type 1} → statement M

@@ -63,8 +63,9 @@ loop-less c = search needs
 
 loop-again : tie.Need-loop-again Inv-loop μ-loop
 loop-again c =
-    let a = c .before .before .before .before .before .before .before .before .before .before .before .before .before .before .before .before .args in let here = c .before .before .before .before .before .before .before .before .loop in let from = c .before .before .before .before .before .before .before .before .before .before .field in let object = c .before .before .before .before .before .before .object-from in
-    let leader = c .before .before .before .before .before .leader-by in let asked = c .before .before .before .group-asked in (
+    let at-group-asked = c .before .before .before in let at-leader-by = at-group-asked .before .before in let at-object-from = at-leader-by .before in let at-loop = at-object-from .before .before in let at-field = at-loop .before .before in let entry = at-field .before .before .before .before .before .before in
+    let a = entry .args in let here = at-loop .loop in let from = at-field .field in let object = at-object-from .object-from in
+    let leader = at-leader-by .leader-by in let asked = at-group-asked .group-asked in (
       search needs,
       asked .ensures .0 ∙ here .inv .1,
       λ at led.

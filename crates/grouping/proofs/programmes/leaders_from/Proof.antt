@@ -49,7 +49,9 @@ enter-requires : tie.Need-enter-requires Inv-loop μ-loop
 enter-requires c κs = search needs
 
 same-length : tie.Need-same-length Inv-loop μ-loop
-same-length c = c .before .before .before .before .before .before .before .before .before .before .before .before .before .before .before .before .before .before .first-namers .ensures .0 ∙ c .before .before .before .before .before .before .before .before .before .before .before .before .before .before .before .before .before .before .before .before .before .before .clear .ensures .0
+same-length c =
+    let at-first-namers = c .before .before .before .before .before .before .before .before .before .before .before .before .before .before .before .before .before .before in let at-clear = at-first-namers .before .before .before .before in
+    at-first-namers .first-namers .ensures .0 ∙ at-clear .clear .ensures .0
 
 same-length-2 : tie.Need-same-length-2 Inv-loop μ-loop
 same-length-2 c = c .before .before .before .before .before .before .loop .inv .0 ∙ c .before .before .before .before .before .before .before .before .before .before .before .before .before .before .clear2 .ensures .0
@@ -71,21 +73,27 @@ groups-asked-requires : tie.Need-groups-asked-requires Inv-loop μ-loop
 groups-asked-requires c κs = search needs
 
 same-length-4 : tie.Need-same-length-4 Inv-loop μ-loop
-same-length-4 c = c .before .before .before .before .before .before .before .before .before .before .before .before .before .before .before .before .before .before .before .before .before .before .before .before .before .first-namers .ensures .0 ∙ c .before .before .before .before .before .before .before .before .before .before .before .before .before .before .before .before .before .before .before .before .before .before .before .before .before .before .before .before .before .clear .ensures .0
+same-length-4 c =
+    let at-first-namers = c .before .before .before .before .before .before .before .before .before .before .before .before .before .before .before .before .before .before .before .before .before .before .before .before .before in let at-clear = at-first-namers .before .before .before .before in
+    at-first-namers .first-namers .ensures .0 ∙ at-clear .clear .ensures .0
 
 same-length-5 : tie.Need-same-length-5 Inv-loop μ-loop
-same-length-5 c = c .before .before .before .groups-asked .ensures .0 ∙ c .before .before .before .before .before .before .before .before .before .before .before .before .before .loop .inv .0 ∙ c .before .before .before .before .before .before .before .before .before .before .before .before .before .before .before .before .before .before .before .before .before .clear2 .ensures .0
+same-length-5 c =
+    let at-groups-asked = c .before .before .before in let at-loop = at-groups-asked .before .before .before .before .before .before .before .before .before .before in let at-clear2 = at-loop .before .before .before .before .before .before .before .before in
+    at-groups-asked .groups-asked .ensures .0 ∙ at-loop .loop .inv .0 ∙ at-clear2 .clear2 .ensures .0
 
 same-length-6 : tie.Need-same-length-6 Inv-loop μ-loop
-same-length-6 c = c .before .before .before .before .before .before .before .before .before .before .enter .ensures .0 ∙ c .before .before .before .before .before .before .before .before .before .before .before .before .before .loop .inv .1 ∙ c .before .before .before .before .before .before .before .before .before .before .before .before .before .before .before .before .before .clear3 .ensures .0
+same-length-6 c =
+    let at-enter = c .before .before .before .before .before .before .before .before .before .before in let at-loop = at-enter .before .before .before in let at-clear3 = at-loop .before .before .before .before in
+    at-enter .enter .ensures .0 ∙ at-loop .loop .inv .1 ∙ at-clear3 .clear3 .ensures .0
 
 returns-2 : tie.Need-returns-2 Inv-loop μ-loop
 returns-2 c =
-    let l = c .before .before .before .before .before .before .before .before .before .before .before .before .before in
+    let at-groups-asked = c .before .before .before in let at-enter = at-groups-asked .before .before .before .before .before .before .before in let l = at-enter .before .before .before in
     record {
       first = l .before .before .before .before .before .before .before .before .before .before .before .before .first-namers .ensures .0 ∙ l .before .before .before .before .before .before .before .before .before .before .before .before .before .before .before .before .clear .ensures .0;
-      second = c .before .before .before .groups-asked .ensures .0 ∙ l .loop .inv .0 ∙ l .before .before .before .before .before .before .before .before .clear2 .ensures .0;
-      third = c .before .before .before .before .before .before .before .before .before .before .enter .ensures .0 ∙ l .loop .inv .1 ∙ l .before .before .before .before .clear3 .ensures .0;
+      second = at-groups-asked .groups-asked .ensures .0 ∙ l .loop .inv .0 ∙ l .before .before .before .before .before .before .before .before .clear2 .ensures .0;
+      third = at-enter .enter .ensures .0 ∙ l .loop .inv .1 ∙ l .before .before .before .before .clear3 .ensures .0;
       kept = λ pass full apart before. l .loop .inv .2 pass apart (l .before .before .before .before .before .before .before .before .clear2 .ensures .0 ∙ full .1) (l .before .before .before .before .clear3 .ensures .0 ∙ full .2) before .1;
     }
 
@@ -100,23 +108,27 @@ loop-less c = omega (arith, c .next-other .ensures .0, c .before .before .before
 
 loop-again : tie.Need-loop-again Inv-loop μ-loop
 loop-again c =
-    let a = c .before .before .before .before .before .before .before .before .before .before .before .before .before .before .before .before .before .before .before .before .before .before .before .before .before .before .before .before .before .before .before .before .before .before .before .before .before .before .before .before .before .before .before .args in
-    let here = c .before .before .before .before .before .before .before .before .before .before .before .before .before .before .before .before .before .before .loop in
-    let named = c .before .before .before .before .before .before .before .before .before .before .before .before .before .before .before .before .before .before .before .before .before .before .before .before .before .before .before .before .before .before .first-namers in let enter = c .before .before .before .before .before .before .before .before .before .before .before .before .before .before .before .enter in
-    let asked = c .before .before .before .before .before .before .before .before .groups-asked in let cleared = c .before .before .before .mark-objects in
-    let at = c .before .before .before .before .before .before .before .before .before .before .before .before .before .before .before .before .before .before .before .before .before .before .before .before .before .before .before .before .before .before .before .before .before .before .before .before .section-offsets .ensures in
-    let led : Leaders (sheetOf (a .s .now)) (named .last .1 .1 .0) = λ x l. named .ensures .1 x l ∙ ap (firstBy (sheetOf (a .s .now)) Complements x) (c .before .before .before .before .before .before .before .before .before .before .before .before .before .before .before .before .before .before .before .before .before .before .before .before .before .before .before .before .before .before .before .before .before .before .clear .ensures .1 x (rw (named .ensures .0) at l)) in (
+    let at-mark-objects = c .before .before .before in let at-if2 = at-mark-objects .before .before in let at-groups-asked = at-if2 .before .before .before in let at-if1 = at-groups-asked .before .before .before .before in let at-enter = at-if1 .before .before .before in let at-loop = at-enter .before .before .before in
+    let at-first-namers = at-loop .before .before .before .before .before .before .before .before .before .before .before .before in let at-clear = at-first-namers .before .before .before .before in let at-section-offsets = at-clear .before .before in let entry = at-section-offsets .before .before .before .before .before .before .before in
+    let a = entry .args in
+    let here = at-loop .loop in
+    let named = at-first-namers .first-namers in let enter = at-enter .enter in
+    let asked = at-groups-asked .groups-asked in let cleared = at-mark-objects .mark-objects in
+    let at = at-section-offsets .section-offsets .ensures in
+    let led : Leaders (sheetOf (a .s .now)) (named .last .1 .1 .0) = λ x l. named .ensures .1 x l ∙ ap (firstBy (sheetOf (a .s .now)) Complements x) (at-clear .clear .ensures .1 x (rw (named .ensures .0) at l)) in (
       asked .ensures .0 ∙ here .inv .0,
       cleared .ensures .0 ∙ enter .ensures .0 ∙ here .inv .1,
       λ pass apart full full₂ before.
-          let so = here .inv .2 pass apart full full₂ before in let entered = enter .ensures .1 (not-false _ (c .before .before .before .before .before .before .before .before .before .before .before .before .if1 .left)) at (pass .0) in let groups = asked .ensures .1 (not-false _ (c .before .before .before .before .before .if2 .left)) at led in (
+          let so = here .inv .2 pass apart full full₂ before in let entered = enter .ensures .1 (not-false _ (at-if1 .if1 .left)) at (pass .0) in let groups = asked .ensures .1 (not-false _ (at-if2 .if2 .left)) at led in (
             led-ready (sheetOf (a .s .now)) (a .wanted .both) (a .owners .now) (a .alike .now) (here .p) (here .included) (enter .last .1 .1 .1 .1 .1 .1 .0) (here .groups) (asked .last .1 .1 .1 .1 .1 .0) pass entered (so .0) groups (asked .ensures .0) (c .next-other .result) (cleared .last .1 .1 .1 .0) (c .next-other .ensures .0) (enter .ensures .0) (cleared .ensures .0) (cleared .ensures .1),
             c .next-other .ensures .1 (led-more (sheetOf (a .s .now)) (a .wanted .both) (a .owners .now) (a .alike .now) (here .p) (here .included) (enter .last .1 .1 .1 .1 .1 .1 .0) (here .groups) (asked .last .1 .1 .1 .1 .1 .0) pass entered (so .0) groups (asked .ensures .0) apart (so .1)),
           ),
     )
 
 same-length-7 : tie.Need-same-length-7 Inv-loop μ-loop
-same-length-7 c = c .before .before .before .before .before .before .before .before .before .before .before .before .before .first-namers .ensures .0 ∙ c .before .before .before .before .before .before .before .before .before .before .before .before .before .before .before .before .before .clear .ensures .0
+same-length-7 c =
+    let at-first-namers = c .before .before .before .before .before .before .before .before .before .before .before .before .before in let at-clear = at-first-namers .before .before .before .before in
+    at-first-namers .first-namers .ensures .0 ∙ at-clear .clear .ensures .0
 
 same-length-8 : tie.Need-same-length-8 Inv-loop μ-loop
 same-length-8 c = c .before .loop .inv .0 ∙ c .before .before .before .before .before .before .before .before .before .clear2 .ensures .0

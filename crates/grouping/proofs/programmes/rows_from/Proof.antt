@@ -49,8 +49,9 @@ same-length-3 c = c .before .before .before .enter .ensures .0 ∙ c .before .be
 
 returns : tie.Need-returns Inv-loop μ-loop
 returns c =
-    let rows = c .before .before .before .before .before .before .before .before .before .before .before .before .before .before .before .before .list-leaders .ensures in
-    record { first = rows .0; second = rows .1; third = c .before .before .before .enter .ensures .0 ∙ c .before .before .before .before .before .before .before .clear .ensures .0 ∙ c .before .before .before .before .before .before .before .before .before .before .loop .inv .0; kept = λ pass full apart. c .before .before .before .before .before .before .before .before .before .before .loop .inv .1 pass (full .2) }
+    let at-enter = c .before .before .before in let at-clear = at-enter .before .before .before .before in let at-loop = at-clear .before .before .before in let at-list-leaders = at-loop .before .before .before .before .before .before in
+    let rows = at-list-leaders .list-leaders .ensures in
+    record { first = rows .0; second = rows .1; third = at-enter .enter .ensures .0 ∙ at-clear .clear .ensures .0 ∙ at-loop .loop .inv .0; kept = λ pass full apart. at-loop .loop .inv .1 pass (full .2) }
 
 groups-kept-requires : tie.Need-groups-kept-requires Inv-loop μ-loop
 groups-kept-requires c κs = search needs
@@ -62,12 +63,15 @@ same-length-5 : tie.Need-same-length-5 Inv-loop μ-loop
 same-length-5 c = c .before .before .before .before .before .before .before .before .before .before .before .before .before .before .before .before .before .before .before .before .before .list-leaders .ensures .1
 
 same-length-6 : tie.Need-same-length-6 Inv-loop μ-loop
-same-length-6 c = c .before .before .before .before .before .before .before .before .enter .ensures .0 ∙ c .before .before .before .before .before .before .before .before .before .before .before .before .clear .ensures .0 ∙ c .before .before .before .before .before .before .before .before .before .before .before .before .before .before .before .loop .inv .0
+same-length-6 c =
+    let at-enter = c .before .before .before .before .before .before .before .before in let at-clear = at-enter .before .before .before .before in let at-loop = at-clear .before .before .before in
+    at-enter .enter .ensures .0 ∙ at-clear .clear .ensures .0 ∙ at-loop .loop .inv .0
 
 returns-2 : tie.Need-returns-2 Inv-loop μ-loop
 returns-2 c =
-    let rows = c .before .before .before .before .before .before .before .before .before .before .before .before .before .before .before .before .before .before .before .before .before .list-leaders .ensures in
-    record { first = rows .0; second = rows .1; third = c .before .before .before .before .before .before .before .before .enter .ensures .0 ∙ c .before .before .before .before .before .before .before .before .before .before .before .before .clear .ensures .0 ∙ c .before .before .before .before .before .before .before .before .before .before .before .before .before .before .before .loop .inv .0; kept = λ pass full apart. c .before .before .before .before .before .before .before .before .before .before .before .before .before .before .before .loop .inv .1 pass (full .2) }
+    let at-enter = c .before .before .before .before .before .before .before .before in let at-clear = at-enter .before .before .before .before in let at-loop = at-clear .before .before .before in let at-list-leaders = at-loop .before .before .before .before .before .before in
+    let rows = at-list-leaders .list-leaders .ensures in
+    record { first = rows .0; second = rows .1; third = at-enter .enter .ensures .0 ∙ at-clear .clear .ensures .0 ∙ at-loop .loop .inv .0; kept = λ pass full apart. at-loop .loop .inv .1 pass (full .2) }
 
 next-other-requires : tie.Need-next-other-requires Inv-loop μ-loop
 next-other-requires c κs = search needs
@@ -77,15 +81,17 @@ loop-less c = omega (arith, c .next-other .ensures .0, c .before .before .before
 
 loop-again : tie.Need-loop-again Inv-loop μ-loop
 loop-again c =
-    let a = c .before .before .before .before .before .before .before .before .before .before .before .before .before .before .before .before .before .before .before .before .before .before .before .before .before .before .before .before .before .before .before .before .args in
-    let here = c .before .before .before .before .before .before .before .before .before .before .before .before .before .before .before .before .loop in let cleared = c .before .before .before .before .before .before .before .before .before .before .before .before .before .clear in let enter = c .before .before .before .before .before .before .before .before .before .enter in
-    let at = c .before .before .before .before .before .before .before .before .before .before .before .before .before .before .before .before .before .before .before .before .before .before .before .before .before .section-offsets .ensures in (
+    let at-groups-kept = c .before .before in let at-if1 = at-groups-kept .before .before .before .before in let at-enter = at-if1 .before .before .before in let at-clear = at-enter .before .before .before .before in let at-loop = at-clear .before .before .before in let at-list-leaders = at-loop .before .before .before .before .before .before in let at-section-offsets = at-list-leaders .before .before .before in
+    let entry = at-section-offsets .before .before .before .before .before .before .before in
+    let a = entry .args in
+    let here = at-loop .loop in let cleared = at-clear .clear in let enter = at-enter .enter in
+    let at = at-section-offsets .section-offsets .ensures in (
       enter .ensures .0 ∙ cleared .ensures .0 ∙ here .inv .0,
       λ pass full before.
           c .next-other .ensures .1
           (programme-more (sheetOf (a .s .now)) (a .wanted .both) (a .owners .now) (a .alike .now) (here .p) (cleared .last .0) (enter .last .1 .1 .1 .1 .1 .1 .0) pass
-          (enter .ensures .1 (not-false _ (c .before .before .before .before .before .before .if1 .left)) at (pass .0)) (cleared .ensures .1) (cleared .ensures .0 ∙ here .inv .0 ∙ full)
-          (c .before .before .groups-kept .ensures (not-false _ (c .before .if2 .left)) at (c .before .before .before .before .before .before .before .before .before .before .before .before .before .before .before .before .before .before .before .before .before .before .list-leaders .ensures .2)) (here .inv .1 pass full before)),
+          (enter .ensures .1 (not-false _ (at-if1 .if1 .left)) at (pass .0)) (cleared .ensures .1) (cleared .ensures .0 ∙ here .inv .0 ∙ full)
+          (at-groups-kept .groups-kept .ensures (not-false _ (c .before .if2 .left)) at (at-list-leaders .list-leaders .ensures .2)) (here .inv .1 pass full before)),
     )
 
 same-length-7 : tie.Need-same-length-7 Inv-loop μ-loop

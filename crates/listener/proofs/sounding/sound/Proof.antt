@@ -178,17 +178,18 @@ loop3-again c =
 returns-2 : tie.Need-returns-2 Inv-loop μ-loop Inv-loop2 μ-loop2 Inv-loop3 μ-loop3
 unfolding restingFrom
 returns-2 c =
-    let l = c .before .before .before .before .before .loop in let l2 = c .before .before .before .loop2 in let l3 = c .before .loop3 in
-    let entered = c .before .before .before .before .before .before .before in let n = entered .enter-included .result in
+    let at-loop2-test = c .before .before in let at-loop2 = at-loop2-test .before in let at-loop-test = at-loop2 .before in let at-loop = at-loop-test .before in let entered = at-loop .before .before in
+    let l = at-loop .loop in let l2 = at-loop2 .loop2 in let l3 = c .before .loop3 in
+    let n = entered .enter-included .result in
     let counted = entered .before .before .before .before .before .before in let a = counted .before .before .args in let s = sheetOf (a .s .now) in
     let e : l3 .o ≡ stateObjects = omega (arith, c .loop3-test .left, l3 .inv .0) in
-    let g : l2 .o ≡ n = omega (arith, c .before .before .loop2-test .left, l2 .inv .0) in
+    let g : l2 .o ≡ n = omega (arith, at-loop2-test .loop2-test .left, l2 .inv .0) in
     let good = every (λ q. flaggedSound s (a .t2 .programme) (l .active) q (setting (a .t2) q)) in
     l3 .inv .2
     ∙ ap₂ (λ (a b : Bool). a && b) (l2 .inv .1 ∙ ap good g) (ap (every (λ q. ltb q n || isResting (setting (a .t2) q))) e)
     ∙ and-behind (good n) (every (soundAt s (a .t2)) n) (restingFrom (a .t2) n)
     (λ still.
-    let f : l .active ≡ tabulate (λ o. cond (isActive (a .t2) o) 1 0) stateObjects = begun-all (l .inv .1) (λ k i j. sym (ap (λ (t : Bool). cond t 1 0) (rest-inactive (a .t2) n k still (omega (arith, c .before .before .before .before .loop-test .left, l .inv .0, i)) j))) in
+    let f : l .active ≡ tabulate (λ o. cond (isActive (a .t2) o) 1 0) stateObjects = begun-all (l .inv .1) (λ k i j. sym (ap (λ (t : Bool). cond t 1 0) (rest-inactive (a .t2) n k still (omega (arith, at-loop-test .loop-test .left, l .inv .0, i)) j))) in
     ap (λ (t : List ℕ). every (λ o. flaggedSound s (a .t2 .programme) t o (setting (a .t2) o)) n) f ∙ all-flags s (a .t2) n)
     ∙ sym (sound-parts s (a .t2) n (entered .enter-included .ensures .1) (entered .enter-included .ensures .2) (rw (← counted .count .ensures) (entered .before .before .before .before .before .if1 .left)))
 

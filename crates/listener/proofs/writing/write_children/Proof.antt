@@ -39,10 +39,11 @@ loop-less c = search needs
 
 loop-again : tie.Need-loop-again Inv-loop μ-loop
 loop-again c =
-    let w = c .before .before .write-own .ensures in let e = c .before .before .before .before .entry .ensures in
-    let l = c .before .before .before .before .before .before .loop in
-    let s = sheetOf (c .before .before .before .before .before .before .before .before .before .before .args .s .now) in
-    written-more (l .inv) _ _ (c .before .before .before .before .before .loop-test .taken) (w .0 ∙ ap (λ (x : ℕ). l .pos + length (ownTracks s x)) e) (w .1 ∙ ap (λ (x : ℕ). sets (l .buffer) (l .pos) (ownTracks s x)) e)
+    let at-write-own = c .before .before in let at-entry = at-write-own .before .before in let at-loop-test = at-entry .before in let at-loop = at-loop-test .before in let entry′ = at-loop .before .before .before .before in
+    let w = at-write-own .write-own .ensures in let e = at-entry .entry .ensures in
+    let l = at-loop .loop in
+    let s = sheetOf (entry′ .args .s .now) in
+    written-more (l .inv) _ _ (at-loop-test .loop-test .taken) (w .0 ∙ ap (λ (x : ℕ). l .pos + length (ownTracks s x)) e) (w .1 ∙ ap (λ (x : ℕ). sets (l .buffer) (l .pos) (ownTracks s x)) e)
 
 same-length : tie.Need-same-length Inv-loop μ-loop
 same-length c = same-long (c .before .loop .inv)

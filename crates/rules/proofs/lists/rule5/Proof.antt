@@ -62,13 +62,14 @@ returns-2 c = λ first second. simp (c .lacks .ensures, c .before .field .ensure
 
 returns-3 : tie.Need-returns-3
 unfolding rule5 firstTarget secondTarget
-returns-3 c = λ first second.
-    let m = c .before .before .before .before .before .before in
+returns-3 c =
+    let at-list-lacks-by3 = c .before .before in let at-lacks2 = at-list-lacks-by3 .before in let at-pack-of = at-lacks2 .before in let at-has-pack = at-pack-of .before in let m = at-has-pack .before in
+    λ first second.
     let a = m .before .before .before .before .args in
     let s = sheetOf (a .s .now) in
     let f : NextRight s (Lacks tracks) (a .first .now) = rw (m .match .keys3) at first in
     let g : NextRight s (Lacks objects) (a .second .now) = rw (m .match .keys3) at second in
-    simp (c .list-lacks-by5 .ensures g, c .before .list-lacks-by4 .ensures g, c .before .before .list-lacks-by3 .ensures f, c .before .before .before .lacks2 .ensures, c .before .before .before .before .pack-of .ensures, c .before .before .before .before .before .has-pack .ensures, m .match .keys3, or-false)
+    simp (c .list-lacks-by5 .ensures g, c .before .list-lacks-by4 .ensures g, at-list-lacks-by3 .list-lacks-by3 .ensures f, at-lacks2 .lacks2 .ensures, at-pack-of .pack-of .ensures, at-has-pack .has-pack .ensures, m .match .keys3, or-false)
 
 returns-4 : tie.Need-returns-4
 unfolding rule5

@@ -39,10 +39,11 @@ returns-2 c = λ marks sets. simp (c .enum-told .given .1, c .before .before .be
 returns-3 : tie.Need-returns-3
 unfolding whollyIncluded included setsNamed howManyMembers
 returns-3 c =
-    let a = c .before .before .before .before .before .before .before .before .before .before .before .args in
-    let leader = c .before .before .before .before .before .before .before .leader in let if1 = c .before .before .before .before .before .before .if1 in
-    let members-passing = c .before .before .before .before .before .members-passing in let members = c .before .before .before .before .members in
-    let enum-told2 = c .before .before .enum-told2 in
+    let at-enum-told2 = c .before .before in let at-members = at-enum-told2 .before .before in let at-members-passing = at-members .before in let at-if1 = at-members-passing .before in let at-leader = at-if1 .before in let entry = at-leader .before .before .before .before in
+    let a = entry .args in
+    let leader = at-leader .leader in let if1 = at-if1 .if1 in
+    let members-passing = at-members-passing .members-passing in let members = at-members .members in
+    let enum-told2 = at-enum-told2 .enum-told2 in
     λ marks sets. let named : NamedSets (sheetOf (a .s .now)) (a .p) (a .sets .now) = rw (enum-told2 .given .1) at sets in simp (enum-told2 .given .1, c .members-passing2 .ensures named, eq-eqb _ _ (sym (members-passing .ensures marks) ∙ c .before .if2 .taken ∙ members .ensures .0), members .ensures .0, sym (leader .ensures) ∙ not-false _ (if1 .left))
 
 returns-4 : tie.Need-returns-4

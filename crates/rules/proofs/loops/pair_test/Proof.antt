@@ -46,17 +46,19 @@ returns-2 c = λ right. let r : Owners (sheetOf (c .before .before .before .befo
 
 returns-3 : tie.Need-returns-3
 returns-3 c =
-    let a = c .before .before .before .before .before .before .before .before .before .before .before .args in
-    let enum-told3 = c .before .before .before .before .before .before .enum-told3 in let owner-by3 = c .before .before .before .before .before .owner-by3 in
-    let leader-by = c .before .before .before .before .leader-by in let leader-by2 = c .before .before .leader-by2 in let s = sheetOf (a .s .now) in
-    λ right. let r : Owners s (a .owners .now) × Leaders s (a .leaders .now) = rw (enum-told3 .given .1) at right in let x : leader-by .result ≡ leaderOf s (owner s (a .x)) = leader-by .ensures (r .1) ∙ ap (leaderOf s) (owner-by3 .ensures (r .0)) in let y : leader-by2 .result ≡ leaderOf s (owner s (a .y)) = leader-by2 .ensures (r .1) ∙ ap (leaderOf s) (c .before .before .before .owner-by4 .ensures (r .0)) in simp (c .sets-differ .ensures, eq-eqb _ _ (sym x ∙ c .before .if1 .taken ∙ y), enum-told3 .given .1)
+    let at-leader-by2 = c .before .before in let at-owner-by4 = at-leader-by2 .before in let at-leader-by = at-owner-by4 .before in let at-owner-by3 = at-leader-by .before in let at-enum-told3 = at-owner-by3 .before in let entry = at-enum-told3 .before .before .before .before .before in
+    let a = entry .args in
+    let enum-told3 = at-enum-told3 .enum-told3 in let owner-by3 = at-owner-by3 .owner-by3 in
+    let leader-by = at-leader-by .leader-by in let leader-by2 = at-leader-by2 .leader-by2 in let s = sheetOf (a .s .now) in
+    λ right. let r : Owners s (a .owners .now) × Leaders s (a .leaders .now) = rw (enum-told3 .given .1) at right in let x : leader-by .result ≡ leaderOf s (owner s (a .x)) = leader-by .ensures (r .1) ∙ ap (leaderOf s) (owner-by3 .ensures (r .0)) in let y : leader-by2 .result ≡ leaderOf s (owner s (a .y)) = leader-by2 .ensures (r .1) ∙ ap (leaderOf s) (at-owner-by4 .owner-by4 .ensures (r .0)) in simp (c .sets-differ .ensures, eq-eqb _ _ (sym x ∙ c .before .if1 .taken ∙ y), enum-told3 .given .1)
 
 returns-4 : tie.Need-returns-4
 returns-4 c =
-    let a = c .before .before .before .before .before .before .before .before .before .before .args in
-    let enum-told3 = c .before .before .before .before .before .enum-told3 in let owner-by3 = c .before .before .before .before .owner-by3 in
-    let leader-by = c .before .before .before .leader-by in let s = sheetOf (a .s .now) in
-    λ right. let r : Owners s (a .owners .now) × Leaders s (a .leaders .now) = rw (enum-told3 .given .1) at right in let x : leader-by .result ≡ leaderOf s (owner s (a .x)) = leader-by .ensures (r .1) ∙ ap (leaderOf s) (owner-by3 .ensures (r .0)) in let y : c .before .leader-by2 .result ≡ leaderOf s (owner s (a .y)) = c .before .leader-by2 .ensures (r .1) ∙ ap (leaderOf s) (c .before .before .owner-by4 .ensures (r .0)) in simp (ne-eqb _ _ (λ q. c .if1 .left (x ∙ q ∙ sym y)), enum-told3 .given .1)
+    let at-owner-by4 = c .before .before in let at-leader-by = at-owner-by4 .before in let at-owner-by3 = at-leader-by .before in let at-enum-told3 = at-owner-by3 .before in let entry = at-enum-told3 .before .before .before .before .before in
+    let a = entry .args in
+    let enum-told3 = at-enum-told3 .enum-told3 in let owner-by3 = at-owner-by3 .owner-by3 in
+    let leader-by = at-leader-by .leader-by in let s = sheetOf (a .s .now) in
+    λ right. let r : Owners s (a .owners .now) × Leaders s (a .leaders .now) = rw (enum-told3 .given .1) at right in let x : leader-by .result ≡ leaderOf s (owner s (a .x)) = leader-by .ensures (r .1) ∙ ap (leaderOf s) (owner-by3 .ensures (r .0)) in let y : c .before .leader-by2 .result ≡ leaderOf s (owner s (a .y)) = c .before .leader-by2 .ensures (r .1) ∙ ap (leaderOf s) (at-owner-by4 .owner-by4 .ensures (r .0)) in simp (ne-eqb _ _ (λ q. c .if1 .left (x ∙ q ∙ sym y)), enum-told3 .given .1)
 
 pub pair-test-spec : {M : Type 1} → statement M
 pair-test-spec =

@@ -52,16 +52,17 @@ odd-tracks-requires c κs = search needs
 returns-2 : tie.Need-returns-2
 unfolding rule14 oddTracks trackAt entry channels
 returns-2 c =
-    let a = c .before .before .before .before .before .before .before .before .before .before .before .before .args in let s = sheetOf (a .s .now) in
-    let first = field s objects (a .o) trackList in let n = number s objects (a .o) trackList in let number′ = c .before .before .before .before .before .before .before .before .number in
-    let pack = c .before .pack-of in let tested = all-three _ _ _ (c .before .before .if2 .taken) in
-    let in-next = all-three _ _ _ (sym (c .before .before .before .before .inside .ensures) ∙ tested .1) in
-    let in-again = all-three _ _ _ (sym (c .before .before .before .inside2 .ensures) ∙ tested .2) in
-    let e : n ≡ channels s (a .o) = sym (number′ .ensures) ∙ c .before .before .before .before .before .before .if1 .left ∙ c .before .before .before .before .before .before .before .channels .ensures in
+    let at-if2 = c .before .before in let at-inside2 = at-if2 .before in let at-inside = at-inside2 .before in let at-field = at-inside .before in let at-if1 = at-field .before in let at-channels = at-if1 .before in let at-number = at-channels .before in let entry = at-number .before .before .before .before in
+    let a = entry .args in let s = sheetOf (a .s .now) in
+    let first = field s objects (a .o) trackList in let n = number s objects (a .o) trackList in let number′ = at-number .number in
+    let pack = c .before .pack-of in let tested = all-three _ _ _ (at-if2 .if2 .taken) in
+    let in-next = all-three _ _ _ (sym (at-inside .inside .ensures) ∙ tested .1) in
+    let in-again = all-three _ _ _ (sym (at-inside2 .inside2 .ensures) ∙ tested .2) in
+    let e : n ≡ channels s (a .o) = sym (number′ .ensures) ∙ at-if1 .if1 .left ∙ at-channels .channels .ensures in
     let full = ap (λ (p : ℕ). field s packs p packChannels) (pack .ensures) ∙ with-pack (hasChildren s (a .o)) (number′ .result) (field s packs (packOf s (a .o)) packChannels) (number′ .ensures ∙ e) (ltb-true _ _ (tested .0)) in
     λ next again. rw (eq-eqb _ _ e)
     (c .odd-tracks .ensures next again (ltb-true _ _ (in-next .0)) (ltb-true _ _ (in-again .0)) (leb-true _ _ (in-next .2)) full
-    ∙ ap₂ (λ (i m : ℕ). oddTracks s i m (pack .result)) (c .before .before .before .before .before .field .ensures) (number′ .ensures)
+    ∙ ap₂ (λ (i m : ℕ). oddTracks s i m (pack .result)) (at-field .field .ensures) (number′ .ensures)
     ∙ ap (oddTracks s first n) (pack .ensures)
     ∙ ap (λ (m : ℕ). any (λ i. not (eqb (packAt s (first + i)) (packOf s (a .o)))) n || any (λ k. not (eqb (howMany (λ i. eqb (ordinalAt s (first + i)) k) n) 1)) m) e)
 
@@ -77,9 +78,10 @@ bad-ordinals-requires c κs = search needs
 returns-3 : tie.Need-returns-3
 unfolding rule14 anyEntry badChannel trackAt
 returns-3 c =
-    let number′ = c .before .before .before .before .before .before .before .before .before .number in
-    let channels′ = c .before .before .before .before .before .before .before .before .channels in let if1 = c .before .before .before .before .before .before .before .if1 in
-    λ next again. let e = (sym (number′ .ensures) ∙ if1 .left ∙ channels′ .ensures) in simp (eq-eqb _ _ e, c .before .any-entry .ensures, c .before .before .pack-of2 .ensures, c .bad-ordinals .ensures e)
+    let at-pack-of2 = c .before .before in let at-if1 = at-pack-of2 .before .before .before .before .before in let at-channels = at-if1 .before in let at-number = at-channels .before in
+    let number′ = at-number .number in
+    let channels′ = at-channels .channels in let if1 = at-if1 .if1 in
+    λ next again. let e = (sym (number′ .ensures) ∙ if1 .left ∙ channels′ .ensures) in simp (eq-eqb _ _ e, c .before .any-entry .ensures, at-pack-of2 .pack-of2 .ensures, c .bad-ordinals .ensures e)
 
 pub rule14-spec : {M : Type 1} → statement M
 rule14-spec =

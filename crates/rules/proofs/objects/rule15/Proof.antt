@@ -37,11 +37,12 @@ object-range-requires-2 c κs = search needs
 returns : tie.Need-returns
 unfolding rule15
 returns c =
-    let top-by = c .before .before .before .before .before .before .before .before .before .top-by in
-    let leader = c .before .before .before .before .before .before .before .before .leader in
-    let field = c .before .before .before .before .before .before .before .field in let number = c .before .before .before .before .before .before .number in
-    let field2 = c .before .before .before .before .before .field2 in let is-absent = c .before .before .before .before .is-absent in
-    λ tops. simp (c .object-range2 .ensures, c .before .object-range .ensures, c .before .before .is-absent2 .ensures, c .before .before .before .field3 .ensures, is-absent .ensures, field2 .ensures, number .ensures, field .ensures, leader .ensures, top-by .ensures tops)
+    let at-is-absent2 = c .before .before in let at-field3 = at-is-absent2 .before in let at-is-absent = at-field3 .before in let at-field2 = at-is-absent .before in let at-number = at-field2 .before in let at-field = at-number .before in let at-leader = at-field .before in let at-top-by = at-leader .before in
+    let top-by = at-top-by .top-by in
+    let leader = at-leader .leader in
+    let field = at-field .field in let number = at-number .number in
+    let field2 = at-field2 .field2 in let is-absent = at-is-absent .is-absent in
+    λ tops. simp (c .object-range2 .ensures, c .before .object-range .ensures, at-is-absent2 .is-absent2 .ensures, at-field3 .field3 .ensures, is-absent .ensures, field2 .ensures, number .ensures, field .ensures, leader .ensures, top-by .ensures tops)
 
 pub rule15-spec : {M : Type 1} → statement M
 rule15-spec =

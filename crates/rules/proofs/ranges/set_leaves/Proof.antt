@@ -43,14 +43,16 @@ leaves-requires-2 c κs = search needs
 returns : tie.Need-returns
 unfolding setLeaves
 returns c =
-    let set-value = c .before .before .before .before .before .before .before .before .before .before .before .set-value in
-    let field = c .before .before .before .before .before .before .before .before .before .before .field in
-    let effective-value = c .before .before .before .before .before .before .before .before .before .effective-value in
-    let effective-minimum = c .before .before .before .before .before .before .before .before .effective-minimum in
-    let effective-maximum = c .before .before .before .before .before .before .before .effective-maximum in
-    let leaves = c .before .before .before .before .before .before .leaves in let is-absent = c .before .before .before .before .before .is-absent in
-    let object-minimum = c .before .before .before .before .object-minimum in
-    simp (c .leaves2 .ensures, c .before .field3 .ensures, c .before .before .object-maximum .ensures, c .before .before .before .field2 .ensures, object-minimum .ensures, is-absent .ensures, leaves .ensures, effective-maximum .ensures, effective-minimum .ensures, effective-value .ensures, field .ensures, set-value .ensures)
+    let at-object-maximum = c .before .before in let at-field2 = at-object-maximum .before in let at-object-minimum = at-field2 .before in let at-is-absent = at-object-minimum .before in let at-leaves = at-is-absent .before in let at-effective-maximum = at-leaves .before in let at-effective-minimum = at-effective-maximum .before in let at-effective-value = at-effective-minimum .before in
+    let at-field = at-effective-value .before in let at-set-value = at-field .before in
+    let set-value = at-set-value .set-value in
+    let field = at-field .field in
+    let effective-value = at-effective-value .effective-value in
+    let effective-minimum = at-effective-minimum .effective-minimum in
+    let effective-maximum = at-effective-maximum .effective-maximum in
+    let leaves = at-leaves .leaves in let is-absent = at-is-absent .is-absent in
+    let object-minimum = at-object-minimum .object-minimum in
+    simp (c .leaves2 .ensures, c .before .field3 .ensures, at-object-maximum .object-maximum .ensures, at-field2 .field2 .ensures, object-minimum .ensures, is-absent .ensures, leaves .ensures, effective-maximum .ensures, effective-minimum .ensures, effective-value .ensures, field .ensures, set-value .ensures)
 
 pub set-leaves-spec : {M : Type 1} → statement M
 set-leaves-spec =

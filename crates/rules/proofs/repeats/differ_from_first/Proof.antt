@@ -65,14 +65,16 @@ sets-differ-requires c κs = search needs
 returns-2 : tie.Need-returns-2 Inv-loop μ-loop
 unfolding twoEntries twoOf namedSet entry
 returns-2 c =
-    let a = c .before .before .before .before .before .before .before .before .before .before .before .before .before .before .before .before .args in let s = sheetOf (a .s .now) in
-    let e = namedSet s (a .p) in let g : ℕ → ℕ = λ i. leaderOf s (owner s (e i)) in let l = c .before .before .before .before .before .before .before .before .before .before .before .loop in
-    let set = c .before .before .before .before .before .before .before .before .before .named-set .ensures in
-    let lead = c .before .before .before .before .before .before .before .leader-by in let place = c .before .before .before .before .first-of in
-    let inside : lead .result < length (l .first) = omega (arith, l .inv .1, c .before .before .before .before .before .before .if1 .left) in
-    let test = sym (c .before .sets-differ .ensures ∙ ap₂ (setsDiffer s) (c .before .before .named-set2 .ensures) set) in
-    let below : l .j < number s programmes (a .p) setList = omega (arith, c .before .before .before .before .before .before .before .before .before .before .loop-test .taken, c .before .before .before .before .before .before .before .before .before .before .before .before .number .ensures) in
-    λ owners leaders. sym (any-one (λ m. any (λ i. differ s e g i m) m) _ (l .j) below (found-next s e g (l .first) (l .j) (lead .result) (place .result) (l .inv .2 owners leaders .0) (lead .ensures leaders ∙ ap (leaderOf s) (c .before .before .before .before .before .before .before .before .owner-by .ensures owners ∙ ap (owner s) set)) inside (place .ensures .1) (l .inv .2 owners leaders .1) (test ∙ c .if2 .taken)))
+    let at-named-set2 = c .before .before in let at-first-of = at-named-set2 .before .before in let at-if1 = at-first-of .before .before in let at-leader-by = at-if1 .before in let at-owner-by = at-leader-by .before in let at-named-set = at-owner-by .before in let at-loop-test = at-named-set .before in let at-loop = at-loop-test .before in let at-number = at-loop .before in
+    let entry = at-number .before .before .before .before in
+    let a = entry .args in let s = sheetOf (a .s .now) in
+    let e = namedSet s (a .p) in let g : ℕ → ℕ = λ i. leaderOf s (owner s (e i)) in let l = at-loop .loop in
+    let set = at-named-set .named-set .ensures in
+    let lead = at-leader-by .leader-by in let place = at-first-of .first-of in
+    let inside : lead .result < length (l .first) = omega (arith, l .inv .1, at-if1 .if1 .left) in
+    let test = sym (c .before .sets-differ .ensures ∙ ap₂ (setsDiffer s) (at-named-set2 .named-set2 .ensures) set) in
+    let below : l .j < number s programmes (a .p) setList = omega (arith, at-loop-test .loop-test .taken, at-number .number .ensures) in
+    λ owners leaders. sym (any-one (λ m. any (λ i. differ s e g i m) m) _ (l .j) below (found-next s e g (l .first) (l .j) (lead .result) (place .result) (l .inv .2 owners leaders .0) (lead .ensures leaders ∙ ap (leaderOf s) (at-owner-by .owner-by .ensures owners ∙ ap (owner s) set)) inside (place .ensures .1) (l .inv .2 owners leaders .1) (test ∙ c .if2 .taken)))
 
 add-j : tie.Need-add-j Inv-loop μ-loop
 add-j c = search needs
@@ -82,13 +84,14 @@ loop-less c = search needs
 
 loop-again : tie.Need-loop-again Inv-loop μ-loop
 loop-again c =
-    let a = c .before .before .before .before .before .before .before .before .before .before .before .before .before .before .before .before .args in let s = sheetOf (a .s .now) in
-    let e = namedSet s (a .p) in let g : ℕ → ℕ = λ i. leaderOf s (owner s (e i)) in let l = c .before .before .before .before .before .before .before .before .before .before .before .loop in
-    let set = c .before .before .before .before .before .before .before .before .before .named-set .ensures in
-    let lead = c .before .before .before .before .before .before .before .leader-by in let place = c .before .before .before .before .first-of in
-    let inside : lead .result < length (l .first) = omega (arith, l .inv .1, c .before .before .before .before .before .before .if1 .left) in
-    let test = sym (c .before .sets-differ .ensures ∙ ap₂ (setsDiffer s) (c .before .before .named-set2 .ensures) set) in
-    (search needs, place .ensures .0, λ owners leaders. firsts-next s e g (l .first) (l .j) (lead .result) (place .result) (l .inv .2 owners leaders .0) (lead .ensures leaders ∙ ap (leaderOf s) (c .before .before .before .before .before .before .before .before .owner-by .ensures owners ∙ ap (owner s) set)) inside (place .ensures .1) (l .inv .2 owners leaders .1) (test ∙ c .if2 .left) (place .last .0) (place .ensures .0 ∙ sym (l .inv .1)) (place .ensures .2))
+    let at-named-set2 = c .before .before in let at-first-of = at-named-set2 .before .before in let at-if1 = at-first-of .before .before in let at-leader-by = at-if1 .before in let at-owner-by = at-leader-by .before in let at-named-set = at-owner-by .before in let at-loop = at-named-set .before .before in let entry = at-loop .before .before .before .before .before in
+    let a = entry .args in let s = sheetOf (a .s .now) in
+    let e = namedSet s (a .p) in let g : ℕ → ℕ = λ i. leaderOf s (owner s (e i)) in let l = at-loop .loop in
+    let set = at-named-set .named-set .ensures in
+    let lead = at-leader-by .leader-by in let place = at-first-of .first-of in
+    let inside : lead .result < length (l .first) = omega (arith, l .inv .1, at-if1 .if1 .left) in
+    let test = sym (c .before .sets-differ .ensures ∙ ap₂ (setsDiffer s) (at-named-set2 .named-set2 .ensures) set) in
+    (search needs, place .ensures .0, λ owners leaders. firsts-next s e g (l .first) (l .j) (lead .result) (place .result) (l .inv .2 owners leaders .0) (lead .ensures leaders ∙ ap (leaderOf s) (at-owner-by .owner-by .ensures owners ∙ ap (owner s) set)) inside (place .ensures .1) (l .inv .2 owners leaders .1) (test ∙ c .if2 .left) (place .last .0) (place .ensures .0 ∙ sym (l .inv .1)) (place .ensures .2))
 
 returns-3 : tie.Need-returns-3 Inv-loop μ-loop
 unfolding twoEntries twoOf namedSet entry

@@ -46,11 +46,12 @@ see-requires c κs = c .before .before .before .before .loop .inv .1
 returns : tie.Need-returns Inv-loop μ-loop
 unfolding keysAlike twoOf
 returns c =
-    let a = c .before .before .before .before .before .before .before .before .before .before .before .args in let s = sheetOf (a .s .now) in
-    let f : ℕ → ℕ = λ i. keyOf s (a .key) (entry s (a .section) (a .k) (a .at) i) in let l = c .before .before .before .before .before .before .before .loop in
-    let key = c .before .before .before .before .key-of in let see = c .before .before .see in
-    let below : l .j < number s (a .section) (a .k) (a .at) = omega (arith, c .before .before .before .before .before .before .loop-test .taken, c .before .before .before .before .before .before .before .before .number .ensures) in
-    λ right. sym (any-one (λ m. any (λ i. eqb (f i) (f m)) m) _ (l .j) below (seen-next f (l .seen) (l .j) (key .result) (l .inv .2 right .0) (key .ensures right ∙ ap (keyOf s (a .key)) (c .before .before .before .before .before .entry .ensures)) (omega (arith, l .inv .1)) (see .result) (see .ensures .1) ∙ c .if1 .taken))
+    let at-see = c .before .before in let at-key-of = at-see .before .before in let at-entry = at-key-of .before in let at-loop-test = at-entry .before in let at-loop = at-loop-test .before in let at-number = at-loop .before in let entry′ = at-number .before .before .before in
+    let a = entry′ .args in let s = sheetOf (a .s .now) in
+    let f : ℕ → ℕ = λ i. keyOf s (a .key) (entry s (a .section) (a .k) (a .at) i) in let l = at-loop .loop in
+    let key = at-key-of .key-of in let see = at-see .see in
+    let below : l .j < number s (a .section) (a .k) (a .at) = omega (arith, at-loop-test .loop-test .taken, at-number .number .ensures) in
+    λ right. sym (any-one (λ m. any (λ i. eqb (f i) (f m)) m) _ (l .j) below (seen-next f (l .seen) (l .j) (key .result) (l .inv .2 right .0) (key .ensures right ∙ ap (keyOf s (a .key)) (at-entry .entry .ensures)) (omega (arith, l .inv .1)) (see .result) (see .ensures .1) ∙ c .if1 .taken))
 
 add-j : tie.Need-add-j Inv-loop μ-loop
 add-j c = search needs
@@ -60,14 +61,15 @@ loop-less c = search needs
 
 loop-again : tie.Need-loop-again Inv-loop μ-loop
 loop-again c =
-    let a = c .before .before .before .before .before .before .before .before .before .before .before .args in let s = sheetOf (a .s .now) in
-    let f : ℕ → ℕ = λ i. keyOf s (a .key) (entry s (a .section) (a .k) (a .at) i) in let l = c .before .before .before .before .before .before .before .loop in
-    let key = c .before .before .before .before .key-of in
-    let see = c .before .before .see in (
+    let at-see = c .before .before in let at-key-of = at-see .before .before in let at-entry = at-key-of .before in let at-loop = at-entry .before .before in let entry′ = at-loop .before .before .before .before in
+    let a = entry′ .args in let s = sheetOf (a .s .now) in
+    let f : ℕ → ℕ = λ i. keyOf s (a .key) (entry s (a .section) (a .k) (a .at) i) in let l = at-loop .loop in
+    let key = at-key-of .key-of in
+    let see = at-see .see in (
       search needs,
       see .ensures .0,
       λ right.
-          let same : key .result ≡ f (l .j) = key .ensures right ∙ ap (keyOf s (a .key)) (c .before .before .before .before .before .entry .ensures) in
+          let same : key .result ≡ f (l .j) = key .ensures right ∙ ap (keyOf s (a .key)) (at-entry .entry .ensures) in
           let next = seen-next f (l .seen) (l .j) (key .result) (l .inv .2 right .0) same (omega (arith, l .inv .1)) (see .result) (see .ensures .1) in
           (seen-more f (l .seen) (l .j) (key .result) (l .inv .2 right .0) same (see .last .0) (see .ensures .0 ∙ sym (l .inv .1)) (see .ensures .2), below-more (λ m. any (λ i. eqb (f i) (f m)) m ≡ false) (l .j) (l .inv .2 right .1) (next ∙ c .if1 .left)),
     )

@@ -47,9 +47,10 @@ differ-in-group-requires c κs = search needs
 returns-3 : tie.Need-returns-3
 unfolding rule22 anyTabled twoEntries anyGroup keysAlike ownerAt namedSet entry
 returns-3 c =
-    let if1 = c .before .before .before .before .before .before .before .before .if1 in let one-owner = c .before .before .before .before .before .before .before .one-owner in
-    let if2 = c .before .before .before .before .before .before .if2 in let sets = c .before .before .before .before .mark-named-sets .ensures .1 (λ x l. nought 4680 x) in
-    λ owners leaders marks. simp (c .differ-in-group .ensures owners leaders, c .before .any-group .ensures marks sets, sym (rw (c .before .before .before .before .before .before .before .before .before .before .before .field .ensures, c .before .before .before .before .before .before .before .before .before .before .number .ensures) at (c .before .before .before .before .before .before .before .before .before .any-tabled .ensures (owners, marks))) ∙ if1 .left, sym (one-owner .ensures owners) ∙ if2 .left)
+    let at-mark-named-sets = c .before .before .before .before in let at-if2 = at-mark-named-sets .before .before in let at-one-owner = at-if2 .before in let at-if1 = at-one-owner .before in let at-any-tabled = at-if1 .before in let at-number = at-any-tabled .before in let at-field = at-number .before in
+    let if1 = at-if1 .if1 in let one-owner = at-one-owner .one-owner in
+    let if2 = at-if2 .if2 in let sets = at-mark-named-sets .mark-named-sets .ensures .1 (λ x l. nought 4680 x) in
+    λ owners leaders marks. simp (c .differ-in-group .ensures owners leaders, c .before .any-group .ensures marks sets, sym (rw (at-field .field .ensures, at-number .number .ensures) at (at-any-tabled .any-tabled .ensures (owners, marks))) ∙ if1 .left, sym (one-owner .ensures owners) ∙ if2 .left)
 
 pub rule22-spec : {M : Type 1} → statement M
 rule22-spec =

@@ -47,11 +47,12 @@ loop-less c = search needs
 
 loop-again : tie.Need-loop-again Inv-loop μ-loop
 loop-again c =
-    let a = c .before .before .before .before .before .before .before .before .before .before .before .args in let p = referenceTest (sheetOf (a .s .now)) (a .test) in
-    let m = count (sheetOf (a .s .now)) references in let l = c .before .before .before .before .before .before .before .loop in let x = l .x - 1 in
-    let here = c .before .before .before .before .here-or in let at = c .before .before .mark-at in
-    let e : suc x ≡ l .x = omega (arith, c .before .before .before .before .before .before .loop-test .taken) in let i : suc x ≤ m = omega (arith, l .inv .0) in
-    let n : Next p m x (here .result) = rw (here .ensures, c .before .before .before .before .before .reference-test .ensures) (next-more m x i p (l .next) (rw e (l .inv .2))) in
+    let at-mark-at = c .before .before in let at-here-or = at-mark-at .before .before in let at-reference-test = at-here-or .before in let at-loop-test = at-reference-test .before in let at-loop = at-loop-test .before in let entry = at-loop .before .before .before .before in
+    let a = entry .args in let p = referenceTest (sheetOf (a .s .now)) (a .test) in
+    let m = count (sheetOf (a .s .now)) references in let l = at-loop .loop in let x = l .x - 1 in
+    let here = at-here-or .here-or in let at = at-mark-at .mark-at in
+    let e : suc x ≡ l .x = omega (arith, at-loop-test .loop-test .taken) in let i : suc x ≤ m = omega (arith, l .inv .0) in
+    let n : Next p m x (here .result) = rw (here .ensures, at-reference-test .reference-test .ensures) (next-more m x i p (l .next) (rw e (l .inv .2))) in
     (omega (arith, i), at .ensures .0 ∙ l .inv .1, n, filled-more (Next p m) m x (here .result) (l .table) (at .last .0) (at .ensures .0) (rw e (l .inv .3)) n (at .ensures .1))
 
 same-length : tie.Need-same-length Inv-loop μ-loop

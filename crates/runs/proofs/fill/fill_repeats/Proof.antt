@@ -61,11 +61,12 @@ loop-less c = search needs
 
 loop-again : tie.Need-loop-again Inv-loop μ-loop
 loop-again c =
-    let a = c .before .before .before .before .before .before .before .before .before .before .before .before .before .before .args in let f = referenceKey (sheetOf (a .s .now)) (a .key) in
-    let m = count (sheetOf (a .s .now)) references in let l = c .before .before .before .before .before .before .before .before .before .before .loop in let x = l .x - 1 in
-    let key = c .before .before .before .before .before .before .before .reference-key in let keep = c .before .before .before .before .before .before .keep in
-    let lower = c .before .before .before .before .lower in let at = c .before .before .mark-at in
-    let e : suc x ≡ l .x = omega (arith, c .before .before .before .before .before .before .before .before .before .loop-test .taken) in let i : suc x ≤ m = omega (arith, l .inv .0) in
+    let at-mark-at = c .before .before in let at-lower = at-mark-at .before .before in let at-keep = at-lower .before .before in let at-reference-key = at-keep .before in let at-loop-test = at-reference-key .before .before in let at-loop = at-loop-test .before in let entry = at-loop .before .before .before .before in
+    let a = entry .args in let f = referenceKey (sheetOf (a .s .now)) (a .key) in
+    let m = count (sheetOf (a .s .now)) references in let l = at-loop .loop in let x = l .x - 1 in
+    let key = at-reference-key .reference-key in let keep = at-keep .keep in
+    let lower = at-lower .lower in let at = at-mark-at .mark-at in
+    let e : suc x ≡ l .x = omega (arith, at-loop-test .loop-test .taken) in let i : suc x ≤ m = omega (arith, l .inv .0) in
     let n : Repeat f m x (lower .result) = rw (lower .ensures, keep .ensures .1, key .ensures) (repeat-more m x i f (getD (l .later) (f x) 0) (l .next) (rw e (l .inv .3 (f x) (omega (arith, key .ok, key .ensures)))) (rw e (l .inv .4))) in (
       omega (arith, i),
       at .ensures .0 ∙ l .inv .1,

@@ -37,9 +37,10 @@ among-requires-2 c κs = search needs
 returns-2 : tie.Need-returns-2
 unfolding oddTracks
 returns-2 c =
-    let a′ = c .before .before .before .before .before .before .before .before .before .args in let if1 = c .before .before .before .before .before .if1 in
-    let reference = c .before .before .before .before .reference in let s = sheetOf (a′ .s .now) in
-    λ strays ordinals a b l full. let some : 0 < a′ .n = omega (arith, if1 .left) in rw (c .before .before .before .field .ensures, c .before .before .field2 .ensures, reference .ensures) (tracks-run (packAt s) (ordinalAt s) (λ q. field s packs q packChannels) (a′ .first) (a′ .pack) (a′ .n) (a′ .n - 1) (omega (arith, some)) full (c .before .among .result) (c .among2 .result) (c .before .among .ensures a ∙ strays (a′ .first) a (omega (arith, some, l)) (a′ .n - 1) (omega (arith, l))) (c .among2 .ensures b ∙ ordinals (a′ .first) b (omega (arith, some, l)) (a′ .n) l))
+    let at-field2 = c .before .before in let at-field = at-field2 .before in let at-reference = at-field .before in let at-if1 = at-reference .before in let entry = at-if1 .before .before .before .before in
+    let a′ = entry .args in let if1 = at-if1 .if1 in
+    let reference = at-reference .reference in let s = sheetOf (a′ .s .now) in
+    λ strays ordinals a b l full. let some : 0 < a′ .n = omega (arith, if1 .left) in rw (at-field .field .ensures, at-field2 .field2 .ensures, reference .ensures) (tracks-run (packAt s) (ordinalAt s) (λ q. field s packs q packChannels) (a′ .first) (a′ .pack) (a′ .n) (a′ .n - 1) (omega (arith, some)) full (c .before .among .result) (c .among2 .result) (c .before .among .ensures a ∙ strays (a′ .first) a (omega (arith, some, l)) (a′ .n - 1) (omega (arith, l))) (c .among2 .ensures b ∙ ordinals (a′ .first) b (omega (arith, some, l)) (a′ .n) l))
 
 pub odd-tracks-spec : {M : Type 1} → statement M
 odd-tracks-spec =

@@ -28,7 +28,9 @@ word-differs-requires-7 c κs = search needs
 
 returns : tie.Need-returns
 unfolding any field
-returns c = simp (c .word-differs7 .ensures, c .before .word-differs6 .ensures, c .before .before .word-differs5 .ensures, c .before .before .before .word-differs4 .ensures, c .before .before .before .before .word-differs3 .ensures, c .before .before .before .before .before .word-differs2 .ensures, c .before .before .before .before .before .before .word-differs .ensures, c .before .before .before .before .before .before .before .before .pre .0, c .before .before .before .before .before .before .before .before .pre .1)
+returns c =
+    let at-word-differs5 = c .before .before in let at-word-differs4 = at-word-differs5 .before in let at-word-differs3 = at-word-differs4 .before in let at-word-differs2 = at-word-differs3 .before in let at-word-differs = at-word-differs2 .before in let at-pre = at-word-differs .before .before in
+    simp (c .word-differs7 .ensures, c .before .word-differs6 .ensures, at-word-differs5 .word-differs5 .ensures, at-word-differs4 .word-differs4 .ensures, at-word-differs3 .word-differs3 .ensures, at-word-differs2 .word-differs2 .ensures, at-word-differs .word-differs .ensures, at-pre .pre .0, at-pre .pre .1)
 
 pub words-differ-spec : {M : Type 1} → statement M
 words-differ-spec =

@@ -28,7 +28,9 @@ none-present-requires-2 c κs = search needs
 
 returns : tie.Need-returns
 unfolding isPlain field number
-returns c = simp (c .none-present2 .ensures, c .before .offsets-at .ensures, c .before .before .none-present .ensures, c .before .before .before .gains-at .ensures, c .before .before .before .before .word-at .ensures, c .before .before .before .before .before .number-at2 .ensures, c .before .before .before .before .before .before .number-at .ensures, c .before .before .before .before .before .before .before .before .pre)
+returns c =
+    let at-none-present = c .before .before in let at-gains-at = at-none-present .before in let at-word-at = at-gains-at .before in let at-number-at2 = at-word-at .before in let at-number-at = at-number-at2 .before in let at-pre = at-number-at .before .before in
+    simp (c .none-present2 .ensures, c .before .offsets-at .ensures, at-none-present .none-present .ensures, at-gains-at .gains-at .ensures, at-word-at .word-at .ensures, at-number-at2 .number-at2 .ensures, at-number-at .number-at .ensures, at-pre .pre)
 
 pub is-plain-spec : {M : Type 1} → statement M
 is-plain-spec =

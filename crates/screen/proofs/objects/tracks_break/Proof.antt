@@ -28,7 +28,9 @@ any-out-of-order-requires c κs = search needs
 
 returns : tie.Need-returns
 unfolding tracksBroken number field
-returns c = simp (c .any-out-of-order .ensures, c .before .word-at .ensures, c .before .before .offset .ensures, c .before .before .before .field .ensures, c .before .before .before .before .count .ensures, c .before .before .before .before .before .number-at2 .ensures, c .before .before .before .before .before .before .number-at .ensures, c .before .before .before .before .before .before .before .before .pre)
+returns c =
+    let at-offset = c .before .before in let at-field = at-offset .before in let at-count = at-field .before in let at-number-at2 = at-count .before in let at-number-at = at-number-at2 .before in let at-pre = at-number-at .before .before in
+    simp (c .any-out-of-order .ensures, c .before .word-at .ensures, at-offset .offset .ensures, at-field .field .ensures, at-count .count .ensures, at-number-at2 .number-at2 .ensures, at-number-at .number-at .ensures, at-pre .pre)
 
 pub tracks-break-spec : {M : Type 1} → statement M
 tracks-break-spec =

@@ -31,11 +31,11 @@ child-breaks-requires c κs = search needs
 returns : tie.Need-returns
 unfolding setsBroken number field
 returns c =
+    let at-any-set-breaks = c .before .before in let at-number-at = at-any-set-breaks .before in let at-word-at = at-number-at .before in let at-values-break = at-word-at .before in let v = at-values-break .before in
     λ e t f.
-    let v = c .before .before .before .before .before .before in
-    let p = or-none-4 (c .before .before .before .before .before .values-break .result) (c .before .before .any-set-breaks .result) (c .before .complements-break .result) (c .child-breaks .result) e in (
-      rw (v .object-values .ensures) at (sym (c .before .before .before .before .before .values-break .ensures) ∙ p .0),
-      rw (c .before .before .before .before .word-at .ensures, c .before .before .before .number-at .ensures, v .before .before .before .before .pre .0, v .object-values .ensures) at (c .before .before .any-set-breaks .ensures (p .1)),
+    let p = or-none-4 (at-values-break .values-break .result) (at-any-set-breaks .any-set-breaks .result) (c .before .complements-break .result) (c .child-breaks .result) e in (
+      rw (v .object-values .ensures) at (sym (at-values-break .values-break .ensures) ∙ p .0),
+      rw (at-word-at .word-at .ensures, at-number-at .number-at .ensures, v .before .before .before .before .pre .0, v .object-values .ensures) at (at-any-set-breaks .any-set-breaks .ensures (p .1)),
       c .before .complements-break .ensures (p .2) t f,
       c .child-breaks .ensures (p .3) t,
     )

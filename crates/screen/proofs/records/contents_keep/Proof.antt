@@ -46,7 +46,9 @@ loop-less c = search needs
 
 loop-again : tie.Need-loop-again Inv-loop μ-loop
 unfolding any
-loop-again c = (search needs, λ t. let p = or-none (c .before .before .content-breaks .result) (c .before .unlisted .result) (c .if1 .left) in let u = c .before .unlisted .ensures (p .1) in rw (add-one, c .before .before .before .before .loop .inv .1 t, c .before .before .content-breaks .ensures (p .0), listed-some (sheetOf (c .before .before .before .before .before .before .before .before .args .s .now)) (c .before .before .before .before .before .before .before .before .args .listed .now) (c .before .before .before .before .loop .k) t (u .0) (u .1)) refl)
+loop-again c =
+    let at-content-breaks = c .before .before in let at-loop = at-content-breaks .before .before in let entry = at-loop .before .before .before .before in
+    (search needs, λ t. let p = or-none (at-content-breaks .content-breaks .result) (c .before .unlisted .result) (c .if1 .left) in let u = c .before .unlisted .ensures (p .1) in rw (add-one, at-loop .loop .inv .1 t, at-content-breaks .content-breaks .ensures (p .0), listed-some (sheetOf (entry .args .s .now)) (entry .args .listed .now) (at-loop .loop .k) t (u .0) (u .1)) refl)
 
 returns-2 : tie.Need-returns-2 Inv-loop μ-loop
 returns-2 c = let h : c .before .loop .k ≡ c .before .before .count .result = omega arith in λ e t. sym (ap (any _) (h ∙ c .before .before .count .ensures)) ∙ c .before .loop .inv .1 t

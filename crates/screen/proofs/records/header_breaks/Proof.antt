@@ -48,7 +48,9 @@ rule7-requires-5 c κs = search needs
 
 returns : tie.Need-returns
 unfolding headerBroken
-returns c = let h = c .before .before .before .before .before .before .before in simp (c .rule75 .ensures, c .before .rule74 .ensures, c .before .before .rule73 .ensures, c .before .before .before .rule72 .ensures, c .before .before .before .before .rule7 .ensures, c .before .before .before .before .before .rule37 .ensures, c .before .before .before .before .before .before .rule36 .ensures, h .rule35 .ensures, h .before .rule34 .ensures, h .before .before .rule33 .ensures, h .before .before .before .rule32 .ensures, h .before .before .before .before .rule3 .ensures, h .before .before .before .before .before .rule2 .ensures, h .before .before .before .before .before .before .rule1 .ensures)
+returns c =
+    let at-rule73 = c .before .before in let at-rule72 = at-rule73 .before in let at-rule7 = at-rule72 .before in let at-rule37 = at-rule7 .before in let at-rule36 = at-rule37 .before in let h = at-rule36 .before in
+    simp (c .rule75 .ensures, c .before .rule74 .ensures, at-rule73 .rule73 .ensures, at-rule72 .rule72 .ensures, at-rule7 .rule7 .ensures, at-rule37 .rule37 .ensures, at-rule36 .rule36 .ensures, h .rule35 .ensures, h .before .rule34 .ensures, h .before .before .rule33 .ensures, h .before .before .before .rule32 .ensures, h .before .before .before .before .rule3 .ensures, h .before .before .before .before .before .rule2 .ensures, h .before .before .before .before .before .before .rule1 .ensures)
 
 pub header-breaks-spec : {M : Type 1} → statement M
 header-breaks-spec =

@@ -25,7 +25,9 @@ word-at-requires-3 : tie.Need-word-at-requires-3
 word-at-requires-3 c κs = search needs
 
 returns-2 : tie.Need-returns-2
-returns-2 c = let a = c .before .before .before .before .before .before .before .before .args in λ e. three-kept (sheetOf (a .s .now)) (a .k) (c .before .before .before .before .before .before .record-at .result) (c .before .before .before .before .before .before .record-at .ensures) (c .before .before .before .word-at .ensures) (c .before .before .word-at2 .ensures) (c .before .word-at3 .ensures) (c .if2 .taken) e
+returns-2 c =
+    let at-word-at2 = c .before .before in let at-word-at = at-word-at2 .before in let at-record-at = at-word-at .before .before .before in let entry = at-record-at .before .before in
+    let a = entry .args in λ e. three-kept (sheetOf (a .s .now)) (a .k) (at-record-at .record-at .result) (at-record-at .record-at .ensures) (at-word-at .word-at .ensures) (at-word-at2 .word-at2 .ensures) (c .before .word-at3 .ensures) (c .if2 .taken) e
 
 cast-exceeds : tie.Need-cast-exceeds
 cast-exceeds c = search needs
@@ -34,7 +36,9 @@ exceeds-requires : tie.Need-exceeds-requires
 exceeds-requires c κs = search needs
 
 returns-3 : tie.Need-returns-3
-returns-3 c = let a = c .before .before .before .before .before .before .before .before .before .args in λ e. one-kept (sheetOf (a .s .now)) (a .k) (c .before .before .before .before .before .before .before .record-at .result) (c .before .before .before .before .before .before .before .record-at .ensures) (c .before .before .before .before .word-at .ensures) (c .before .before .before .word-at2 .ensures) (c .before .before .word-at3 .ensures) (rw (c .exceeds .ensures) at e)
+returns-3 c =
+    let at-word-at3 = c .before .before in let at-word-at2 = at-word-at3 .before in let at-word-at = at-word-at2 .before in let at-record-at = at-word-at .before .before .before in let entry = at-record-at .before .before in
+    let a = entry .args in λ e. one-kept (sheetOf (a .s .now)) (a .k) (at-record-at .record-at .result) (at-record-at .record-at .ensures) (at-word-at .word-at .ensures) (at-word-at2 .word-at2 .ensures) (at-word-at3 .word-at3 .ensures) (rw (c .exceeds .ensures) at e)
 
 pub pack-breaks-spec : {M : Type 1} → statement M
 pack-breaks-spec =

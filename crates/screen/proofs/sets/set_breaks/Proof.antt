@@ -34,10 +34,10 @@ gain-breaks-requires c κs = search needs
 returns-2 : tie.Need-returns-2
 unfolding setBroken
 returns-2 c =
+    let at-none-present = c .before .before in let at-has-range = at-none-present .before in let at-values-at2 = at-has-range .before in let g = at-values-at2 .before in
     λ z.
-    let g = c .before .before .before .before .before in
-    let only = only-gain (g .before .word-at .result) (g .values-at .result) (c .before .before .before .before .values-at2 .result) (g .before .before .before .before .before .args .v) (rw (c .before .before .before .has-range .ensures, c .before .before .none-present .ensures) at (c .before .if2 .taken)) in
-    sym (c .gain-breaks .ensures ∙ only ∙ simp (g .before .word-at .ensures, g .values-at .ensures, c .before .before .before .before .values-at2 .ensures)) ∙ z
+    let only = only-gain (g .before .word-at .result) (g .values-at .result) (at-values-at2 .values-at2 .result) (g .before .before .before .before .before .args .v) (rw (at-has-range .has-range .ensures, at-none-present .none-present .ensures) at (c .before .if2 .taken)) in
+    sym (c .gain-breaks .ensures ∙ only ∙ simp (g .before .word-at .ensures, g .values-at .ensures, at-values-at2 .values-at2 .ensures)) ∙ z
 
 words-of-set-break-requires : tie.Need-words-of-set-break-requires
 words-of-set-break-requires c κs = search needs

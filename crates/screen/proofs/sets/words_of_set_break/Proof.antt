@@ -30,7 +30,9 @@ value-leaves-requires-2 c κs = search needs
 
 returns : tie.Need-returns
 unfolding setWordsBroken
-returns c = simp (c .value-leaves2 .ensures, c .before .value-leaves .ensures, c .before .before .before .has-range3 .ensures, c .before .before .before .before .is-absent .ensures, c .before .before .before .before .before .before .has-range2 .ensures, c .before .before .before .before .before .before .before .has-range .ensures, c .before .before .before .before .before .before .before .before .words-break2 .ensures, c .before .before .before .before .before .before .before .before .before .words-break .ensures)
+returns c =
+    let at-has-range3 = c .before .before .before in let at-is-absent = at-has-range3 .before in let at-has-range2 = at-is-absent .before .before in let at-has-range = at-has-range2 .before in let at-words-break2 = at-has-range .before in let at-words-break = at-words-break2 .before in
+    simp (c .value-leaves2 .ensures, c .before .value-leaves .ensures, at-has-range3 .has-range3 .ensures, at-is-absent .is-absent .ensures, at-has-range2 .has-range2 .ensures, at-has-range .has-range .ensures, at-words-break2 .words-break2 .ensures, at-words-break .words-break .ensures)
 
 pub words-of-set-break-spec : {M : Type 1} → statement M
 words-of-set-break-spec =

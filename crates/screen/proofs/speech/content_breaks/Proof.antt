@@ -46,12 +46,12 @@ unlabelled-breaks-requires c κs = search needs
 
 returns-4 : tie.Need-returns-4
 returns-4 c =
+    let at-word-at4 = c .before .before in let at-word-at3 = at-word-at4 .before in let at-word-at2 = at-word-at3 .before in let at-if3 = at-word-at2 .before in let x = at-if3 .before in
     λ e.
-    let x = c .before .before .before .before .before .before in
     let n = x .before .before .before in
     let a = n .before .before .before .before .before in
-    let in-section = rw (x .before .count .ensures) at (lt-leb (x .before .count .result) (x .word-at .result) (c .before .before .before .before .before .if3 .left)) in
-    content-kept (sheetOf (a .args .s .now)) (a .args .k) (n .before .before .before .record-at .ensures) (c .before .before .before .before .word-at2 .ensures) (x .word-at .ensures) (c .before .before .before .word-at3 .ensures) (n .number-at .ensures) (c .before .before .word-at4 .ensures)
+    let in-section = rw (x .before .count .ensures) at (lt-leb (x .before .count .result) (x .word-at .result) (at-if3 .if3 .left)) in
+    content-kept (sheetOf (a .args .s .now)) (a .args .k) (n .before .before .before .record-at .ensures) (at-word-at2 .word-at2 .ensures) (x .word-at .ensures) (at-word-at3 .word-at3 .ensures) (n .number-at .ensures) (at-word-at4 .word-at4 .ensures)
     (rw (c .before .if4 .taken) (sym (c .unlabelled-breaks .ensures) ∙ e)) in-section
 
 labelled-breaks-requires : tie.Need-labelled-breaks-requires
@@ -59,12 +59,12 @@ labelled-breaks-requires c κs = search needs
 
 returns-5 : tie.Need-returns-5
 returns-5 c =
+    let at-word-at4 = c .before .before in let at-word-at3 = at-word-at4 .before in let at-word-at2 = at-word-at3 .before in let at-if3 = at-word-at2 .before in let x = at-if3 .before in
     λ e.
-    let x = c .before .before .before .before .before .before in
     let n = x .before .before .before in
     let a = n .before .before .before .before .before in
-    let in-section = rw (x .before .count .ensures) at (lt-leb (x .before .count .result) (x .word-at .result) (c .before .before .before .before .before .if3 .left)) in
-    content-kept (sheetOf (a .args .s .now)) (a .args .k) (n .before .before .before .record-at .ensures) (c .before .before .before .before .word-at2 .ensures) (x .word-at .ensures) (c .before .before .before .word-at3 .ensures) (n .number-at .ensures) (c .before .before .word-at4 .ensures)
+    let in-section = rw (x .before .count .ensures) at (lt-leb (x .before .count .result) (x .word-at .result) (at-if3 .if3 .left)) in
+    content-kept (sheetOf (a .args .s .now)) (a .args .k) (n .before .before .before .record-at .ensures) (at-word-at2 .word-at2 .ensures) (x .word-at .ensures) (at-word-at3 .word-at3 .ensures) (n .number-at .ensures) (at-word-at4 .word-at4 .ensures)
     (sym (c .labelled-breaks .ensures) ∙ e) in-section
 
 pub content-breaks-spec : {M : Type 1} → statement M

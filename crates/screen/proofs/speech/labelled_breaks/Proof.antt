@@ -28,7 +28,9 @@ exceeds-requires c κs = search needs
 
 returns : tie.Need-returns
 unfolding speechBroken
-returns c = let p = rw (c .before .before .before .before .before .before .before .offset .ensures) at (c .before .before .before .before .before .before .labels-rise .ensures (c .before .before .before .before .before .if1 .taken)) in simp (c .exceeds .ensures, c .before .loudness .ensures, c .before .before .language .ensures, c .before .before .before .beyond .ensures, c .before .before .before .before .count .ensures, p .0, p .1, or-false)
+returns c =
+    let at-language = c .before .before in let at-beyond = at-language .before in let at-count = at-beyond .before in let at-if1 = at-count .before in let at-labels-rise = at-if1 .before in let at-offset = at-labels-rise .before in
+    let p = rw (at-offset .offset .ensures) at (at-labels-rise .labels-rise .ensures (at-if1 .if1 .taken)) in simp (c .exceeds .ensures, c .before .loudness .ensures, at-language .language .ensures, at-beyond .beyond .ensures, at-count .count .ensures, p .0, p .1, or-false)
 
 count-requires-2 : tie.Need-count-requires-2
 count-requires-2 c κs = search needs
@@ -53,7 +55,9 @@ any-twice-requires c κs = search needs
 
 returns-2 : tie.Need-returns-2
 unfolding speechBroken
-returns-2 c = simp (c .any-twice .ensures, c .before .exceeds2 .ensures, c .before .before .loudness2 .ensures, c .before .before .before .any-no-language .ensures, c .before .before .before .before .language2 .ensures, c .before .before .before .before .before .beyond2 .ensures, c .before .before .before .before .before .before .count2 .ensures, c .before .before .before .before .before .before .before .before .before .offset .ensures)
+returns-2 c =
+    let at-loudness2 = c .before .before in let at-any-no-language = at-loudness2 .before in let at-language2 = at-any-no-language .before in let at-beyond2 = at-language2 .before in let at-count2 = at-beyond2 .before in let at-offset = at-count2 .before .before .before in
+    simp (c .any-twice .ensures, c .before .exceeds2 .ensures, at-loudness2 .loudness2 .ensures, at-any-no-language .any-no-language .ensures, at-language2 .language2 .ensures, at-beyond2 .beyond2 .ensures, at-count2 .count2 .ensures, at-offset .offset .ensures)
 
 pub labelled-breaks-spec : {M : Type 1} → statement M
 labelled-breaks-spec =

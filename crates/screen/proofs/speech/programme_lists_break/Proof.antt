@@ -37,7 +37,9 @@ any-lacking-requires-2 c κs = search needs
 
 returns : tie.Need-returns
 unfolding programmeListsBroken outside
-returns c = simp (c .any-lacking2 .ensures, c .before .count3 .ensures, c .before .before .any-lacking .ensures, c .before .before .before .count2 .ensures, c .before .before .before .before .exceeds2 .ensures, c .before .before .before .before .before .exceeds .ensures, c .before .before .before .before .before .before .beyond2 .ensures, c .before .before .before .before .before .before .before .beyond .ensures, c .before .before .before .before .before .before .before .before .count .ensures, c .before .before .before .before .before .before .before .before .before .offset .ensures)
+returns c =
+    let at-any-lacking = c .before .before in let at-count2 = at-any-lacking .before in let at-exceeds2 = at-count2 .before in let at-exceeds = at-exceeds2 .before in let at-beyond2 = at-exceeds .before in let at-beyond = at-beyond2 .before in let at-count = at-beyond .before in let at-offset = at-count .before in
+    simp (c .any-lacking2 .ensures, c .before .count3 .ensures, at-any-lacking .any-lacking .ensures, at-count2 .count2 .ensures, at-exceeds2 .exceeds2 .ensures, at-exceeds .exceeds .ensures, at-beyond2 .beyond2 .ensures, at-beyond .beyond .ensures, at-count .count .ensures, at-offset .offset .ensures)
 
 pub programme-lists-break-spec : {M : Type 1} → statement M
 programme-lists-break-spec =

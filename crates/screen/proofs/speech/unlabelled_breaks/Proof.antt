@@ -18,7 +18,9 @@ loudness-requires : tie.Need-loudness-requires
 loudness-requires c κs = search needs
 
 returns : tie.Need-returns
-returns c = rw (c .before .before .beyond .ensures, c .before .before .before .count .ensures, c .before .language .ensures, c .loudness .ensures) (no-labels (sheetOf (c .before .before .before .before .before .args .s .now)) (c .before .before .before .before .before .args .lang) (c .before .before .before .before .before .args .first) (c .before .before .before .before .before .args .loud))
+returns c =
+    let at-beyond = c .before .before in let at-count = at-beyond .before in let entry = at-count .before .before in
+    rw (at-beyond .beyond .ensures, at-count .count .ensures, c .before .language .ensures, c .loudness .ensures) (no-labels (sheetOf (entry .args .s .now)) (entry .args .lang) (entry .args .first) (entry .args .loud))
 
 pub unlabelled-breaks-spec : {M : Type 1} → statement M
 unlabelled-breaks-spec =

@@ -41,7 +41,9 @@ add-t15 : tie.Need-add-t15
 add-t15 c = search needs
 
 returns-2 : tie.Need-returns-2
-returns-2 c = let a = c .before .before .before .before .before .before .before .before .before .before .args in (search needs, λ v f h. lone-added (sheetOf (a .s .now)) (a .o) (a .t) _ h (sym (c .before .before .before .before .before .before .leader .ensures) ∙ c .before .before .before .before .before .if1 .left) (sym (c .before .before .before .before .alone .ensures v f) ∙ c .before .before .before .if2 .taken) refl refl (ap (λ (x : ℕ). a .t .tracks + x) (c .before .size .ensures)))
+returns-2 c =
+    let at-if2 = c .before .before .before in let at-alone = at-if2 .before in let at-if1 = at-alone .before in let at-leader = at-if1 .before in let entry = at-leader .before .before .before .before in
+    let a = entry .args in (search needs, λ v f h. lone-added (sheetOf (a .s .now)) (a .o) (a .t) _ h (sym (at-leader .leader .ensures) ∙ at-if1 .if1 .left) (sym (at-alone .alone .ensures v f) ∙ at-if2 .if2 .taken) refl refl (ap (λ (x : ℕ). a .t .tracks + x) (c .before .size .ensures)))
 
 returns-3 : tie.Need-returns-3
 returns-3 c = let a = c .before .before .before .before .before .before .before .args in (search needs, λ v f h. other-added (sheetOf (a .s .now)) (a .o) (a .t) _ h (sym (c .before .before .before .leader .ensures) ∙ c .before .before .if1 .left) (sym (c .before .alone .ensures v f) ∙ c .if2 .left) refl refl refl)

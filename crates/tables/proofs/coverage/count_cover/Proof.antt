@@ -41,9 +41,10 @@ same-length c = search needs
 
 returns : tie.Need-returns
 returns c =
-    let a = c .before .before .before .before .before .before .before .before .before .before .before .before .before .before .args in
-    let counted = c .before .before .count-indices .ensures in
-    let named = named-cover (sheetOf (a .s .now)) (a .kind) (a .m) (c .before .before .before .before .before .before .before .before .before .before .before .before .before .before .pre .1) in
+    let at-count-indices = c .before .before in let entry = at-count-indices .before .before .before .before .before .before .before .before .before .before .before .before in
+    let a = entry .args in
+    let counted = at-count-indices .count-indices .ensures in
+    let named = named-cover (sheetOf (a .s .now)) (a .kind) (a .m) (entry .pre .1) in
     (counted .0, λ x l. counted .1 x l ∙ ap (λ (n : ℕ). repeat (marked Count) n (getD (a .table .now) x 0)) (named x))
 
 pub count-cover-spec : {M : Type 1} → statement M

@@ -69,9 +69,10 @@ named-at-requires c κs = search needs
 
 sub-count-times : tie.Need-sub-count-times Inv-loop μ-loop
 sub-count-times c =
-    let a = c .before .before .before .before .before .before .before .before .before .before .args in
-    let pre = c .before .before .before .before .before .before .before .before .before .before .pre in let l = c .before .before .before .before .before .loop in
-    let s = sheetOf (a .s .now) in let below : l .y < a .m = c .before .before .before .before .loop-test .taken in
+    let at-loop-test = c .before .before .before .before in let at-loop = at-loop-test .before in let entry = at-loop .before .before .before .before .before in
+    let a = entry .args in
+    let pre = entry .pre in let l = at-loop .loop in
+    let s = sheetOf (a .s .now) in let below : l .y < a .m = at-loop-test .loop-test .taken in
     let begun = below-more (runBegin s (a .kind)) (l .y) (namers s (a .kind)) (l .begun) (getD (a .begins .now) (l .y) 0) (l .inv .3) (pre .2 (l .y) (omega (arith, pre .0))) in
     let ended = below-more (runEnd s (a .kind)) (l .y) (namers s (a .kind)) (l .ended) (getD (a .ends .now) (l .y) 0) (l .inv .4) (pre .3 (l .y) (omega (arith, pre .1))) in
     omega (arith, covered s (a .kind) (l .y), begun, ended)
@@ -87,18 +88,19 @@ loop-less c = search needs
 
 loop-again : tie.Need-loop-again Inv-loop μ-loop
 loop-again c =
-    let a = c .before .before .before .before .before .before .before .before .before .before .before .before .before .args in
-    let pre = c .before .before .before .before .before .before .before .before .before .before .before .before .before .pre in
-    let l = c .before .before .before .before .before .before .before .before .loop in let s = sheetOf (a .s .now) in
-    let below : l .y < a .m = c .before .before .before .before .before .before .before .loop-test .taken in
+    let at-count-times = c .before .before in let at-named-at = at-count-times .before in let at-shared-slice-known5 = at-named-at .before .before in let at-shared-slice-known4 = at-shared-slice-known5 .before in let at-loop-test = at-shared-slice-known4 .before in let at-loop = at-loop-test .before in let entry = at-loop .before .before .before .before .before in
+    let a = entry .args in
+    let pre = entry .pre in
+    let l = at-loop .loop in let s = sheetOf (a .s .now) in
+    let below : l .y < a .m = at-loop-test .loop-test .taken in
     let begun = below-more (runBegin s (a .kind)) (l .y) (namers s (a .kind)) (l .begun) (getD (a .begins .now) (l .y) 0) (l .inv .3) (pre .2 (l .y) (omega (arith, pre .0))) in
     let ended = below-more (runEnd s (a .kind)) (l .y) (namers s (a .kind)) (l .ended) (getD (a .ends .now) (l .y) 0) (l .inv .4) (pre .3 (l .y) (omega (arith, pre .1))) in
-    let named = c .before .before .before .named-at in let counted = c .before .before .count-times in
+    let named = at-named-at .named-at in let counted = at-count-times .count-times in
     let k = (l .begun + getD (a .begins .now) (l .y) 0) - (l .ended + getD (a .ends .now) (l .y) 0) in
     let e : k ≡ cover s (a .kind) (l .y) = omega (arith, covered s (a .kind) (l .y), begun, ended) in (
       search needs,
-      omega (arith, l .inv .1, c .before .before .before .before .before .before .shared-slice-known4 .given (l .y)),
-      omega (arith, l .inv .2, c .before .before .before .before .before .shared-slice-known5 .given (l .y)),
+      omega (arith, l .inv .1, at-shared-slice-known4 .shared-slice-known4 .given (l .y)),
+      omega (arith, l .inv .2, at-shared-slice-known5 .shared-slice-known5 .given (l .y)),
       begun,
       ended,
       indices-more Count (a .table .now) (l .table) (counted .last .0) (namedAt s (a .kind)) (cover s (a .kind)) (l .y) (named .result) k (named .ensures) e (l .inv .5) (counted .ensures),

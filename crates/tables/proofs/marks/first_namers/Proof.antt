@@ -40,9 +40,10 @@ loop-less c = search needs
 
 loop-again : tie.Need-loop-again Inv-loop μ-loop
 loop-again c =
-    let a = c .before .before .before .before .before .before .before .before .before .args in let s = sheetOf (a .s .now) in let l = c .before .before .before .before .before .loop in
-    let items = c .before .before .mark-some in let n = namers s (a .kind) - l .q in let e : suc (l .q - 1) ≡ l .q = omega (arith, c .before .before .before .before .loop-test .taken) in
-    let f : namers s (a .kind) - (l .q - 1) ≡ suc n = omega (arith, l .inv .0, c .before .before .before .before .loop-test .taken) in
+    let at-mark-some = c .before .before in let at-loop-test = at-mark-some .before .before in let at-loop = at-loop-test .before in let entry = at-loop .before .before .before .before in
+    let a = entry .args in let s = sheetOf (a .s .now) in let l = at-loop .loop in
+    let items = at-mark-some .mark-some in let n = namers s (a .kind) - l .q in let e : suc (l .q - 1) ≡ l .q = omega (arith, at-loop-test .loop-test .taken) in
+    let f : namers s (a .kind) - (l .q - 1) ≡ suc n = omega (arith, l .inv .0, at-loop-test .loop-test .taken) in
     (omega (arith, l .inv .0), (items .ensures .0 ∙ l .inv .1 .0, rw f (first-more s (a .kind) (a .table .now) (l .table) (items .last .1 .1 .1 .1 .0) (l .q - 1) n (items .ensures .0) (rw e (l .inv .1 .1)) (rw e (items .ensures .1)))))
 
 same-length : tie.Need-same-length Inv-loop μ-loop

@@ -48,9 +48,10 @@ loop-less c = search needs
 loop-again : tie.Need-loop-again Inv-loop μ-loop
 unfolding timesBy entry reference
 loop-again c =
-    let a = c .before .before .before .before .before .before .before .before .before .before .before .before .args in
-    let l = c .before .before .before .before .before .before .before .loop in let m = c .before .before .mark-list in
-    (search needs, namers-more Count (sheetOf (a .s .now)) ContentLists (a .listed .now) (l .listed) (m .last .1 .1 .1 .1 .1 .0) (l .q) (l .inv .1) (rw (c .before .before .before .before .before .before .before .before .before .offset .ensures, c .before .before .before .before .before .field .ensures, c .before .before .before .before .number .ensures) at (m .ensures)))
+    let at-mark-list = c .before .before in let at-number = at-mark-list .before .before in let at-field = at-number .before in let at-loop = at-field .before .before in let at-offset = at-loop .before .before in let entry = at-offset .before .before .before in
+    let a = entry .args in
+    let l = at-loop .loop in let m = at-mark-list .mark-list in
+    (search needs, namers-more Count (sheetOf (a .s .now)) ContentLists (a .listed .now) (l .listed) (m .last .1 .1 .1 .1 .1 .0) (l .q) (l .inv .1) (rw (at-offset .offset .ensures, at-field .field .ensures, at-number .number .ensures) at (m .ensures)))
 
 same-length : tie.Need-same-length Inv-loop μ-loop
 same-length c = c .before .loop .inv .1 .0

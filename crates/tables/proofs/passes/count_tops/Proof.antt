@@ -41,9 +41,10 @@ loop-less c = search needs
 
 loop-again : tie.Need-loop-again Inv-loop μ-loop
 loop-again c =
-    let a = c .before .before .before .before .before .before .before .before .before .before .before .before .before .before .args in
-    let l = c .before .before .before .before .before .before .before .before .before .loop in let m = c .before .before .before .before .before .before .mark-object in
-    let n = c .before .before .mark-object2 in let more = namers-more Count (sheetOf (a .s .now)) ContentObjects in
+    let at-mark-object2 = c .before .before in let at-mark-object = at-mark-object2 .before .before .before .before in let at-loop = at-mark-object .before .before .before in let entry = at-loop .before .before .before .before .before in
+    let a = entry .args in
+    let l = at-loop .loop in let m = at-mark-object .mark-object in
+    let n = at-mark-object2 .mark-object2 in let more = namers-more Count (sheetOf (a .s .now)) ContentObjects in
     (search needs, more (a .tops .now) (l .tops) (m .last .1 .1 .1 .0) (l .q) (l .inv .1) (m .ensures), more (a .named .now) (l .named) (n .last .1 .1 .1 .0) (l .q) (l .inv .2) (n .ensures))
 
 same-length : tie.Need-same-length Inv-loop μ-loop
