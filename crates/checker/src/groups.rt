@@ -1,7 +1,7 @@
 // Rules 21 and 22 for large sheets: how many programmes from the first on can be seen to keep them, in passes over the programmes.
 use grouping::Wanted;
-use grouping::alike::fill_alike;
 use grouping::programmes::kept_from;
+use inclusion::alike::fill_alike;
 use sheet::fields::COMPLEMENT_LIST;
 use sheet::fields::OBJECTS;
 use sheet::fields::PROGRAMMES;

@@ -20,12 +20,14 @@ use Rattle.profile.proofs.CountingLaws.{any-none}
 use Rattle.profile.proofs.GroupLaws.{any-witness, own-leader, leader-lists, member-zero, member-at, no-leader}
 use Rattle.profile.proofs.SumLaws.{any-nowhere, howMany-eq, howMany-all}
 use Rattle.tables.specs.steps.Marks.{Standing}
-use Rattle.grouping.specs.steps.Entering.{Changed, Entered, Noted, objectAt}
-use Rattle.grouping.specs.steps.Groups.{GroupKept, KeptTo, OneSpan, ProgrammeKept, groupWhole, manyIn, setsIn}
-use Rattle.grouping.specs.steps.Passing.{Alike, Passing, representative, sameList, sameLists}
-use Rattle.grouping.proofs.CountLaws.{Apart, any-eq, two-counted}
+use Rattle.inclusion.specs.steps.Entering.{Changed, Entered, Noted, objectAt}
+use Rattle.inclusion.specs.steps.Groups.{GroupKept, groupWhole, manyIn, setsIn}
+use Rattle.grouping.specs.steps.Groups.{KeptTo, OneSpan, ProgrammeKept}
+use Rattle.inclusion.specs.steps.Alike.{Alike, representative}
+use Rattle.grouping.specs.steps.Passing.{Passing, sameList, sameLists}
+use Rattle.inclusion.proofs.CountLaws.{Apart, any-eq, two-counted}
 use Rattle.grouping.proofs.MemberLaws.{one-owner}
-use Rattle.grouping.proofs.PassLaws.{past, sets-alike}
+use Rattle.inclusion.proofs.PassLaws.{past, sets-alike}
 
 -- one at most, or all
 one-or-all : (c n : ℕ) (b : Bool) → (leb c 1 || eqb c n && b) ≡ true → (true && not (eqb c 0) && not (eqb c 1) && not (eqb c n)) ≡ false

@@ -1,12 +1,12 @@
 -- Groups by the leaders of a programme's objects. Assumes nothing.
-use Prim.Native.Nat.{ℕ, zero, suc, _+_, _-_, _*_, _<_, _≤_}
+use Prim.Native.Nat.{ℕ, suc, _+_, _-_, _*_, _<_, _≤_}
 use mathlib.Core.Path.{_≡_, refl, sym, ap, subst, _∙_}
-use mathlib.Core.Bool.{Bool, true, false, cond, not, _&&_, _||_}
+use mathlib.Core.Bool.{Bool, true, false, cond, not}
 use mathlib.Core.List.{List}
 use mathlib.Core.Logic.{_⊎_, ⊎-elim}
 use native.Mathlib.Omega.{arith}
 use native.Mathlib.Numerals.{add-one}
-use borrow.Author.Tests.{eqb-true, eqb-false, eq-eqb, ne-eqb, le-leb, ltb-true, ltb-false, not-false}
+use borrow.Author.Tests.{eqb-true, eqb-false, eq-eqb, ne-eqb, ltb-true, ltb-false, not-false}
 use lib.Dec.{eqb, ltb}
 use lib.ListN.{length, getD}
 use Rattle.sheet.specs.Words.{Sheet}
@@ -14,8 +14,6 @@ use Rattle.sheet.specs.Layout.{count, number}
 use Rattle.sheet.specs.Fields.{programmes, objects, contentList, complementList}
 use Rattle.profile.specs.Counting.{howMany}
 use Rattle.profile.specs.Relations.{leader, leaderOf, member, members, includes}
-use Rattle.profile.specs.Rules.{setsDiffer}
-use Rattle.profile.proofs.GroupLaws.{member-zero}
 use Rattle.profile.proofs.SumLaws.{howMany-eq}
 use Rattle.tables.specs.declared.Naming.the-variants.{Included}
 use Rattle.tables.specs.declared.Mark.the-variants.{Store}
@@ -23,13 +21,14 @@ use Rattle.tables.specs.steps.Marks.{Standing, marked, repeat, timesBy}
 use Rattle.tables.proofs.MarkLaws.{repeat-store}
 use Rattle.tables.proofs.TableLaws.{included-marked}
 use Rattle.grouping.specs.steps.Leaders.{AllAsked, Asked, AskedFor, Ready, UpTo, groupAt}
-use Rattle.grouping.specs.steps.Groups.{GroupKept, GroupsApart, KeptTo, groupWhole, manyIn, setsIn}
-use Rattle.grouping.specs.steps.Entering.{Entered, objectAt}
+use Rattle.inclusion.specs.steps.Groups.{GroupKept, manyIn}
+use Rattle.grouping.specs.steps.Groups.{GroupsApart, KeptTo}
+use Rattle.inclusion.specs.steps.Entering.{Entered, objectAt}
 use Rattle.grouping.specs.steps.Passing.{Passing}
-use Rattle.grouping.proofs.CountLaws.{Apart, two-counted}
+use Rattle.inclusion.proofs.CountLaws.{Apart}
 use Rattle.grouping.proofs.KeptLaws.{entries-apart, programme-more, tells-entered}
 use Rattle.grouping.proofs.MemberLaws.{group-count}
-use Rattle.grouping.proofs.PassLaws.{past, sets-own}
+use Rattle.inclusion.proofs.PassLaws.{one-kept, past}
 
 -- one place of a table is written: what it has, and what the others have
 module _ (h h′ : List ℕ) (l v : ℕ) (long : length h′ ≡ length h) (now : Standing (λ z. cond (eqb l z) v (getD h z 0)) h′) where
@@ -92,25 +91,6 @@ module _ (s : Sheet) (p : ℕ) (t : List ℕ) (seen : ℕ) where
 
     pub asked-more : Asked s p t seen i h₀ h → Asked s p t seen (i + 1) h₀ h′
     asked-more before few = (λ x k. both (before few) x k .0, λ x k. both (before few) x k .1)
-
--- a group of which one member at most is included is kept
-module _ (s : Sheet) (t : List ℕ) (l : ℕ) where
-  pub one-kept : manyIn s t l ≤ 1 → GroupKept s t l
-  unfolding groupWhole manyIn
-  one-kept few = (ap (λ (b : Bool). b || eqb (manyIn s t l) (members s l) && (eqb (setsIn s t l) 0 || eqb (setsIn s t l) (members s l))) (le-leb (manyIn s t l) 1 few), each)
-    where
-      each : 1 < getD t l 0 → (i : ℕ) → i < members s l → 1 < getD t (member s l i) 0 → setsDiffer s (getD t l 0 - 2) (getD t (member s l i) 0 - 2) ≡ false
-      each a zero k b = ap (λ (x : ℕ). setsDiffer s (getD t l 0 - 2) (getD t x 0 - 2)) (member-zero s l) ∙ sets-own s (getD t l 0 - 2)
-      each a (suc i) k b =
-          absurd (omega (
-            arith,
-            few,
-            two-counted (λ x. not (eqb (getD t (member s l x) 0) 0)) (members s l) 0 (suc i) (λ q. let z : 0 ≡ suc i = q in omega arith) (omega arith) k
-                (some (member s l 0) (subst (λ (x : ℕ). 1 < getD t x 0) (sym (member-zero s l)) a)) (some (member s l (suc i)) b),
-          ))
-        where
-          some : (x : ℕ) → 1 < getD t x 0 → not (eqb (getD t x 0) 0) ≡ true
-          some x a = ap not (ne-eqb (getD t x 0) 0 (λ q. let z : getD t x 0 ≡ 0 = q in absurd (omega arith)))
 
 -- one object with the test at most
 at-most-one : (p : ℕ → Bool) → howMany p 1 ≤ 1

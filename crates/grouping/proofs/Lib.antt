@@ -1,7 +1,3 @@
-pub mod AlikeLaws
-mod CountLaws
 mod KeptLaws
 mod LeaderLaws
 mod MemberLaws
-mod PassLaws
-mod RowLaws

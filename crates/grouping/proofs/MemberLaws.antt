@@ -16,7 +16,7 @@ use Rattle.profile.proofs.BoolLaws.{or-none-3}
 use Rattle.profile.proofs.CountingLaws.{any-none, any-howMany, lowest-holds, finds}
 use Rattle.profile.proofs.GroupLaws.{any-witness, lists-witness, lists-times, own-leader, leader-lists}
 use Rattle.profile.proofs.SumLaws.{sum-one, howMany-sum, howMany-shift}
-use Rattle.grouping.proofs.CountLaws.{Apart, eqb-turned, sum-pair, exchange}
+use Rattle.inclusion.proofs.CountLaws.{Apart, eqb-turned, sum-pair, exchange}
 
 -- how often an object is among the members: as the leader, and in its list
 members-counted : (s : Sheet) (l o : ℕ) → howMany (λ i. eqb (member s l i) o) (members s l) ≡ cond (eqb l o) 1 0 + times s objects l complementList o

@@ -2,6 +2,4 @@
 -- not read these. Assumes nothing.
 pub mod Groups
 pub mod Passing
-pub mod Entering
-pub mod Rows
 pub mod Leaders

@@ -1,11 +1,11 @@
 // The groups of a programme by the leaders of its objects: what this takes goes with the programme's lists, not with the sheet's objects.
 // A table has for each leader what was seen of its group: up to a number `seen` nothing in this programme, one more for one object of
 // it, two more where the group was asked for.
-use crate::SectionOffsets;
-use crate::entering::object_from;
-use crate::groups::group_kept;
-use crate::marks::at;
-use crate::marks::change;
+use inclusion::SectionOffsets;
+use inclusion::entering::object_from;
+use inclusion::groups::group_kept;
+use inclusion::marks::at;
+use inclusion::marks::change;
 use sheet::fields::COMPLEMENT_LIST;
 use sheet::fields::CONTENT_LIST;
 use sheet::fields::OBJECTS;
@@ -19,7 +19,7 @@ ghost use lib.ListN.{length};
 ghost use mathlib.Core.Bool.{true};
 ghost use mathlib.Core.Path.{_≡_};
 ghost use Rattle.grouping.specs.steps.Leaders.{AllAsked, AskedFor};
-ghost use Rattle.grouping.specs.steps.Passing.{Begins};
+ghost use Rattle.inclusion.specs.steps.Entering.{Begins};
 ghost use Rattle.sheet.specs.Words.{sheetOf};
 ghost use Rattle.tables.specs.steps.Right.{Leaders};
 

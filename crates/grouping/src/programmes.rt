@@ -1,10 +1,10 @@
 // The programmes one after the other, by the rows of the groups or by the leaders of their objects.
-use crate::SectionOffsets;
 use crate::Wanted;
-use crate::entering::enter;
-use crate::groups::groups_kept;
-use crate::groups::list_leaders;
 use crate::leaders::groups_asked;
+use inclusion::SectionOffsets;
+use inclusion::entering::enter;
+use inclusion::groups::groups_kept;
+use inclusion::groups::list_leaders;
 use sheet::fields::CONTENT_LIST;
 use sheet::fields::CONTENTS;
 use sheet::fields::OBJECTS;
@@ -28,7 +28,8 @@ ghost use lib.ListN.{length};
 ghost use mathlib.Core.Bool.{true};
 ghost use mathlib.Core.Path.{_≡_};
 ghost use Rattle.grouping.specs.steps.Groups.{GroupsGround, KeptTo, ProgrammesKept};
-ghost use Rattle.grouping.specs.steps.Passing.{Begins, KeptFrom, sameList, sameLists};
+ghost use Rattle.inclusion.specs.steps.Entering.{Begins};
+ghost use Rattle.grouping.specs.steps.Passing.{KeptFrom, sameList, sameLists};
 ghost use Rattle.sheet.specs.Words.{sheetOf};
 ghost use Rattle.tables.specs.steps.Right.{Owners};
 

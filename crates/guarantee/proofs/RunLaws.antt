@@ -25,11 +25,10 @@ use Rattle.listener.specs.declared.State.{State}
 use Rattle.listener.specs.declared.Refusal.{Refusal}
 use Rattle.listener.specs.declared.Answer.{Answer}
 use Rattle.listener.specs.declared.Answer.the-variants.{Done, Refused}
-use Rattle.granted.specs.Fitting.{sameGain, sameOffset}
+use Rattle.granted.specs.Fitting.{sameGain, sameOffset, gainFits, offsetFits, soundGain, soundOffset}
 use Rattle.listener.specs.State.{stateObjects, setting, refusalNumber}
 use Rattle.granted.specs.Granted.{startValue, grants, inWholeGroup}
 use Rattle.listener.specs.Programme.{startSetting, started}
-use Rattle.granted.specs.Fitting.{gainFits, offsetFits, soundGain, soundOffset}
 use Rattle.listener.specs.Sound.{sound}
 use Rattle.listener.specs.Calls.{Ground, answerBy, replyBy, opens, notOpen, notSound, notIncluded, noProgramme, notInGroup, noRange, outsideRange, opened, programmeAnswer, chosenProgramme, objectAnswer, movedSetting, moved, chosenObject, valueAnswer, withSetting, withGain, withOffset, gainSet, offsetSet}
 use Rattle.guarantee.specs.Run.{Call, programme, object, gain, offset, reply, run, after, chosenBy, chosen, lastChosen}

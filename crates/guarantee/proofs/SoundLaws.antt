@@ -26,11 +26,10 @@ use Rattle.profile.proofs.SumLaws.{howMany-eq}
 use Rattle.profile.proofs.GroupLaws.{member-zero, member-suc, member-of, member-leader, member-index, member-once, complement-leader, leader-index, included-top, whole-member}
 use Rattle.listener.specs.declared.Setting.{Setting}
 use Rattle.listener.specs.declared.State.{State}
-use Rattle.granted.specs.Fitting.{sameGain, sameOffset}
+use Rattle.granted.specs.Fitting.{sameGain, sameOffset, soundGain, soundOffset}
 use Rattle.listener.specs.State.{stateObjects, resting, blank, setting, active, isResting}
 use Rattle.granted.specs.Granted.{startValue, inWholeGroup, startsActive}
 use Rattle.listener.specs.Programme.{startSetting, started}
-use Rattle.granted.specs.Fitting.{soundGain, soundOffset}
 use Rattle.listener.specs.Sound.{activeMembers, soundActivity, soundAt, sound}
 use Rattle.listener.specs.Calls.{movedSetting, withSetting}
 

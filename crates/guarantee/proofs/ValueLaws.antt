@@ -21,11 +21,10 @@ use Rattle.profile.specs.AcceptedSheet.{AcceptedSheet}
 use Rattle.profile.proofs.BoolLaws.{and-both, or-either}
 use Rattle.listener.specs.declared.Setting.{Setting}
 use Rattle.listener.specs.declared.State.{State}
-use Rattle.granted.specs.Fitting.{sameGain, sameOffset}
+use Rattle.granted.specs.Fitting.{sameGain, sameOffset, gainFits, offsetFits, soundGain, soundOffset}
 use Rattle.listener.specs.State.{stateObjects, setting, isResting}
 use Rattle.granted.specs.Granted.{startValue, grantedMinimum, grantedMaximum, grants}
 use Rattle.listener.specs.Programme.{startSetting}
-use Rattle.granted.specs.Fitting.{gainFits, offsetFits, soundGain, soundOffset}
 use Rattle.listener.specs.Sound.{soundAt, sound}
 use Rattle.guarantee.proofs.StartLaws.{start-legal, start-within, zero-within}
 use Rattle.guarantee.proofs.SoundLaws.{same-gain, same-offset, included-parts, rest-parts, sound-programme, sound-object, start-included, start-rest}

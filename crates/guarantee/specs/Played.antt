@@ -9,11 +9,10 @@ use Rattle.profile.specs.Judged.{judged}
 use Rattle.listener.specs.declared.State.{State}
 use Rattle.listener.specs.declared.Answer.{Answer}
 use Rattle.listener.specs.declared.Answer.the-variants.{Done, Refused}
-use Rattle.granted.specs.Fitting.{sameGain, sameOffset}
+use Rattle.granted.specs.Fitting.{sameGain, sameOffset, gainFits, offsetFits, soundGain, soundOffset}
 use Rattle.listener.specs.State.{restingState, setting, active, isResting, refusalNumber}
 use Rattle.granted.specs.Granted.{startValue, grantedMinimum, grantedMaximum, grants, inWholeGroup, startsActive}
 use Rattle.listener.specs.Programme.{startSetting, started}
-use Rattle.granted.specs.Fitting.{gainFits, offsetFits, soundGain, soundOffset}
 use Rattle.listener.specs.Sound.{activeMembers, soundActivity, soundAt, sound}
 use Rattle.listener.specs.Calls.{opens, answerBy, replyBy, notOpen, notSound, notIncluded, opened, noProgramme, programmeAnswer, chosenProgramme, notInGroup, objectAnswer, movedSetting, moved, chosenObject, noRange, outsideRange, valueAnswer, withSetting, withGain, withOffset, gainSet, offsetSet}
 use Rattle.listener.specs.Listing.{ownEntries, objectEntries, entries, listedTracks, tooFewWords, listingAnswer, listed, bufferedBy, buffered}

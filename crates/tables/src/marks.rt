@@ -132,7 +132,7 @@ pub fn mark_items(s: &[u8], kind: Naming, q: u16, mark: Mark, table: &mut [u16])
     }
 }
 
-// The same, told at once of a record that names none, as most do.
+// The same, with nothing to do for a record that names none, as most.
 pub fn mark_some(s: &[u8], kind: Naming, q: u16, mark: Mark, table: &mut [u16])
     ensures { λ r. ⌜ MarkedTimes mark (timesBy (sheetOf (now (s .entry))) kind q) (now (table .entry)) (now (table .exit)) ⌝ }
 {

@@ -11,8 +11,8 @@ use Rattle.sheet.specs.Fields.{programmes, objects, contentList}
 use Rattle.profile.specs.Counting.{howMany}
 use Rattle.profile.specs.Relations.{leaderOf}
 use Rattle.tables.specs.steps.Marks.{Standing}
-use Rattle.grouping.specs.steps.Groups.{GroupKept}
-use Rattle.grouping.specs.steps.Entering.{objectAt}
+use Rattle.inclusion.specs.steps.Groups.{GroupKept}
+use Rattle.inclusion.specs.steps.Entering.{objectAt}
 
 -- the leader of the object of a content that the programme names
 unfoldable pub groupAt : Sheet → ℕ → ℕ → ℕ

@@ -1,30 +1,17 @@
 -- What the pass is given, and what it leaves. Assumes nothing.
 use Prim.Native.Nat.{ℕ}
 use mathlib.Core.Path.{_≡_}
-use mathlib.Core.Bool.{Bool, true, false, not, _&&_, _||_}
+use mathlib.Core.Bool.{Bool, true, not, _&&_, _||_}
 use mathlib.Core.List.{List}
 use lib.Dec.{eqb}
-use lib.ListN.{length, getD}
+use lib.ListN.{length}
 use Rattle.sheet.specs.Words.{Sheet}
-use Rattle.sheet.specs.Layout.{count, offset, field, number}
-use Rattle.sheet.specs.Fields.{programmes, contents, objects, references, valueSets, contentList, setList}
-use Rattle.profile.specs.Rules.{setsDiffer}
-use Rattle.tables.specs.steps.Right.{Owners, told}
-use Rattle.grouping.specs.declared.SectionOffsets.{SectionOffsets}
+use Rattle.sheet.specs.Layout.{count, field, number}
+use Rattle.sheet.specs.Fields.{programmes, objects, contentList, setList}
+use Rattle.tables.specs.steps.Right.{Owners}
+use Rattle.inclusion.specs.steps.Alike.{Alike}
 use Rattle.grouping.specs.declared.Wanted.{Wanted}
 use Rattle.grouping.specs.steps.Groups.{GroupsApart, KeptTo, OneSpan}
-
--- where sections 6, 2 and 7 begin
-abbrev pub Begins : Sheet → SectionOffsets → Type 0
-Begins s sections = (sections .references ≡ offset s references) × (sections .contents ≡ offset s contents) × (sections .sets ≡ offset s valueSets)
-
--- the set that stands for a set by a table: one less than the number at its place, or itself where that is 0 or the table ends before it
-unfoldable pub representative : List ℕ → ℕ → ℕ
-representative t v = told v (getD t v 0)
-
--- each has the words of the set that it stands for
-abbrev pub Alike : Sheet → List ℕ → Type 0
-Alike s t = (v : ℕ) → setsDiffer s (representative t v) v ≡ false
 
 -- what the pass rests on: the owners of the sets, the sets that stand for others, and for rule 22 that each set is in one span
 abbrev pub Passing : Sheet → Bool → List ℕ → List ℕ → Type 0

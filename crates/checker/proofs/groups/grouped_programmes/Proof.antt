@@ -6,7 +6,7 @@ use native.Mathlib.Omega.{arith}
 use lib.ListN.{replicate}
 use lib.Seq.{length-take-le}
 use Rattle.sheet.specs.Words.{sheetOf}
-use Rattle.grouping.proofs.AlikeLaws.{alike-empty}
+use Rattle.inclusion.proofs.AlikeLaws.{alike-empty}
 use Rattle.checker.proofs.GroupLaws.{pairs-kept}
 use borrow.Author.Needs.{needs}
 use Rattle.checker.proofs.groups.grouped_programmes.Statement.{statement}

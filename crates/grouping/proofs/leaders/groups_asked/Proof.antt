@@ -9,10 +9,10 @@ use Rattle.sheet.specs.Words.{sheetOf}
 use Rattle.sheet.specs.Layout.{number}
 use Rattle.sheet.specs.Fields.{programmes, contentList}
 use Rattle.tables.specs.steps.Right.{Leaders}
-use Rattle.grouping.specs.steps.Passing.{Begins}
+use Rattle.inclusion.specs.steps.Entering.{Begins}
 use Rattle.grouping.specs.steps.Leaders.{Asked}
 use Rattle.grouping.proofs.LeaderLaws.{asked-more, asked-none, group-entry}
-use Rattle.grouping.proofs.PassLaws.{object-entry}
+use Rattle.inclusion.proofs.PassLaws.{object-entry}
 use borrow.Author.Needs.{needs}
 use Rattle.grouping.proofs.leaders.groups_asked.Statement.{statement}
 use Rattle.grouping.proofs.leaders.groups_asked.Tie as tie

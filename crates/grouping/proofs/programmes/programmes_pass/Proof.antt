@@ -5,7 +5,7 @@ use native.Mathlib.Omega.{arith}
 use lib.Seq.{length-take-le}
 use borrow.Author.Tests.{eqb-true}
 use Rattle.sheet.specs.Words.{sheetOf}
-use Rattle.grouping.proofs.AlikeLaws.{alike-empty}
+use Rattle.inclusion.proofs.AlikeLaws.{alike-empty}
 use borrow.Author.Needs.{needs}
 use Rattle.grouping.proofs.programmes.programmes_pass.Statement.{statement}
 use Rattle.grouping.proofs.programmes.programmes_pass.Tie as tie

@@ -1,0 +1,4 @@
+pub mod AlikeLaws
+pub mod CountLaws
+pub mod PassLaws
+pub mod RowLaws
