@@ -85,7 +85,8 @@ pub fn subjects(s: &[u8], section: u8, kind: u16) -> u16
     }
 }
 
-// Whether a record of a section breaks a rule. `marks` is written for the rules about a programme.
+// Whether a record of a section breaks a rule. `marks` is written for the rules about a programme. Rule 22 is called in two places, so that
+// the compiler keeps its tables out of this function's frame (docs/SPEED.md).
 pub fn breaks(
     s: &[u8],
     first: &[u16],
@@ -123,8 +124,12 @@ pub fn breaks(
             rule21(s, marks, section, k)
         },
         22 => {
-            mark_included(s, k, marks);
-            rule22(s, first, second, marks, section, k)
+            if marks.len() == 0 {
+                rule22(s, first, second, marks, section, k)
+            } else {
+                mark_included(s, k, marks);
+                rule22(s, first, second, marks, section, k)
+            }
         },
         23 => rule23(s, first, second, section, k),
         24 => rule24(s, first, second, section, k),

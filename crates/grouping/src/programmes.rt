@@ -38,8 +38,10 @@ fn same_list(s: &[u8], p: u16, q: u16, at: u8) -> bool
     requires { ⌜ at < 8 ⌝ }
     ensures { λ r. ⌜ r ≡ sameList (sheetOf (now (s .entry))) p q at ⌝ }
 {
-    (field(s, PROGRAMMES, p, at) == field(s, PROGRAMMES, q, at))
-        & (number(s, PROGRAMMES, p, at) == number(s, PROGRAMMES, q, at))
+    if field(s, PROGRAMMES, p, at) != field(s, PROGRAMMES, q, at) {
+        return false;
+    }
+    number(s, PROGRAMMES, p, at) == number(s, PROGRAMMES, q, at)
 }
 
 // Whether they have the same contents and, with `both`, the same sets.

@@ -1,4 +1,5 @@
 -- Each rule by its number. Assumes nothing.
+use native.Mathlib.Omega.{arith}
 use mathlib.Core.Path.{refl}
 use Rattle.sheet.specs.Words.{sheetOf}
 use Rattle.profile.specs.Verdict.{breaks, numberAt, ruleAt, ruleCount, rules}
@@ -74,11 +75,14 @@ mark-included-requires c κs = search needs
 rule21-requires : tie.Need-rule21-requires
 rule21-requires c κs = search needs
 
+rule22-requires : tie.Need-rule22-requires
+rule22-requires c κs = search needs
+
 mark-included-requires-2 : tie.Need-mark-included-requires-2
 mark-included-requires-2 c κs = search needs
 
-rule22-requires : tie.Need-rule22-requires
-rule22-requires c κs = search needs
+rule22-requires-2 : tie.Need-rule22-requires-2
+rule22-requires-2 c κs = search needs
 
 rule23-requires : tie.Need-rule23-requires
 rule23-requires c κs = search needs
@@ -176,26 +180,37 @@ returns-21 c =
     (b .mark-included .ensures .0, λ first second. simp (c .rule21 .ensures (b .mark-included .ensures .1), b .before .before .match .keys21))
 
 same-length-2 : tie.Need-same-length-2
-same-length-2 c = c .before .before .before .before .mark-included2 .ensures .0
+same-length-2 c = search needs
 
+-- an empty table is right
 returns-22 : tie.Need-returns-22
 unfolding breaks firstTable secondTable
 returns-22 c =
-    let b = c .before .before .before .before in
-    let k = b .before .before .match .keys22 in
-    (b .mark-included2 .ensures .0, λ first second. simp (c .rule22 .ensures (rw k at first) (rw k at second) (b .mark-included2 .ensures .1), k))
+    let b = c .before .before in
+    let k = b .before .match .keys22 in
+    (refl, λ first second. simp (c .rule22 .ensures (rw k at first) (rw k at second) (λ x l. absurd (omega (arith, b .if1 .taken, l))), k))
+
+same-length-3 : tie.Need-same-length-3
+same-length-3 c = c .before .before .before .before .mark-included2 .ensures .0
 
 returns-23 : tie.Need-returns-23
 unfolding breaks firstTable secondTable
-returns-23 c = (refl, λ first second. let k = c .before .match .keys23 in simp (c .rule23 .ensures (rw k at first) (rw k at second), k))
+returns-23 c =
+    let b = c .before .before .before .before in
+    let k = b .before .before .before .match .keys22 in
+    (b .mark-included2 .ensures .0, λ first second. simp (c .rule222 .ensures (rw k at first) (rw k at second) (b .mark-included2 .ensures .1), k))
 
 returns-24 : tie.Need-returns-24
 unfolding breaks firstTable secondTable
-returns-24 c = (refl, λ first second. let k = c .before .match .keys24 in simp (c .rule24 .ensures (rw k at first) (rw k at second), k))
+returns-24 c = (refl, λ first second. let k = c .before .match .keys23 in simp (c .rule23 .ensures (rw k at first) (rw k at second), k))
 
 returns-25 : tie.Need-returns-25
+unfolding breaks firstTable secondTable
+returns-25 c = (refl, λ first second. let k = c .before .match .keys24 in simp (c .rule24 .ensures (rw k at first) (rw k at second), k))
+
+returns-26 : tie.Need-returns-26
 unfolding numberAt ruleAt ruleCount rules
-returns-25 c = (refl, λ first second. no-rule _ _ _ _ (c .match .rest))
+returns-26 c = (refl, λ first second. no-rule _ _ _ _ (c .match .rest))
 
 pub breaks-spec : {M : Type 1} → statement M
 breaks-spec =
@@ -223,8 +238,9 @@ breaks-spec =
     rule20-requires
     mark-included-requires
     rule21-requires
-    mark-included-requires-2
     rule22-requires
+    mark-included-requires-2
+    rule22-requires-2
     rule23-requires
     rule24-requires
     returns
@@ -251,6 +267,8 @@ breaks-spec =
     returns-21
     same-length-2
     returns-22
+    same-length-3
     returns-23
     returns-24
-    returns-25)
+    returns-25
+    returns-26)
