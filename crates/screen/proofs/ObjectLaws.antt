@@ -18,7 +18,8 @@ use Rattle.profile.specs.Rules.{beyond, lacks, listLacks, badWords, leaves, bad
 use Rattle.profile.proofs.BoolLaws.{or-false, or-none, or-none-3, or-none-4, and-both, and-second}
 use Rattle.profile.proofs.CountingLaws.{any-none}
 use Rattle.profile.proofs.SumLaws.{any-nowhere, howMany-eq}
-use Rattle.screen.specs.steps.Entries.{entryAt, badChildAt, outOfOrderAt}
+use Rattle.lists.specs.steps.Entries.{entryAt, badChildAt, outOfOrderAt}
+use Rattle.lists.proofs.LimitLaws.{and-nothing}
 use Rattle.screen.specs.steps.Values.{valuesAt, hasRange, nonePresent, wordsBroken, valueLeaves, setWordsBroken, setBroken}
 use Rattle.screen.specs.declared.Values.{Values}
 use Rattle.screen.specs.declared.ObjectValues.{ObjectValues}
@@ -31,15 +32,6 @@ module _ (p q : ℕ → Bool) (n : ℕ) (e : any (λ i. p i || q i) n ≡ false)
 
   pub any-right : any q n ≡ false
   any-right = any-nowhere q n (λ k l. or-none (p k) (q k) (any-none (λ i. p i || q i) n e k l) .1)
-
-pub and-nothing : (b : Bool) → (b && false) ≡ false
-and-nothing true = refl
-and-nothing false = refl
-
--- nothing exceeds a limit
-pub no-excess : (s : Sheet) (column : ℕ) → exceeds s column 0 ≡ false
-unfolding exceeds
-no-excess s column = rw (le-ltb (limit (level s) column) 0 (omega arith)) (and-nothing (not (eqb (level s) 0)))
 
 -- an or of seven that fails
 pub or-none-7 : (a b c d e f g : Bool) → (a || b || c || d || e || f || g) ≡ false → (a ≡ false) × (b ≡ false) × (c ≡ false) × (d ≡ false) × (e ≡ false) × (f ≡ false) × (g ≡ false)

@@ -21,7 +21,8 @@ use Rattle.profile.proofs.VerdictLaws.{kept-accepted, rule-kept}
 use Rattle.grouping.specs.steps.Groups.{GroupsGround, ProgrammesKept}
 use Rattle.screen.specs.steps.Values.{setBroken}
 use Rattle.screen.specs.steps.Objects.{objectBroken, objectValues, setsBroken}
-use Rattle.screen.specs.steps.Screened.{contentBroken, programmeBroken, headerBroken, RecordsKept}
+use Rattle.lists.specs.steps.Speech.{contentBroken, programmeBroken}
+use Rattle.screen.specs.steps.Screened.{headerBroken, RecordsKept}
 use Rattle.screen.proofs.ObjectLaws.{or-none-7, or-none-8, set-kept}
 
 -- an or of five that fails

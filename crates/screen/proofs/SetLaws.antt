@@ -10,7 +10,8 @@ use Rattle.profile.proofs.BoolLaws.{or-false, and-both}
 use Rattle.screen.specs.declared.Values.{Values}
 use Rattle.screen.specs.declared.ObjectValues.{ObjectValues}
 use Rattle.screen.specs.steps.Values.{hasRange, nonePresent, valueLeaves, wordsBroken, setWordsBroken, gainBroken}
-use Rattle.screen.proofs.ObjectLaws.{all-absent, and-nothing}
+use Rattle.lists.proofs.LimitLaws.{and-nothing}
+use Rattle.screen.proofs.ObjectLaws.{all-absent}
 
 pub only-gain : (own : ℕ) (gains offsets : Values) (v : ObjectValues) → (eqb own 0 && not (hasRange gains) && nonePresent offsets) ≡ true
     → gainBroken gains v ≡ setWordsBroken own gains offsets v

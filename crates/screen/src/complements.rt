@@ -1,8 +1,8 @@
 // The complements of a leader: rules 19 and 20, and rule 5 by a complement.
-use crate::lists::entry_at;
-use crate::words::number_at;
-use crate::words::record_at;
-use crate::words::word_at;
+use lists::entries::entry_at;
+use lists::words::number_at;
+use lists::words::record_at;
+use lists::words::word_at;
 use relations::objects::kind;
 use relations::objects::lacks;
 use rules::loops::bad_complement;
@@ -22,7 +22,7 @@ ghost use lib.Dec.{eqb};
 ghost use mathlib.Core.Bool.{false, not};
 ghost use mathlib.Core.Path.{_≡_};
 ghost use Rattle.profile.specs.Counting.{any};
-ghost use Rattle.screen.specs.steps.Entries.{entryAt};
+ghost use Rattle.lists.specs.steps.Entries.{entryAt};
 ghost use Rattle.screen.specs.steps.Objects.{complementBroken, complementsKept};
 ghost use Rattle.sheet.specs.Fields.{interact, objects, references};
 ghost use Rattle.sheet.specs.Layout.{field, offset, start};

@@ -1,14 +1,11 @@
 // The screening of a sheet: one pass over each section that shows for most accepted sheets that no rule is broken. Where it cannot tell,
 // the search of the checker decides.
 pub mod complements;
-pub mod lists;
 pub mod objects;
 pub mod records;
 pub mod screening;
 pub mod sets;
-pub mod speech;
 pub mod totals;
-pub mod words;
 
 // A gain with its range, or an offset with its range: three words.
 pub struct Values {

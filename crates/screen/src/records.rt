@@ -1,10 +1,10 @@
 // The records of each section.
 use crate::objects::object_breaks;
-use crate::speech::content_breaks;
-use crate::speech::programme_breaks;
-use crate::words::ends_before;
-use crate::words::record_at;
-use crate::words::word_at;
+use lists::speech::content_breaks;
+use lists::speech::programme_breaks;
+use lists::words::ends_before;
+use lists::words::record_at;
+use lists::words::word_at;
 use profile::limits::CHANNELS_LIMIT;
 use profile::limits::exceeds;
 use relations::objects::lacks;
@@ -31,7 +31,8 @@ ghost use mathlib.Core.Path.{_≡_};
 ghost use Rattle.profile.specs.Counting.{any};
 ghost use Rattle.profile.specs.Rules.{badPack, rule5, rule10, rule12};
 ghost use Rattle.screen.specs.steps.Objects.{objectBroken};
-ghost use Rattle.screen.specs.steps.Screened.{RecordsKept, RecordsTabled, contentBroken, headerBroken, programmeBroken};
+ghost use Rattle.lists.specs.steps.Speech.{contentBroken, programmeBroken};
+ghost use Rattle.screen.specs.steps.Screened.{RecordsKept, RecordsTabled, headerBroken};
 ghost use Rattle.sheet.specs.Fields.{contents, objects, packs, programmes, tracks};
 ghost use Rattle.sheet.specs.Layout.{count};
 ghost use Rattle.sheet.specs.Words.{sheetOf};

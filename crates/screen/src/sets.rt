@@ -1,9 +1,9 @@
 // The value sets of an object.
 use crate::ObjectValues;
 use crate::Values;
-use crate::words::ends_before;
-use crate::words::record_after;
-use crate::words::word_at;
+use lists::words::ends_before;
+use lists::words::record_after;
+use lists::words::word_at;
 use rules::ranges::leaves;
 use rules::words::bad_words;
 use sheet::fields::SET_GAIN;

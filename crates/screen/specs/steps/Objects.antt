@@ -12,7 +12,7 @@ use Rattle.profile.specs.Counting.{any}
 use Rattle.profile.specs.Limits.{exceeds, childrenLimit, complementsLimit, spanLimit}
 use Rattle.profile.specs.Relations.{hasPack, packOf, hasFrontPack}
 use Rattle.profile.specs.Rules.{lacks, listLacks, leaves, badObject, badComplement, differs, rule4, rule5, rule8, rule11, rule13, rule14, rule15, rule16, rule17, rule18, rule19, rule20}
-use Rattle.screen.specs.steps.Entries.{badChildAt, outOfOrderAt}
+use Rattle.lists.specs.steps.Entries.{badChildAt, outOfOrderAt}
 use Rattle.screen.specs.steps.Values.{valuesAt, hasRange, nonePresent, wordsBroken, setBroken}
 use Rattle.screen.specs.declared.Values.{Values}
 use Rattle.screen.specs.declared.ObjectValues.{ObjectValues}

@@ -1,6 +1,6 @@
 -- What the screening of a sheet tests of a record. Assumes nothing.
-use Prim.Native.Nat.{ℕ, _+_, _<_}
-use mathlib.Core.Bool.{Bool, false, not, _||_}
+use Prim.Native.Nat.{ℕ, _<_}
+use mathlib.Core.Bool.{Bool, false, _||_}
 use mathlib.Core.Path.{_≡_}
 use mathlib.Core.List.{List}
 use lib.Dec.{ltb}
@@ -14,34 +14,8 @@ use Rattle.profile.specs.Limits.{exceeds, labelsLimit, programmeContentsLimit, 
 use Rattle.profile.specs.Rules.{badPack, outside, rule1, rule2, rule3, rule4, rule5, rule6, rule7, rule8, rule9, rule10, rule11, rule12, rule23, rule24}
 use Rattle.tables.specs.steps.Marks.{Standing}
 use Rattle.tables.specs.steps.Right.{Named, Listed, Tops, Complemented, Spanned, Owners}
-use Rattle.screen.specs.steps.Entries.{lackingAt, noLanguageAt, sameAt}
+use Rattle.lists.specs.steps.Speech.{contentBroken, programmeBroken}
 use Rattle.screen.specs.steps.Objects.{objectBroken}
-
--- a language, a label list and a loudness that break rule 4, 6, 8 or 9
-unfoldable pub speechBroken : Sheet → ℕ → ℕ → ℕ → ℕ → Bool
-speechBroken s lang first n loud =
-    ltb (count s references) (first + n)
-    || (not (language lang) || any (noLanguageAt s (offset s references) first) n || not (loudness loud))
-    || exceeds s labelsLimit n
-    || twoOf (sameAt s (offset s references) first) n
-
--- a content breaks a rule that needs no table
-unfoldable pub contentBroken : Sheet → ℕ → Bool
-contentBroken s k = rule4 s contents k || rule5 s contents k || rule6 s contents k || rule8 s contents k || rule9 s contents k
-
--- a content list and a set list that break rule 4, 5 or 8
-unfoldable pub programmeListsBroken : Sheet → ℕ → ℕ → ℕ → ℕ → Bool
-programmeListsBroken s first n from sets =
-    ltb (count s references) (first + n)
-    || ltb (count s references) (from + sets)
-    || outside s programmeContentsLimit n
-    || exceeds s programmeSetsLimit sets
-    || any (lackingAt s (offset s references) first (count s contents)) n
-    || any (lackingAt s (offset s references) from (count s valueSets)) sets
-
--- a programme breaks a rule that needs no table
-unfoldable pub programmeBroken : Sheet → ℕ → Bool
-programmeBroken s k = rule4 s programmes k || rule5 s programmes k || rule6 s programmes k || rule8 s programmes k || rule9 s programmes k
 
 -- the header breaks rule 1 or 2, or a section rule 3 or 7
 unfoldable pub headerBroken : Sheet → Bool

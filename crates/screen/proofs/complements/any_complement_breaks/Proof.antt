@@ -9,7 +9,7 @@ use Rattle.profile.specs.Counting.{any}
 use Rattle.sheet.specs.Layout.{offset}
 use Rattle.sheet.specs.Fields.{references}
 use Rattle.tables.specs.steps.Right.{Complemented, Tops}
-use Rattle.screen.specs.steps.Entries.{entryAt}
+use Rattle.lists.specs.steps.Entries.{entryAt}
 use Rattle.screen.specs.steps.Objects.{complementBroken}
 use Rattle.screen.proofs.complements.any_complement_breaks.Statement.{statement}
 use Rattle.screen.proofs.complements.any_complement_breaks.Tie as tie

@@ -2,7 +2,7 @@
 use mathlib.Core.Path.{sym, _∙_}
 use Rattle.sheet.specs.Words.{sheetOf}
 use Rattle.sheet.specs.Layout.{number, field, entry, reference}
-use Rattle.screen.specs.steps.Entries.{entryAt}
+use Rattle.lists.specs.steps.Entries.{entryAt}
 use Rattle.screen.proofs.ObjectLaws.{no-complements, complements-kept}
 use borrow.Author.Needs.{needs}
 use Rattle.screen.proofs.complements.complements_break.Statement.{statement}

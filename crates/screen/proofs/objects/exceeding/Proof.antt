@@ -1,7 +1,7 @@
 -- Nothing exceeds a limit. Assumes nothing.
 use mathlib.Core.Path.{sym}
 use Rattle.sheet.specs.Words.{sheetOf}
-use Rattle.screen.proofs.ObjectLaws.{no-excess}
+use Rattle.lists.proofs.LimitLaws.{no-excess}
 use borrow.Author.Needs.{needs}
 use Rattle.screen.proofs.objects.exceeding.Statement.{statement}
 use Rattle.screen.proofs.objects.exceeding.Tie as tie

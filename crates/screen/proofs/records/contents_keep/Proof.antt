@@ -10,7 +10,7 @@ use Rattle.profile.specs.Counting.{any}
 use Rattle.profile.specs.Rules.{rule12}
 use Rattle.sheet.specs.Fields.{contents}
 use Rattle.profile.proofs.BoolLaws.{or-none}
-use Rattle.screen.specs.steps.Screened.{contentBroken}
+use Rattle.lists.specs.steps.Speech.{contentBroken}
 use Rattle.tables.specs.steps.Right.{Listed}
 use Rattle.screen.proofs.NoughtLaws.{listed-some}
 use Rattle.screen.proofs.records.contents_keep.Statement.{statement}

@@ -7,7 +7,7 @@ use native.Mathlib.Numerals.{add-one}
 use Rattle.sheet.specs.Words.{sheetOf}
 use borrow.Author.Needs.{needs}
 use Rattle.profile.specs.Counting.{any}
-use Rattle.screen.specs.steps.Screened.{programmeBroken}
+use Rattle.lists.specs.steps.Speech.{programmeBroken}
 use Rattle.screen.proofs.records.programmes_keep.Statement.{statement}
 use Rattle.screen.proofs.records.programmes_keep.Tie as tie
 

@@ -1,0 +1,3 @@
+pub mod LimitLaws
+mod RisingLaws
+mod SpeechLaws
