@@ -6,5 +6,6 @@ pub mod ValueLaws
 pub mod ListingLaws
 pub mod EntryLaws
 pub mod Guaranteed
+pub mod ChosenLaws
 pub mod Theorems
 pub mod MostLaws

@@ -35,7 +35,7 @@ use Rattle.guarantee.specs.Run.{Call, programme, object, gain, offset, r
 use Rattle.guarantee.proofs.SoundLaws.{start-sound, sound-programme, sound-object, included-parts, stored-sound, moved-sound}
 
 -- an answer is done where no ground holds
-done-ground : (g : Ground) (gs : List Ground) → answerBy (g ∷ gs) ≡ Done → (g .holds ≡ false) × (answerBy gs ≡ Done)
+pub done-ground : (g : Ground) (gs : List Ground) → answerBy (g ∷ gs) ≡ Done → (g .holds ≡ false) × (answerBy gs ≡ Done)
 unfolding answerBy
 done-ground g gs e =
     (elim (g .holds) as (λ b. g .holds ≡ b → (g .holds ≡ false) × (answerBy gs ≡ Done)) [

@@ -1,5 +1,5 @@
 -- The listing on bytes and the one on words that it is made from. Assumes nothing.
-use Prim.Native.Nat.{ℕ, zero, suc, _+_, _*_, _-_, _<_, _≤_}
+use Prim.Native.Nat.{ℕ, zero, suc, _*_, _-_, _<_, _≤_}
 use mathlib.Core.Path.{_≡_, refl, sym, ap, _∙_}
 use mathlib.Core.Bool.{Bool, true, false, cond}
 use mathlib.Core.List.{List}
@@ -8,8 +8,8 @@ use native.Mathlib.Nat.{le-trans}
 use borrow.Author.Tests.{lt-ltb, le-ltb}
 use lib.Dec.{eqb, ltb, leb}
 use lib.IntN.{pos}
-use lib.ListN.{length, take, drop, replicate, length-map}
-use lib.Seq.{sets, length-sets, sets-eq, take-append-seam}
+use lib.ListN.{length, take, replicate, length-map}
+use lib.Seq.{sets}
 use mir.Syntax.{w32}
 use mir.Val.{toZ, ofZ}
 use mir.Facts.{toZ-ofZ}
@@ -24,7 +24,8 @@ use Rattle.listener.specs.declared.Listing.{Listing}
 use Rattle.listener.specs.State.{refusalNumber}
 use Rattle.listener.specs.Programme.{started}
 use Rattle.listener.specs.Calls.{opens, answerBy, notOpen, noProgramme}
-use Rattle.listener.specs.Listing.{Entry, entries, listedTracks, tooFewWords, listedBy, bufferedBy}
+use Rattle.listener.specs.Listing.{Entry, entries, listedTracks, tooFewWords, bufferedBy}
+use Rattle.listener.proofs.TakenLaws.{told-answer, told-number, told-length, told-tracks}
 use Rattle.listener.specs.StartListing.{startTracks, startNumber, startAnswer, startListed, startBuffered}
 use Rattle.guarantee.specs.Guarantee.{mostEntries}
 use Rattle.guarantee.proofs.MostLaws.{start-most}
@@ -74,19 +75,7 @@ module _ (s : Sheet) (p bytes : ℕ) where
   pub done-room : startAnswer s p hostWords ≡ Done → hostAnswer s p bytes ≡ cond (ltb bytes (2 * startNumber s p)) (Refused TooFewWords) Done
   done-room = both (λ x y. x ≡ Done → y ≡ room) (λ q e. absurd (done-refused q (Refused q) e refl)) (λ most e. refl)
 
--- a listing told done
-listed-answer : (n : ℕ) (x : Answer) → listedBy n x .answer ≡ x
-listed-answer n Done = refl
-listed-answer n (Refused r) = refl
-
-listed-number : (n : ℕ) (x : Answer) → x ≡ Done → listedBy n x .entries ≡ n
-listed-number n x e = rw e refl
-
-buffer-done : (buffer written : List ℕ) (x : Answer) → x ≡ Done → bufferedBy buffer written x ≡ sets buffer 0 written
-unfolding bufferedBy
-buffer-done buffer written x e = rw e refl
-
-track-number : (s : Sheet) (p : ℕ) → length (startTracks s p) ≡ startNumber s p
+pub track-number : (s : Sheet) (p : ℕ) → length (startTracks s p) ≡ startNumber s p
 unfolding startNumber startTracks listedTracks
 track-number s p = length-map (entries s (started s p)) (λ (e : Entry). e .track)
 
@@ -98,34 +87,30 @@ pub record Told (s : Sheet) (p n : ℕ) (words : List ℕ) : Type 0 where
   pub long : length words ≡ hostWords
   pub written : take n words ≡ startTracks s p
 
-taken : (ws ts : List ℕ) (n : ℕ) → length ts ≡ n → n ≤ length ws → take n (sets ws 0 ts) ≡ ts
-taken ws ts n e l = rw (← e, sets-eq ts ws 0 (omega arith)) (take-append-seam ts (drop (0 + length ts) ws))
-
 module _ (s : Sheet) (p : ℕ) (r : Listing) (words : List ℕ) (e : r ≡ startListed s p hostWords) (f : words ≡ startBuffered s p (replicate hostWords 0)) where
-  told-answer : r .answer ≡ startAnswer s p hostWords
+  answer-told : r .answer ≡ startAnswer s p hostWords
   unfolding startListed
-  told-answer = ap (λ (x : Listing). x .answer) e ∙ listed-answer (startNumber s p) (startAnswer s p hostWords)
+  answer-told = told-answer r (startNumber s p) (startAnswer s p hostWords) e
 
   pub told : r .answer ≡ Done → Told s p (r .entries) words
   unfolding startListed startBuffered
   told d =
-      let a : startAnswer s p hostWords ≡ Done = sym told-answer ∙ d in
-      let n : r .entries ≡ startNumber s p = ap (λ (x : Listing). x .entries) e ∙ listed-number (startNumber s p) (startAnswer s p hostWords) a in
-      let w : words ≡ sets (replicate hostWords 0) 0 (startTracks s p) = f ∙ buffer-done (replicate hostWords 0) (startTracks s p) (startAnswer s p hostWords) a in
+      let a : startAnswer s p hostWords ≡ Done = sym answer-told ∙ d in
+      let n : r .entries ≡ startNumber s p = told-number r (startNumber s p) (startAnswer s p hostWords) e a in
       let m : startNumber s p ≤ hostWords = done-most s p 0 a in
       record {
         answer = a;
         number = n;
         most = omega (arith, n, m);
-        long = ap length w ∙ length-sets (replicate hostWords 0) 0 (startTracks s p);
-        written = rw (w, n) (taken (replicate hostWords 0) (startTracks s p) (startNumber s p) (track-number s p) m);
+        long = told-length r (startNumber s p) (startAnswer s p hostWords) e words (replicate hostWords 0) (startTracks s p) f a;
+        written = told-tracks r (startNumber s p) (startAnswer s p hostWords) e words (replicate hostWords 0) (startTracks s p) f a (track-number s p) m;
       }
 
   -- a refusal is handed on
   pub told-refused : (q : Refusal) (buffer : List ℕ) → r .answer ≡ Refused q
       → (negated (refusalNumber q) ≡ hostListed s p (length buffer)) × (buffer ≡ hostBuffered s p buffer)
   unfolding hostListed hostBuffered answerCode bufferedBy
-  told-refused q buffer d = let a = refused-both s p (length buffer) q (sym told-answer ∙ d) in (rw a refl, rw a refl)
+  told-refused q buffer d = let a = refused-both s p (length buffer) q (sym answer-told ∙ d) in (rw a refl, rw a refl)
 
 module _ {s : Sheet} {p n : ℕ} {words : List ℕ} (t : Told s p n words) (buffer : List ℕ) where
   pub few-bytes : length buffer < 2 * n → (negated (refusalNumber TooFewWords) ≡ hostListed s p (length buffer)) × (buffer ≡ hostBuffered s p buffer)

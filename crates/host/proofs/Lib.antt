@@ -1,1 +1,2 @@
 mod HostLaws
+pub mod HostGuaranteed

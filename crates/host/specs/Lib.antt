@@ -1,2 +1,3 @@
 pub mod HostListing
+pub mod HostGuarantee
 pub mod steps

@@ -1,7 +1,8 @@
 mod ListedLaws
 mod RestLaws
 mod FillLaws
-mod StepLaws
+pub mod StepLaws
 mod AnswerLaws
 pub mod WrittenLaws
+pub mod TakenLaws
 mod StartedLaws

@@ -46,6 +46,10 @@ entries s st = concatBelow (λ o. cond (active st o) (objectEntries s o) []) sta
 unfoldable pub listedTracks : Sheet → State → List ℕ
 listedTracks s st = map (λ (e : Entry). e .track) (entries s st)
 
+-- as many words as a listing at level 1 or 2 needs
+abbrev pub enoughWords : ℕ
+enoughWords = 28
+
 -- "32. The listing buffer has too few words."
 unfoldable pub tooFewWords : Sheet → State → ℕ → Ground
 tooFewWords s st words = record { refusal = TooFewWords; holds = ltb words (length (entries s st)) }
