@@ -3,6 +3,7 @@
 // N is 0 to 65535, V is -32768 to 32767 tenths, or `silence` for a gain. Any other line is unknown.
 use text::lines::field;
 use text::lines::field_count;
+use text::lines::same;
 use text::numbers::GainValue;
 use text::numbers::Number;
 use text::numbers::Tenths;
@@ -10,19 +11,28 @@ use text::numbers::gain_value_of;
 use text::numbers::number_of;
 use text::numbers::tenths_of;
 use values::Gain;
+ghost use mathlib.Core.Path.{_≡_};
+ghost use Rattle.console.specs.Commands.{alone, commandOf, gainCommand, offsetCommand, withNumber, withValue};
 
-pub enum Command {
+// A call of the listener.
+pub enum Call {
     Programme(u16),
     Object(u16),
     Gain(u16, Gain),
     Offset(u16, i16),
+}
+
+pub enum Command {
+    Call(Call),
     List,
     State,
     Unknown,
 }
 
 // The command that a line says.
-pub fn command_of(line: &[u8]) -> Command {
+pub fn command_of(line: &[u8]) -> Command
+    ensures { λ r. ⌜ r ≡ commandOf (now (line .entry)) ⌝ }
+{
     let n = field_count(line);
     if n == 1 {
         return alone(field(line, 0));
@@ -37,54 +47,64 @@ pub fn command_of(line: &[u8]) -> Command {
 }
 
 // `list` and `state`.
-fn alone(name: &[u8]) -> Command {
-    if check::same(name, b"list") {
+fn alone(name: &[u8]) -> Command
+    ensures { λ r. ⌜ r ≡ alone (now (name .entry)) ⌝ }
+{
+    if same(name, b"list") {
         return Command::List;
     }
-    if check::same(name, b"state") {
+    if same(name, b"state") {
         return Command::State;
     }
     Command::Unknown
 }
 
 // `programme N` and `object N`.
-fn with_number(name: &[u8], n: Number) -> Command {
+fn with_number(name: &[u8], n: Number) -> Command
+    ensures { λ r. ⌜ r ≡ withNumber (now (name .entry)) n ⌝ }
+{
     let Number::Of(k) = n else {
         return Command::Unknown;
     };
-    if check::same(name, b"programme") {
-        return Command::Programme(k);
+    if same(name, b"programme") {
+        return Command::Call(Call::Programme(k));
     }
-    if check::same(name, b"object") {
-        return Command::Object(k);
+    if same(name, b"object") {
+        return Command::Call(Call::Object(k));
     }
     Command::Unknown
 }
 
 // `gain N V` and `offset N V`.
-fn with_value(name: &[u8], n: Number, value: &[u8]) -> Command {
+fn with_value(name: &[u8], n: Number, value: &[u8]) -> Command
+    ensures { λ r. ⌜ r ≡ withValue (now (name .entry)) n (now (value .entry)) ⌝ }
+{
     let Number::Of(k) = n else {
         return Command::Unknown;
     };
-    if check::same(name, b"gain") {
+    if same(name, b"gain") {
         return gain_command(k, gain_value_of(value));
     }
-    if check::same(name, b"offset") {
+    if same(name, b"offset") {
         return offset_command(k, tenths_of(value));
     }
     Command::Unknown
 }
 
-fn gain_command(k: u16, value: GainValue) -> Command {
+fn gain_command(k: u16, value: GainValue) -> Command
+    ensures { λ r. ⌜ r ≡ gainCommand k value ⌝ }
+{
     match value {
         GainValue::Nothing => Command::Unknown,
-        GainValue::Of(gain) => Command::Gain(k, gain),
+        GainValue::Of(gain) => Command::Call(Call::Gain(k, gain)),
     }
 }
 
-fn offset_command(k: u16, value: Tenths) -> Command {
+fn offset_command(k: u16, value: Tenths) -> Command
+    ensures { λ r. ⌜ r ≡ offsetCommand k value ⌝ }
+{
     match value {
         Tenths::Nothing => Command::Unknown,
-        Tenths::Of(offset) => Command::Offset(k, offset),
+        Tenths::Of(offset) => Command::Call(Call::Offset(k, offset)),
     }
 }

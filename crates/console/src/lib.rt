@@ -1,5 +1,4 @@
-// What the programs share over the listener and the checker: the commands of the listening bench, and the lines of answers.
+// What the programs share over the listener: the commands of the listening bench, its state and its answers.
 pub mod answers;
 pub mod bench;
 pub mod commands;
-pub mod writing;

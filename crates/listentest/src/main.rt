@@ -3,10 +3,10 @@
 mod scripts;
 mod steps;
 
-use console::answers::say;
 use libc::STDERR_FILENO;
 use libc::STDOUT_FILENO;
 use scripts::answer_script;
+use text::output::write_output;
 use text::reading::read_argument;
 use text::reading::write_argument;
 
@@ -23,9 +23,9 @@ fn run_script(sheet: &[u8], i: usize) {
         io::write_all(STDERR_FILENO, b": longer than 65536 bytes\n");
         return;
     }
-    say(b"script ");
+    write_output(b"script ");
     write_argument(STDOUT_FILENO, i);
-    say(b"\n");
+    write_output(b"\n");
     answer_script(sheet, &script[..n]);
 }
 

@@ -5,6 +5,7 @@ use console::commands::command_of;
 use listener::Setting;
 use text::lines::field;
 use text::lines::field_count;
+use text::lines::same;
 use text::numbers::GainValue;
 use text::numbers::Number;
 use text::numbers::Tenths;
@@ -24,16 +25,16 @@ pub enum Step {
 // The step that a line says.
 pub fn step_of(line: &[u8]) -> Step {
     let n = field_count(line);
-    if check::same(field(line, 0), b"put") {
+    if same(field(line, 0), b"put") {
         return put_step(line, n);
     }
     if n == 1 {
-        if check::same(field(line, 0), b"open") {
+        if same(field(line, 0), b"open") {
             return Step::Open;
         }
     }
     if n == 2 {
-        if check::same(field(line, 0), b"list") {
+        if same(field(line, 0), b"list") {
             return list_step(number_of(field(line, 1)));
         }
     }
@@ -49,14 +50,14 @@ fn list_step(n: Number) -> Step {
 }
 
 // `put programme N`, or `put object I active V W`.
-fn put_step(line: &[u8], n: u8) -> Step {
+fn put_step(line: &[u8], n: usize) -> Step {
     if n == 3 {
-        if check::same(field(line, 1), b"programme") {
+        if same(field(line, 1), b"programme") {
             return programme_step(number_of(field(line, 2)));
         }
     }
     if n == 6 {
-        if check::same(field(line, 1), b"object") {
+        if same(field(line, 1), b"object") {
             return object_step(line, number_of(field(line, 2)));
         }
     }
@@ -75,7 +76,7 @@ fn object_step(line: &[u8], n: Number) -> Step {
     let Number::Of(k) = n else {
         return Step::Bench(Command::Unknown);
     };
-    if check::same(field(line, 3), b"active") {
+    if same(field(line, 3), b"active") {
         return setting_step(
             k,
             true,
@@ -83,7 +84,7 @@ fn object_step(line: &[u8], n: Number) -> Step {
             tenths_of(field(line, 5)),
         );
     }
-    if check::same(field(line, 3), b"inactive") {
+    if same(field(line, 3), b"inactive") {
         return setting_step(
             k,
             false,

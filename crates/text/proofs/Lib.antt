@@ -1,1 +1,7 @@
+mod BoolLaws
 mod NumberLaws
+pub mod BytesLaws
+pub mod DecimalLaws
+mod FieldLaws
+mod LineLaws
+pub mod BufferLaws

@@ -1,7 +1,7 @@
 -- What the digits read so far say of a text's number. Assumes nothing.
 use Prim.Native.Nat.{ℕ, zero, suc, _+_, _*_, _-_, _≤_, _<_}
 use mathlib.Core.Path.{_≡_, refl, sym}
-use mathlib.Core.Bool.{Bool, true, false, false≢true, _&&_}
+use mathlib.Core.Bool.{true, false}
 use mathlib.Core.List.{List, [], _∷_}
 use native.Mathlib.Numerals.{add-one}
 use native.Mathlib.Omega.{arith}
@@ -12,22 +12,15 @@ use lib.ListN.{length, getD, take, drop, length-drop}
 use mir.Syntax.{w16}
 use mir.Val.{toZ}
 use lib.Seq.{drop-cons, drop-length, take-all}
+use Rattle.text.proofs.BoolLaws.{and-both, and-false}
 use Rattle.text.specs.declared.numbers.Number.the-variants.{Nothing, Of}
 use Rattle.text.specs.declared.numbers.Tenths.the-variants as tenths
 use Rattle.text.specs.Numbers.{isDigit, digits, value, numberOf, minus, positive, negative, tenthsOf}
 
-both : (a b : Bool) → (a && b) ≡ true → (a ≡ true) × (b ≡ true)
-both true b h = (refl, h)
-both false b h = absurd (false≢true h)
-
-and-false : (a : Bool) → (a && false) ≡ false
-and-false true = refl
-and-false false = refl
-
 -- a digit's range
 pub digit-range : (b : ℕ) → isDigit b ≡ true → (48 ≤ b) × (b ≤ 57)
 unfolding isDigit
-digit-range b h = let r = both (leb 48 b) (leb b 57) h in (leb-true 48 b (r .0), leb-true b 57 (r .1))
+digit-range b h = let r = and-both (leb 48 b) (leb b 57) h in (leb-true 48 b (r .0), leb-true b 57 (r .1))
 
 -- more digits make a number no smaller
 pub grows : (s : List ℕ) (n : ℕ) → n ≤ value n s

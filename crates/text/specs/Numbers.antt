@@ -9,6 +9,10 @@ use Rattle.text.specs.declared.numbers.Number.{Number}
 use Rattle.text.specs.declared.numbers.Number.the-variants.{Nothing, Of}
 use Rattle.text.specs.declared.numbers.Tenths.{Tenths}
 use Rattle.text.specs.declared.numbers.Tenths.the-variants as tenths
+use Rattle.text.specs.declared.numbers.GainValue.{GainValue}
+use Rattle.text.specs.declared.numbers.GainValue.the-variants as gains
+use Rattle.values.specs.declared.Gain.the-variants as gain
+use Rattle.text.specs.Bytes.{ascii, same}
 
 -- "0" to "9"
 unfoldable pub isDigit : ℕ → Bool
@@ -46,3 +50,12 @@ negative (Of n) = cond (leb n 32768) (tenths.Of (minus n)) tenths.Nothing
 -- 45 is the minus
 unfoldable pub tenthsOf : List ℕ → Tenths
 tenthsOf s = cond (eqb (getD s 0 0) 45) (negative (numberOf (drop 1 s))) (positive (numberOf s))
+
+-- the gain of a number of tenths; -32768 is that number, which is no legal gain, and not silence
+abbrev pub tenthsGain : Tenths → GainValue
+tenthsGain tenths.Nothing = gains.Nothing
+tenthsGain (tenths.Of z) = gains.Of (gain.Tenths z)
+
+-- `silence`, or a number of tenths
+unfoldable pub gainValueOf : List ℕ → GainValue
+gainValueOf s = cond (same s (ascii "silence")) (gains.Of gain.Silent) (tenthsGain (tenthsOf s))

@@ -1,4 +1,6 @@
-// What the programs read: files and arguments, lines and their fields, numbers.
+// What the programs read and write: files and arguments, lines and their fields, numbers, and texts in a lent buffer.
 pub mod lines;
 pub mod numbers;
+pub mod output;
 pub mod reading;
+pub mod writing;

@@ -1,4 +1,12 @@
 // Lines of text, and the fields of a line.
+use bytes::scan::find;
+ghost use Prim.Native.Nat.{_≤_};
+ghost use mathlib.Core.List.{[]};
+ghost use mathlib.Core.Path.{_≡_};
+ghost use lib.ListN.{length, getD};
+ghost use Rattle.text.specs.Bytes.{same};
+ghost use Rattle.text.specs.Lines.{fields, isBlank, lineEnd, part, said};
+ghost use Rattle.text.specs.steps.Runs.{isSuch, nextField, runEnd};
 
 // The longest line that can be a command, without its newline.
 const LONGEST: usize = 256;
@@ -6,41 +14,74 @@ const LONGEST: usize = 256;
 // The room that a line takes while it is read: one byte more, by which a longer line is known.
 pub const ROOM: usize = LONGEST + 1;
 
+// Whether two texts have the same bytes.
+pub fn same(a: &[u8], b: &[u8]) -> bool
+    ensures { λ r. ⌜ r ≡ same (now (a .entry)) (now (b .entry)) ⌝ }
+{
+    check::same(a, b)
+}
+
 // A part of a text; empty where the text has no such part.
-pub fn part(text: &[u8], start: usize, end: usize) -> &[u8] {
-    if start <= end {
-        if end <= text.len() {
-            return &text[start..end];
-        }
+pub fn part(text: &[u8], start: usize, end: usize) -> &[u8]
+    ensures { λ r. ⌜ now r ≡ part (now (text .entry)) start end ⌝ }
+{
+    if start > end {
+        return &text[..0];
     }
-    &text[..0]
+    if end > text.len() {
+        return &text[..0];
+    }
+    &text[start..end]
+}
+
+// Where the line that begins at a place of a text ends: before its newline, or at the text's end.
+pub fn line_end(text: &[u8], at: usize) -> usize
+    ensures { λ r. ⌜ (r ≡ lineEnd (now (text .entry)) at) × (at ≤ r) × (at ≤ length (now (text .entry)) → r ≤ length (now (text .entry))) ⌝ }
+{
+    if at >= text.len() {
+        return at;
+    }
+    find(text, at, text.len(), b'\n')
 }
 
 // What a line says: the line without a carriage return at its end. A line that is too long says nothing.
-pub fn said(line: &[u8]) -> &[u8] {
+pub fn said(line: &[u8]) -> &[u8]
+    ensures { λ r. ⌜ now r ≡ said (now (line .entry)) ⌝ }
+{
     let n = line.len();
-    if n == 0 {
-        return part(line, 0, 0);
-    }
     if n > LONGEST {
-        return part(line, 0, 0);
+        return &line[..0];
+    }
+    if n == 0 {
+        return line;
     }
     if line[n - 1] == b'\r' {
-        return part(line, 0, n - 1);
+        return &line[..n - 1];
     }
-    part(line, 0, n)
+    line
 }
 
 // Fields are separated by spaces and tabs.
-fn is_blank(b: u8) -> bool {
+fn is_blank(b: u8) -> bool
+    ensures { λ r. ⌜ r ≡ isBlank b ⌝ }
+{
     (b == b' ') | (b == b'\t')
 }
 
+// Whether a byte is blank, or is not, as asked.
+fn is_such(b: u8, blank: bool) -> bool
+    ensures { λ r. ⌜ r ≡ isSuch blank b ⌝ }
+{
+    if blank { is_blank(b) } else { !is_blank(b) }
+}
+
 // Where a run of blank bytes, or of others, that starts at `from` ends.
-fn run_end(line: &[u8], from: usize, blank: bool) -> usize {
+fn run_end(line: &[u8], from: usize, blank: bool) -> usize
+    ensures { λ r. ⌜ r ≡ runEnd (now (line .entry)) from blank ⌝ }
+{
     let mut i = from;
     while i < line.len() {
-        if is_blank(line[i]) != blank {
+        if !is_such(line[i], blank) {
             return i;
         }
         i += 1;
@@ -48,42 +89,35 @@ fn run_end(line: &[u8], from: usize, blank: bool) -> usize {
     i
 }
 
+// Where the field behind the one at a place starts.
+fn next_field(line: &[u8], at: usize) -> usize
+    ensures { λ r. ⌜ r ≡ nextField (now (line .entry)) at ⌝ }
+{
+    run_end(line, run_end(line, at, false), true)
+}
+
 // A field by its number, from 0; empty where the line has fewer.
-pub fn field(line: &[u8], k: u8) -> &[u8] {
+pub fn field(line: &[u8], k: u8) -> &[u8]
+    ensures { λ r. ⌜ now r ≡ getD (fields (now (line .entry))) k [] ⌝ }
+{
     let mut at = run_end(line, 0, true);
     let mut left = k;
     while left > 0 {
-        at = run_end(line, run_end(line, at, false), true);
+        at = next_field(line, at);
         left -= 1;
     }
-    let end = run_end(line, at, false);
-    part(line, at, end)
+    part(line, at, run_end(line, at, false))
 }
 
-// How many fields the line has: 7 stands for more than 6, which no command has.
-pub fn field_count(line: &[u8]) -> u8 {
-    let mut n: u8 = 0;
-    while n < 7 {
-        let f = field(line, n);
-        if f.len() == 0 {
-            return n;
-        }
+// How many fields the line has.
+pub fn field_count(line: &[u8]) -> usize
+    ensures { λ r. ⌜ r ≡ length (fields (now (line .entry))) ⌝ }
+{
+    let mut at = run_end(line, 0, true);
+    let mut n: usize = 0;
+    while at < line.len() {
+        at = next_field(line, at);
         n += 1;
-    }
-    n
-}
-
-// Writes more bytes behind the first `count` of a line, as many as it has room for, and gives the new count.
-pub fn extend(line: &mut [u8; ROOM], count: usize, more: &[u8]) -> usize {
-    let mut n = count;
-    let mut i = 0;
-    while i < more.len() {
-        if n >= ROOM {
-            return n;
-        }
-        line[n] = more[i];
-        n += 1;
-        i += 1;
     }
     n
 }

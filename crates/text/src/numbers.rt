@@ -1,7 +1,8 @@
 // Decimal numbers: digits, leading zeros among them, with a minus before them where the number may be negative.
+use crate::lines::same;
 use values::Gain;
 ghost use mathlib.Core.Path.{_≡_};
-ghost use Rattle.text.specs.Numbers.{isDigit, numberOf, negative, positive, tenthsOf};
+ghost use Rattle.text.specs.Numbers.{gainValueOf, isDigit, numberOf, negative, positive, tenthsGain, tenthsOf};
 
 // What a field is read as: nothing, where it is no such number.
 pub enum Number {
@@ -96,13 +97,22 @@ pub fn tenths_of(text: &[u8]) -> Tenths
     }
 }
 
-// A gain: `silence`, or a number of tenths. -32768 is that number, which is no legal gain, and not silence.
-pub fn gain_value_of(text: &[u8]) -> GainValue {
-    if check::same(text, b"silence") {
-        return GainValue::Of(Gain::Silent);
-    }
-    match tenths_of(text) {
+// The gain of a number of tenths. -32768 is that number, which is no legal gain, and not silence.
+fn tenths_gain(value: Tenths) -> GainValue
+    ensures { λ r. ⌜ r ≡ tenthsGain value ⌝ }
+{
+    match value {
         Tenths::Nothing => GainValue::Nothing,
         Tenths::Of(z) => GainValue::Of(Gain::Tenths(z)),
     }
+}
+
+// A gain: `silence`, or a number of tenths.
+pub fn gain_value_of(text: &[u8]) -> GainValue
+    ensures { λ r. ⌜ r ≡ gainValueOf (now (text .entry)) ⌝ }
+{
+    if same(text, b"silence") {
+        return GainValue::Of(Gain::Silent);
+    }
+    tenths_gain(tenths_of(text))
 }

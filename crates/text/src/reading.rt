@@ -1,4 +1,5 @@
 // Reading a whole input, with an error told from the end, and the files that arguments name.
+use crate::lines::same;
 ghost use Rattle.io.specs.Counts.{Counts};
 
 // What reading gave: so many bytes at the start of the buffer, and whether it stopped there because a read failed.
@@ -56,6 +57,13 @@ pub fn read_argument(i: usize, buffer: &mut [u8]) -> Input
     }
     libc::close(fd);
     input
+}
+
+// Whether an argument is this word.
+pub fn argument_is(i: usize, word: &[u8]) -> bool {
+    let mut name = io::buffer();
+    let n = os::arg(i, &mut name);
+    same(&name[..n], word)
 }
 
 // Writes an argument as it was given.

@@ -1,45 +1,34 @@
 -- Each turn passes a newline, or comes to the script's end. Assumes nothing.
 use Prim.Native.Nat.{_-_}
 use lib.ListN.{length}
+use native.Mathlib.Omega.{arith}
 use borrow.Author.Needs.{needs}
 use Rattle.listentest.proofs.scripts.answer_script.Statement.{statement}
 use Rattle.listentest.proofs.scripts.answer_script.Tie as tie
 
 abbrev Inv-loop : tie.InvT-loop
-Inv-loop sheet script state₀ at₀ state at = Unit {0}
+Inv-loop sheet script answer₀ state₀ at₀ answer state at = Unit {0}
 
 abbrev μ-loop : tie.MeasureT-loop
-μ-loop sheet script state₀ at₀ state at = length script - at
+μ-loop sheet script answer₀ state₀ at₀ answer state at = length script - at
 
-opened-requires : tie.Need-opened-requires Inv-loop μ-loop
-opened-requires c κs = search needs
+begin-requires : tie.Need-begin-requires Inv-loop μ-loop
+begin-requires c κs = search needs
 
 loop-holds : tie.Need-loop-holds Inv-loop μ-loop
 loop-holds c = search needs
 
-find-requires : tie.Need-find-requires Inv-loop μ-loop
-find-requires c κs = search needs
+line-end-requires : tie.Need-line-end-requires Inv-loop μ-loop
+line-end-requires c κs = search needs
 
-sub-said : tie.Need-sub-said Inv-loop μ-loop
-sub-said c = search needs
+part-requires : tie.Need-part-requires Inv-loop μ-loop
+part-requires c κs = search needs
 
-part-said-start : tie.Need-part-said-start Inv-loop μ-loop
-part-said-start c = search needs
-
-part-said-end : tie.Need-part-said-end Inv-loop μ-loop
-part-said-end c = search needs
-
-said-requires : tie.Need-said-requires Inv-loop μ-loop
-said-requires c κs = search needs
-
-step-of-requires : tie.Need-step-of-requires Inv-loop μ-loop
-step-of-requires c κs = search needs
-
-take-requires : tie.Need-take-requires Inv-loop μ-loop
-take-requires c κs = search needs
+answer-line-requires : tie.Need-answer-line-requires Inv-loop μ-loop
+answer-line-requires c κs = search needs
 
 add-at : tie.Need-add-at Inv-loop μ-loop
-add-at c = search needs
+add-at c = omega (arith, c .before .before .before .line-end .ensures .2 (omega arith))
 
 loop-less : tie.Need-loop-less Inv-loop μ-loop
 loop-less c = search needs
@@ -56,15 +45,11 @@ answer-script-spec =
     (tie.spec
     Inv-loop
     μ-loop
-    opened-requires
+    begin-requires
     loop-holds
-    find-requires
-    sub-said
-    part-said-start
-    part-said-end
-    said-requires
-    step-of-requires
-    take-requires
+    line-end-requires
+    part-requires
+    answer-line-requires
     add-at
     loop-less
     loop-again

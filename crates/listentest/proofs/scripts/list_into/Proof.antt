@@ -14,11 +14,20 @@ slice-aggregate-list-words c = sym (length-take-le _ _ (c .before .if1 .taken))
 list-words-requires : tie.Need-list-words-requires
 list-words-requires c κs = search needs
 
-say-unknown-requires : tie.Need-say-unknown-requires
-say-unknown-requires c κs = search needs
+slice-aggregate-put-text : tie.Need-slice-aggregate-put-text
+slice-aggregate-put-text c = search needs
+
+put-text-requires : tie.Need-put-text-requires
+put-text-requires c κs = search needs
+
+same-length : tie.Need-same-length
+same-length c = search needs
 
 returns : tie.Need-returns
 returns c = search needs
+
+same-length-2 : tie.Need-same-length-2
+same-length-2 c = search needs
 
 returns-2 : tie.Need-returns-2
 returns-2 c = search needs
@@ -30,6 +39,9 @@ list-into-spec =
     slice-aggregate-words
     slice-aggregate-list-words
     list-words-requires
-    say-unknown-requires
+    slice-aggregate-put-text
+    put-text-requires
+    same-length
     returns
+    same-length-2
     returns-2)

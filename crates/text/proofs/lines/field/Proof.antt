@@ -1,10 +1,19 @@
 -- A turn for each field before the one that is asked for. Assumes nothing.
+use Prim.Native.Nat.{_-_, _≤_}
+use mathlib.Core.Bool.{false}
+use mathlib.Core.Path.{_≡_, ap, _∙_}
+use native.Mathlib.Omega.{arith}
+use lib.ListN.{length, drop}
 use borrow.Author.Needs.{needs}
+use Rattle.text.specs.Lines.{fields}
+use Rattle.text.specs.steps.Runs.{beginsBlank}
+use Rattle.text.proofs.FieldLaws as laws
 use Rattle.text.proofs.lines.field.Statement.{statement}
 use Rattle.text.proofs.lines.field.Tie as tie
 
 abbrev Inv-loop : tie.InvT-loop
-Inv-loop line k at₀ left₀ at left = Unit {0}
+Inv-loop line k at₀ left₀ at left =
+    (at ≤ length line) × (left ≤ k) × (beginsBlank (drop at line) ≡ false) × (fields (drop at line) ≡ drop (k - left) (fields line))
 
 abbrev μ-loop : tie.MeasureT-loop
 μ-loop line k at₀ left₀ at left = left
@@ -13,13 +22,14 @@ run-end-requires : tie.Need-run-end-requires Inv-loop μ-loop
 run-end-requires c κs = search needs
 
 loop-holds : tie.Need-loop-holds Inv-loop μ-loop
-loop-holds c = search needs
+loop-holds c =
+    let k = c .before .before .args .k in
+    let e : k - k ≡ 0 = omega arith in
+    let at = laws.started _ _ (c .run-end .ensures) in
+    (at .0, omega arith, at .1, rw e (at .2))
 
-run-end-requires-2 : tie.Need-run-end-requires-2 Inv-loop μ-loop
-run-end-requires-2 c κs = search needs
-
-run-end-requires-3 : tie.Need-run-end-requires-3 Inv-loop μ-loop
-run-end-requires-3 c κs = search needs
+next-field-requires : tie.Need-next-field-requires Inv-loop μ-loop
+next-field-requires c κs = search needs
 
 sub-left : tie.Need-sub-left Inv-loop μ-loop
 sub-left c = search needs
@@ -28,16 +38,24 @@ loop-less : tie.Need-loop-less Inv-loop μ-loop
 loop-less c = search needs
 
 loop-again : tie.Need-loop-again Inv-loop μ-loop
-loop-again c = search needs
+loop-again c =
+    let inv = c .before .before .loop .inv in
+    let left = c .before .loop-test .taken in
+    let next = laws.stepped _ _ _ (c .next-field .ensures) (inv .2) (inv .0) in
+    (next .0, omega arith, next .1, next .2 ∙ ap (drop 1) (inv .3) ∙ laws.fallen _ _ _ left (inv .1))
 
-run-end-requires-4 : tie.Need-run-end-requires-4 Inv-loop μ-loop
-run-end-requires-4 c κs = search needs
+run-end-requires-2 : tie.Need-run-end-requires-2 Inv-loop μ-loop
+run-end-requires-2 c κs = search needs
 
 part-requires : tie.Need-part-requires Inv-loop μ-loop
 part-requires c κs = search needs
 
 returns : tie.Need-returns Inv-loop μ-loop
-returns c = search needs
+returns c =
+    let inv = c .before .before .before .loop .inv in
+    let k = c .before .before .before .before .before .before .args .k in
+    let e : k - c .before .before .before .loop .left ≡ k = omega arith in
+    c .part .ensures ∙ laws.field-at _ _ _ _ (inv .0) (inv .2) (rw e at (inv .3)) (c .before .run-end2 .ensures)
 
 pub field-spec : {M : Type 1} → statement M
 field-spec =
@@ -47,11 +65,10 @@ field-spec =
     μ-loop
     run-end-requires
     loop-holds
-    run-end-requires-2
-    run-end-requires-3
+    next-field-requires
     sub-left
     loop-less
     loop-again
-    run-end-requires-4
+    run-end-requires-2
     part-requires
     returns)

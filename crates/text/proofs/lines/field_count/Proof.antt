@@ -1,35 +1,54 @@
--- A turn for each field, 7 at most. Assumes nothing.
-use Prim.Native.Nat.{_-_}
+-- A field for each turn. Assumes nothing.
+use Prim.Native.Nat.{_+_, _-_, _≤_}
+use mathlib.Core.Bool.{false}
+use mathlib.Core.Path.{_≡_}
+use native.Mathlib.Omega.{arith}
+use lib.ListN.{length, drop}
 use borrow.Author.Needs.{needs}
+use Rattle.text.specs.Lines.{fields}
+use Rattle.text.specs.steps.Runs.{beginsBlank}
+use Rattle.text.proofs.FieldLaws as laws
 use Rattle.text.proofs.lines.field_count.Statement.{statement}
 use Rattle.text.proofs.lines.field_count.Tie as tie
 
 abbrev Inv-loop : tie.InvT-loop
-Inv-loop line n₀ n = Unit {0}
+Inv-loop line at₀ n₀ at n =
+    (at ≤ length line) × (n ≤ at) × (beginsBlank (drop at line) ≡ false) × (n + length (fields (drop at line)) ≡ length (fields line))
 
 abbrev μ-loop : tie.MeasureT-loop
-μ-loop line n₀ n = 7 - n
+μ-loop line at₀ n₀ at n = length line - at
+
+run-end-requires : tie.Need-run-end-requires Inv-loop μ-loop
+run-end-requires c κs = search needs
 
 loop-holds : tie.Need-loop-holds Inv-loop μ-loop
-loop-holds c = search needs
+loop-holds c =
+    let at = laws.started _ _ (c .run-end .ensures) in
+    (at .0, omega arith, at .1, rw (at .2) (omega arith))
 
-field-requires : tie.Need-field-requires Inv-loop μ-loop
-field-requires c κs = search needs
-
-returns : tie.Need-returns Inv-loop μ-loop
-returns c = search needs
+next-field-requires : tie.Need-next-field-requires Inv-loop μ-loop
+next-field-requires c κs = search needs
 
 add-n : tie.Need-add-n Inv-loop μ-loop
 add-n c = search needs
 
 loop-less : tie.Need-loop-less Inv-loop μ-loop
-loop-less c = search needs
+loop-less c =
+    let inv = c .before .before .loop .inv in
+    let h = c .before .loop-test .taken in
+    let next = laws.counted-one _ _ _ (c .next-field .ensures) (inv .2) h in
+    omega arith
 
 loop-again : tie.Need-loop-again Inv-loop μ-loop
-loop-again c = search needs
+loop-again c =
+    let inv = c .before .before .loop .inv in
+    let h = c .before .loop-test .taken in
+    let next = laws.stepped _ _ _ (c .next-field .ensures) (inv .2) (inv .0) in
+    let more = laws.counted-one _ _ _ (c .next-field .ensures) (inv .2) h in
+    (next .0, omega arith, next .1, omega arith)
 
-returns-2 : tie.Need-returns-2 Inv-loop μ-loop
-returns-2 c = search needs
+returns : tie.Need-returns Inv-loop μ-loop
+returns c = laws.none-left _ _ _ _ (c .loop-test .left) (c .before .loop .inv .3)
 
 pub field-count-spec : {M : Type 1} → statement M
 field-count-spec =
@@ -37,10 +56,10 @@ field-count-spec =
     (tie.spec
     Inv-loop
     μ-loop
+    run-end-requires
     loop-holds
-    field-requires
-    returns
+    next-field-requires
     add-n
     loop-less
     loop-again
-    returns-2)
+    returns)

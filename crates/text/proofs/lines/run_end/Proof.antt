@@ -1,12 +1,16 @@
--- The loop passes bytes up to the line's end. Assumes nothing.
+-- The run goes on from where the loop stands as it did from its start. Assumes nothing.
 use Prim.Native.Nat.{_-_}
+use mathlib.Core.Path.{_≡_, sym, _∙_}
 use lib.ListN.{length}
 use borrow.Author.Needs.{needs}
+use borrow.Author.Tests.{not-true, not-false}
+use Rattle.text.specs.steps.Runs.{runEnd}
+use Rattle.text.proofs.FieldLaws as laws
 use Rattle.text.proofs.lines.run_end.Statement.{statement}
 use Rattle.text.proofs.lines.run_end.Tie as tie
 
 abbrev Inv-loop : tie.InvT-loop
-Inv-loop line from blank i₀ i = Unit {0}
+Inv-loop line from blank i₀ i = runEnd line i blank ≡ runEnd line from blank
 
 abbrev μ-loop : tie.MeasureT-loop
 μ-loop line from blank i₀ i = length line - i
@@ -14,14 +18,14 @@ abbrev μ-loop : tie.MeasureT-loop
 loop-holds : tie.Need-loop-holds Inv-loop μ-loop
 loop-holds c = search needs
 
-shared-slice-read-is-blank : tie.Need-shared-slice-read-is-blank Inv-loop μ-loop
-shared-slice-read-is-blank c = search needs
+shared-slice-read-is-such : tie.Need-shared-slice-read-is-such Inv-loop μ-loop
+shared-slice-read-is-such c = search needs
 
-is-blank-requires : tie.Need-is-blank-requires Inv-loop μ-loop
-is-blank-requires c κs = search needs
+is-such-requires : tie.Need-is-such-requires Inv-loop μ-loop
+is-such-requires c κs = search needs
 
 returns : tie.Need-returns Inv-loop μ-loop
-returns c = search needs
+returns c = laws.stopped _ _ _ (c .before .before .before .loop-test .taken) (sym (c .before .is-such .ensures) ∙ not-true _ (c .if1 .taken)) ∙ c .before .before .before .before .loop .inv
 
 add-i : tie.Need-add-i Inv-loop μ-loop
 add-i c = search needs
@@ -30,10 +34,10 @@ loop-less : tie.Need-loop-less Inv-loop μ-loop
 loop-less c = search needs
 
 loop-again : tie.Need-loop-again Inv-loop μ-loop
-loop-again c = search needs
+loop-again c = laws.passed _ _ _ (c .before .before .before .loop-test .taken) (sym (c .before .is-such .ensures) ∙ not-false _ (c .if1 .left)) ∙ c .before .before .before .before .loop .inv
 
 returns-2 : tie.Need-returns-2 Inv-loop μ-loop
-returns-2 c = search needs
+returns-2 c = laws.at-end _ _ _ (c .loop-test .left) ∙ c .before .loop .inv
 
 pub run-end-spec : {M : Type 1} → statement M
 run-end-spec =
@@ -42,8 +46,8 @@ run-end-spec =
     Inv-loop
     μ-loop
     loop-holds
-    shared-slice-read-is-blank
-    is-blank-requires
+    shared-slice-read-is-such
+    is-such-requires
     returns
     add-i
     loop-less

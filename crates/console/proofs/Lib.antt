@@ -1,0 +1,5 @@
+mod CommandLaws
+mod AnswerLaws
+mod PutLaws
+mod ListingLaws
+pub mod BenchGuaranteed

@@ -1,0 +1,4 @@
+pub mod Commands
+pub mod Answers
+pub mod Bench
+pub mod LineCases
