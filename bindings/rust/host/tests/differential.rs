@@ -4,13 +4,17 @@
 //! It prints how many sheets met each rule. It fails at the first sheet on which the verdicts
 //! differ, which is kept as a file, or if a rule or acceptance was never met.
 
+#[path = "shared/verdicts.rs"]
+mod verdicts;
+
+use std::fs;
 use std::path::Path;
 use std::process::ExitCode;
-use std::{fmt, fs};
 
 use sheet::generate::crowded::CrowdedSheets;
 use sheet::generate::{fixed_sheets, hostile, Generated, RandomSheets};
 use sheet::second;
+use verdicts::Verdicts;
 
 const SEEDS: [u64; 3] = [2168, 2076, 65_534];
 const SHEETS_OF_A_SEED: usize = 100_000;
@@ -19,19 +23,20 @@ const CROWDED_SHEETS: usize = 20_000;
 const SMALL_SIZES: [usize; 2] = [512, 1024];
 
 fn main() -> ExitCode {
-    let mut counts = Counts::default();
+    let mut met = Verdicts::default();
     for generated in all_sheets() {
         let verdict = second::check(&generated.sheet);
-        counts.add(verdict);
+        met.add(verdict);
         if let Some(difference) = difference(&generated, verdict) {
             println!("{difference}\n    kept as {}", keep(&generated.sheet));
             return ExitCode::FAILURE;
         }
     }
-    println!("{counts}");
-    match counts.all_met() {
-        true => ExitCode::SUCCESS,
-        false => ExitCode::FAILURE,
+    let (sheets, never_met) = (met.sheets(), met.never_met());
+    println!("{met}\ndifferential test: {sheets} sheets, no difference, {never_met} never met");
+    match never_met {
+        0 => ExitCode::SUCCESS,
+        _ => ExitCode::FAILURE,
     }
 }
 
@@ -67,35 +72,4 @@ fn keep(sheet: &[u8]) -> String {
     let file = Path::new(env!("CARGO_TARGET_TMPDIR")).join("difference.sheet");
     fs::write(&file, sheet).expect("the sheet can be written");
     file.display().to_string()
-}
-
-/// How many sheets met acceptance, at 0, and each rule, at its number.
-#[derive(Default)]
-struct Counts([usize; 25]);
-
-impl Counts {
-    fn add(&mut self, verdict: second::Verdict) {
-        let met = match verdict {
-            second::Verdict::Accepted => 0,
-            second::Verdict::Broken { rule, .. } => usize::from(rule),
-        };
-        self.0[met] += 1;
-    }
-
-    fn all_met(&self) -> bool {
-        !self.0.contains(&0)
-    }
-}
-
-impl fmt::Display for Counts {
-    fn fmt(&self, formatter: &mut fmt::Formatter) -> fmt::Result {
-        let [accepted, rules @ ..] = self.0;
-        writeln!(formatter, "accepted {accepted:7}")?;
-        for (rule, count) in (1..).zip(rules) {
-            writeln!(formatter, "rule {rule:2}  {count:7}")?;
-        }
-        let sheets: usize = self.0.iter().sum();
-        let unmet = self.0.iter().filter(|&&count| count == 0).count();
-        write!(formatter, "differential test: {sheets} sheets, no difference, {unmet} never met")
-    }
 }

@@ -18,6 +18,8 @@
 //! N is 0 to 65535, V and W are -32768 to 32767, and a gain may be `silence`. Words stand between
 //! spaces and tabs. A carriage return at the end of a line is no part of it, and a line of over 256
 //! bytes has no meaning.
+//!
+//! The bench `listen` speaks a part of it: `open`, `list N` and `put` have no meaning there.
 
 mod answers;
 mod line;
@@ -27,7 +29,7 @@ mod player;
 pub use answers::{read_answers, Said};
 pub use line::Line;
 pub use met::Met;
-pub use player::{answers, lines, Player};
+pub use player::{answers, bench_answers, lines, Player};
 
 /// The gain of silence, in scripts and answers.
 const SILENCE: &str = "silence";

@@ -9,7 +9,11 @@
 //!
 //! The host's listing of a programme's start is compared on the same sheets.
 
+#[path = "../shared/built.rs"]
+mod built;
 mod counts;
+#[path = "../shared/difference.rs"]
+mod difference;
 mod program;
 mod starts;
 
@@ -18,6 +22,7 @@ use std::path::Path;
 use std::process::ExitCode;
 
 use counts::Counts;
+use difference::first_difference;
 use sheet::build::Plan;
 use sheet::demand_3::Demand;
 use sheet::generate::calls::Call;
@@ -71,18 +76,6 @@ fn compare(script: &Script, proved: &str) -> Result<Vec<Said>, String> {
         check_demand(plan, &script.lines, &said)?;
     }
     Ok(said)
-}
-
-fn first_difference(second: &str, proved: &str) -> Option<String> {
-    let (mut second, mut proved) = (second.lines(), proved.lines());
-    (1..).find_map(|number| match (second.next(), proved.next()) {
-        (None, None) => Some(None),
-        (second, proved) if second == proved => None,
-        (second, proved) => {
-            let [second, proved] = [second, proved].map(|line| line.unwrap_or("nothing"));
-            Some(Some(format!("line {number} of the answers: proved {proved}, second {second}")))
-        }
-    })?
 }
 
 /// Demand 3 after the opening and after every call, on what the proved listener said.

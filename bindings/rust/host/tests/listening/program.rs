@@ -6,15 +6,11 @@ use std::{fs, io};
 
 use sheet::generate::scripts::Script;
 
-/// Where `rt check listentest` writes it, from this package's folder.
-const PROGRAM: &str = "../../../target/bin/listentest";
+use crate::built;
 
 /// The answers to each script, from one run of the program.
 pub fn play(scripts: &[Script]) -> Result<Vec<String>, String> {
-    let program = Path::new(env!("CARGO_MANIFEST_DIR")).join(PROGRAM);
-    if !program.is_file() {
-        return Err(format!("{} is missing: run `rt check listentest`", program.display()));
-    }
+    let program = built::program("listentest")?;
     let said = run(&program, scripts).map_err(|error| format!("{}: {error}", program.display()))?;
     Ok(split(&said, scripts.len()))
 }

@@ -56,6 +56,11 @@ impl Line {
         })
     }
 
+    /// Whether the bench `listen` knows the line; the others are for tests.
+    pub fn is_of_bench(&self) -> bool {
+        matches!(self, Line::Call(_) | Line::List | Line::State)
+    }
+
     /// The lines that put one state in another's place.
     pub fn puts(from: &State, to: &State) -> Vec<Line> {
         let programme = (from.programme != to.programme)

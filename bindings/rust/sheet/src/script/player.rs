@@ -77,10 +77,20 @@ pub fn lines(script: &str) -> impl Iterator<Item = &str> {
 
 /// All answers to a script, each with its line end: the opening's, then one for each line.
 pub fn answers(sheet: &[u8], script: &str) -> String {
+    answers_to(sheet, script, Line::read)
+}
+
+/// All answers of the bench `listen`, to which the lines for tests have no meaning.
+pub fn bench_answers(sheet: &[u8], script: &str) -> String {
+    answers_to(sheet, script, |text| Line::read(text).filter(Line::is_of_bench))
+}
+
+/// All answers to a script whose lines are read so.
+fn answers_to(sheet: &[u8], script: &str, read: impl Fn(&str) -> Option<Line>) -> String {
     let (mut player, opening) = Player::open(sheet);
     let mut answers = opening + "\n";
     for text in lines(script) {
-        let answer = Line::read(text).map(|line| player.answer(&line));
+        let answer = read(text).map(|line| player.answer(&line));
         answers += &answer.unwrap_or_else(|| "?".to_string());
         answers.push('\n');
     }

@@ -5,7 +5,7 @@ use sheet::build::Plan;
 use sheet::generate::calls::Call;
 use sheet::generate::scripts::RandomScripts;
 use sheet::generate::stored_scripts::sheets::mixed;
-use sheet::script::{answers, read_answers, Line, Met, Said};
+use sheet::script::{answers, bench_answers, read_answers, Line, Met, Said};
 use sheet::second::listener::{ObjectState, State};
 use sheet::second::values::Gain;
 
@@ -100,6 +100,15 @@ fn the_last_line_may_lack_its_end() {
     }
     assert_eq!(answers(&sheet, ""), "done\n");
     assert_eq!(answers(&sheet, "\n"), "done\n?\n");
+}
+
+#[test]
+fn lines_for_tests_have_no_meaning_at_the_bench() {
+    let script = "open\nlist 3\nput programme 1\nput object 0 inactive 10 0\nlist\n\
+                  programme 1\ngain 3 silence\nopen\nstate\n";
+    let expected = "done\n?\n?\n?\n?\ntracks 0 2 1\ndone\ndone\n?\nprogramme 1\n\
+                    object 2 active gain 20 offset 0\nobject 3 active gain silence offset 0\n";
+    assert_eq!(bench_answers(&mixed().bytes(), script), expected);
 }
 
 #[test]
