@@ -8,7 +8,7 @@ check:
 ctest:
 	bindings/c/run-test
 
-# the host calls from Rust, and the proved checker and listener against the second ones
+# the host calls from Rust, and the proved checker and listener and the programs against the second ones
 rusttest:
 	bindings/rust/run-test
 
