@@ -6,8 +6,8 @@ use text::reading::read_input;
 use verdicts::VERDICT_ROOM;
 use verdicts::verdict_line;
 
-// The buffer is longer than any sheet, so an input that fills it breaks rule 1, whatever follows. An argument, or a read that fails,
-// gives no verdict: standard error says why.
+// The buffer is longer than any sheet, so an input that fills it breaks rule 1, whatever follows (`cut-input`,
+// crates/verdicts/proofs/LongInput.antt). An argument, or a read that fails, gives no verdict: standard error says why.
 fn main() {
     if os::arg_count() > 1 {
         io::write_all(STDERR_FILENO, b"usage: sheetcheck <FILE\n");

@@ -1,1 +1,2 @@
 mod LengthLaws
+pub mod LongInput
