@@ -14,7 +14,7 @@ use Rattle.listener.specs.declared.Answer.the-variants.{Done, Refused}
 use Rattle.listener.specs.State.{stateObjects, setting, isResting, refusalNumber}
 use Rattle.listener.specs.Listing.{listedTracks, enoughWords, listingAnswer}
 use Rattle.text.specs.Bytes.{ascii, join}
-use Rattle.text.specs.Decimal.{decimal, signed}
+use Rattle.text.specs.Decimal.{decimal, signedDecimal}
 
 -- `done`, or as in `refused 28`
 unfoldable pub answerLine : Answer → List ℕ
@@ -40,13 +40,13 @@ activityText active = cond active (ascii " active") (ascii " inactive")
 
 unfoldable pub gainText : Gain → List ℕ
 gainText Silent = ascii "silence"
-gainText (Tenths z) = signed z
+gainText (Tenths z) = signedDecimal z
 
 unfoldable pub nameText : ℕ → Bool → List ℕ
 nameText o active = join (ascii "object " ∷ decimal o ∷ activityText active ∷ [])
 
 unfoldable pub valuesText : Gain → ℤ → List ℕ
-valuesText gain offset = join (ascii " gain " ∷ gainText gain ∷ ascii " offset " ∷ signed offset ∷ ascii "\n" ∷ [])
+valuesText gain offset = join (ascii " gain " ∷ gainText gain ∷ ascii " offset " ∷ signedDecimal offset ∷ ascii "\n" ∷ [])
 
 -- as in `object 3 active gain -60 offset 0`
 unfoldable pub settingLine : ℕ → Setting → List ℕ

@@ -13,7 +13,7 @@ use Rattle.listener.specs.declared.Answer.the-variants.{Done, Refused}
 use Rattle.listener.specs.declared.Refusal.the-variants.{NotIncluded}
 use Rattle.listener.specs.State.{stateObjects, resting, setting, isResting}
 use Rattle.text.specs.Bytes.{ascii, same, join}
-use Rattle.text.specs.Decimal.{spelled, decimal, signed}
+use Rattle.text.specs.Decimal.{spelled, decimal, signedDecimal}
 use Rattle.text.specs.Numbers.{isDigit, digits, value, numberOf, positive, negative, tenthsOf, gainValueOf}
 use Rattle.text.specs.Lines.{withoutReturn, said, isBlank, fieldsFrom, fields}
 use Rattle.console.specs.declared.commands.Call.the-variants.{Programme, Object, Gain, Offset}
@@ -35,7 +35,7 @@ pub state-lines :
           (record { active = false; gain = Silent; offset = negsuc 0 });
     })
     ≡ ascii "programme 9\nobject 3 active gain -60 offset 0\nobject 83 inactive gain silence offset -1\n"
-unfolding stateLines objectLines objectLine settingLine nameText valuesText activityText gainText join decimal spelled signed concatBelow setting isResting sameGain sameOffset atMost
+unfolding stateLines objectLines objectLine settingLine nameText valuesText activityText gainText join decimal spelled signedDecimal concatBelow setting isResting sameGain sameOffset atMost
 state-lines = refl
 
 pub commands-said :

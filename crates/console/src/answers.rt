@@ -101,7 +101,7 @@ fn put_values(buffer: &mut [u8], count: usize, gain: Gain, offset: i16) -> usize
 }
 
 // As in `object 3 active gain -60 offset 0`; an object at rest has no line.
-fn put_object(buffer: &mut [u8], count: usize, o: u16, x: Setting) -> usize
+fn put_setting(buffer: &mut [u8], count: usize, o: u16, x: Setting) -> usize
     ensures { λ r. ⌜ written (now (buffer .exit)) r ≡ putText (written (now (buffer .entry)) count) (objectLine o x) ⌝ }
 {
     if is_resting(x) {
@@ -120,7 +120,7 @@ fn put_objects(buffer: &mut [u8], count: usize, state: State) -> usize
     let mut o: u16 = 0;
     while o < STATE_END {
         let x = state.objects[o as usize];
-        n = put_object(buffer, n, o, x);
+        n = put_setting(buffer, n, o, x);
         o += 1;
     }
     n

@@ -18,7 +18,7 @@ ghost use Rattle.console.specs.Bench.{answerTo, callOf, answeredPart, st
 ghost use Rattle.guarantee.specs.Run.{reply};
 ghost use Rattle.listener.specs.Calls.{opened};
 ghost use Rattle.sheet.specs.Words.{sheetOf};
-ghost use Rattle.text.specs.Buffer.{Filled, buffer as written};
+ghost use Rattle.text.specs.Buffer.{TextFilled, buffer as written};
 
 // More room than any answer takes: a state's has a line for each of its 84 objects.
 pub const ANSWER_ROOM: usize = 8192;
@@ -32,7 +32,7 @@ pub struct Answered {
 // Opens the sheet.
 pub fn opened(sheet: &[u8], answer: &mut [u8; ANSWER_ROOM]) -> Answered
     ensures { λ r. ⌜ r .state ≡ opened (sheetOf (now (sheet .entry))) .state ⌝ }
-    ensures { λ r. ⌜ Filled (now (answer .entry)) (answerLine (opened (sheetOf (now (sheet .entry))) .answer)) (r .count) (now (answer .exit)) ⌝ }
+    ensures { λ r. ⌜ TextFilled (now (answer .entry)) (answerLine (opened (sheetOf (now (sheet .entry))) .answer)) (r .count) (now (answer .exit)) ⌝ }
 {
     let opening = open(sheet);
     let told = opening.answer;
@@ -61,7 +61,7 @@ pub fn obey(
     answer: &mut [u8; ANSWER_ROOM],
 ) -> Answered
     ensures { λ r. ⌜ r .state ≡ stateAfter (sheetOf (now (sheet .entry))) state command ⌝ }
-    ensures { λ r. ⌜ Filled (now (answer .entry)) (answerTo (sheetOf (now (sheet .entry))) state command) (r .count) (now (answer .exit)) ⌝ }
+    ensures { λ r. ⌜ TextFilled (now (answer .entry)) (answerTo (sheetOf (now (sheet .entry))) state command) (r .count) (now (answer .exit)) ⌝ }
 {
     match command {
         Command::Call(call) => {
@@ -104,7 +104,7 @@ pub fn answer_part(
 ) -> Bench
     ensures { λ r. ⌜ r .state ≡ answeredPart (sheetOf (now (sheet .entry))) (bench .state) (written (now (line .entry)) (bench .line)) (now (more .entry)) whole .state ⌝ }
     ensures { λ r. ⌜ written (now (line .exit)) (r .line) ≡ answeredPart (sheetOf (now (sheet .entry))) (bench .state) (written (now (line .entry)) (bench .line)) (now (more .entry)) whole .line ⌝ }
-    ensures { λ r. ⌜ Filled (now (answer .entry)) (answeredPart (sheetOf (now (sheet .entry))) (bench .state) (written (now (line .entry)) (bench .line)) (now (more .entry)) whole .answer) (r .answer) (now (answer .exit)) ⌝ }
+    ensures { λ r. ⌜ TextFilled (now (answer .entry)) (answeredPart (sheetOf (now (sheet .entry))) (bench .state) (written (now (line .entry)) (bench .line)) (now (more .entry)) whole .answer) (r .answer) (now (answer .exit)) ⌝ }
 {
     let count = put_text(line, bench.line, more);
     let state = bench.state;

@@ -8,7 +8,7 @@ use lib.ListN.{length, drop, set, length-append, getD, length-set, drop-of-lengt
 use lib.Seq.{sets, sets-eq, drop-cons, take-append-seam}
 use Rattle.io.specs.Counts.{Counts}
 use Rattle.text.specs.Bytes.{join}
-use Rattle.text.specs.Buffer.{Buffer, buffer, putByte, putText, filled, Filled}
+use Rattle.text.specs.Buffer.{Buffer, buffer, putByte, putText, filled, TextFilled}
 
 -- a text behind a text
 pub put-append : (b : Buffer) (s t : List ℕ) → putText b (s ++ t) ≡ putText (putText b s) t
@@ -72,7 +72,7 @@ unfolding filled
 counted before text = (rw (length-append text (drop (length text) before)) (omega arith), rw (take-append-seam text (drop (length text) before)) refl)
 
 -- what is put from the start of a buffer that has room fills it
-pub put-fills : (before text after : List ℕ) (n : ℕ) → buffer after n ≡ putText (buffer before 0) text → length text ≤ length before → Filled before text n after
+pub put-fills : (before text after : List ℕ) (n : ℕ) → buffer after n ≡ putText (buffer before 0) text → length text ≤ length before → TextFilled before text n after
 put-fills before text after n e h =
     let f = e ∙ put-filled before text h in
     let m : n ≡ length text = ap (λ (b : Buffer). b .count) f in

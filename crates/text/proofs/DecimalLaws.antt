@@ -14,7 +14,7 @@ use mir.Val.{SFits}
 use Rattle.values.specs.Signed.{wordOf}
 use Rattle.io.specs.Digits.{glyph, digits, Fewest}
 use Rattle.text.specs.Bytes.{ascii, join}
-use Rattle.text.specs.Decimal.{digitByte, spelled, decimal, signed}
+use Rattle.text.specs.Decimal.{digitByte, spelled, decimal, signedDecimal}
 
 -- a digit's byte
 last : (n : ℕ) → glyph (n % 10) ∷ [] ≡ digitByte (n % 10)
@@ -77,19 +77,19 @@ pub decimal-fits : (n : ℕ) → length (decimal n) ≤ 20
 unfolding decimal
 decimal-fits n = spelled-fits 19 n
 
-pub signed-fits : (z : ℤ) → length (signed z) ≤ 21
-unfolding signed
+pub signed-fits : (z : ℤ) → length (signedDecimal z) ≤ 21
+unfolding signedDecimal
 signed-fits (pos n) = omega (arith, decimal-fits n)
 signed-fits (negsuc n) = omega (arith, decimal-fits (suc n))
 
 -- a number with its sign, by its word
-pub signed-plain : (z : ℤ) → SFits w16 z → wordOf z < 32768 → signed z ≡ decimal (wordOf z)
-unfolding wordOf signed
+pub signed-plain : (z : ℤ) → SFits w16 z → wordOf z < 32768 → signedDecimal z ≡ decimal (wordOf z)
+unfolding wordOf signedDecimal
 signed-plain (pos n) f h = refl
 signed-plain (negsuc n) f h = absurd (omega (arith, f .sfits))
 
-pub signed-minus : (z : ℤ) → SFits w16 z → 32768 ≤ wordOf z → signed z ≡ join (ascii "-" ∷ decimal (65536 - wordOf z) ∷ [])
-unfolding wordOf signed join
+pub signed-minus : (z : ℤ) → SFits w16 z → 32768 ≤ wordOf z → signedDecimal z ≡ join (ascii "-" ∷ decimal (65536 - wordOf z) ∷ [])
+unfolding wordOf signedDecimal join
 signed-minus (pos n) f h = absurd (omega (arith, f .sfits))
 signed-minus (negsuc n) f h =
     let e : 65536 - (65535 - n) ≡ suc n = omega (arith, f .sfits) in

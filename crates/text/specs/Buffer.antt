@@ -30,7 +30,7 @@ filled bytes t = t ++ drop (length t) bytes
 
 -- What a function that fills a buffer with a text ensures: the count is the text's length, and the bytes are these. The last part follows
 -- from the others; it stands here since a caller that lends on the first `count` bytes has to show it.
-pub record Filled (before text : List ℕ) (count : ℕ) (after : List ℕ) : Type 0 where
+pub record TextFilled (before text : List ℕ) (count : ℕ) (after : List ℕ) : Type 0 where
   pub number : count ≡ length text
   pub written : after ≡ filled before text
   pub counts : Counts count after

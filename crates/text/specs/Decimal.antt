@@ -20,6 +20,6 @@ unfoldable pub decimal : ℕ → List ℕ
 decimal n = spelled 19 n
 
 -- `negsuc n` is -(n + 1)
-unfoldable pub signed : ℤ → List ℕ
-signed (pos n) = decimal n
-signed (negsuc n) = ascii "-" ++ decimal (suc n)
+unfoldable pub signedDecimal : ℤ → List ℕ
+signedDecimal (pos n) = decimal n
+signedDecimal (negsuc n) = ascii "-" ++ decimal (suc n)

@@ -6,7 +6,7 @@ ghost use mathlib.Core.Path.{_≡_};
 ghost use lib.ListN.{length, getD};
 ghost use Rattle.text.specs.Bytes.{same};
 ghost use Rattle.text.specs.Lines.{fields, isBlank, lineEnd, part, said};
-ghost use Rattle.text.specs.steps.Runs.{isSuch, nextField, runEnd};
+ghost use Rattle.text.specs.steps.Stretches.{isSuch, nextField, stretchEnd};
 
 // The longest line that can be a command, without its newline.
 const LONGEST: usize = 256;
@@ -75,9 +75,9 @@ fn is_such(b: u8, blank: bool) -> bool
     if blank { is_blank(b) } else { !is_blank(b) }
 }
 
-// Where a run of blank bytes, or of others, that starts at `from` ends.
-fn run_end(line: &[u8], from: usize, blank: bool) -> usize
-    ensures { λ r. ⌜ r ≡ runEnd (now (line .entry)) from blank ⌝ }
+// Where a stretch of blank bytes, or of others, that starts at `from` ends.
+fn stretch_end(line: &[u8], from: usize, blank: bool) -> usize
+    ensures { λ r. ⌜ r ≡ stretchEnd (now (line .entry)) from blank ⌝ }
 {
     let mut i = from;
     while i < line.len() {
@@ -93,27 +93,27 @@ fn run_end(line: &[u8], from: usize, blank: bool) -> usize
 fn next_field(line: &[u8], at: usize) -> usize
     ensures { λ r. ⌜ r ≡ nextField (now (line .entry)) at ⌝ }
 {
-    run_end(line, run_end(line, at, false), true)
+    stretch_end(line, stretch_end(line, at, false), true)
 }
 
 // A field by its number, from 0; empty where the line has fewer.
 pub fn field(line: &[u8], k: u8) -> &[u8]
     ensures { λ r. ⌜ now r ≡ getD (fields (now (line .entry))) k [] ⌝ }
 {
-    let mut at = run_end(line, 0, true);
+    let mut at = stretch_end(line, 0, true);
     let mut left = k;
     while left > 0 {
         at = next_field(line, at);
         left -= 1;
     }
-    part(line, at, run_end(line, at, false))
+    part(line, at, stretch_end(line, at, false))
 }
 
 // How many fields the line has.
 pub fn field_count(line: &[u8]) -> usize
     ensures { λ r. ⌜ r ≡ length (fields (now (line .entry))) ⌝ }
 {
-    let mut at = run_end(line, 0, true);
+    let mut at = stretch_end(line, 0, true);
     let mut n: usize = 0;
     while at < line.len() {
         at = next_field(line, at);

@@ -2,7 +2,7 @@
 use values::signed::word;
 ghost use mathlib.Core.Path.{_≡_};
 ghost use Rattle.text.specs.Buffer.{buffer as written, putText};
-ghost use Rattle.text.specs.Decimal.{decimal, signed};
+ghost use Rattle.text.specs.Decimal.{decimal, signedDecimal};
 
 // Writes a text behind the first `count` bytes, and gives the new count.
 pub fn put_text(buffer: &mut [u8], count: usize, text: &[u8]) -> usize
@@ -32,7 +32,7 @@ pub fn put_number(buffer: &mut [u8], count: usize, n: u64) -> usize
 
 // A number with its sign; 65536 less the word of a negative number is its magnitude.
 pub fn put_signed(buffer: &mut [u8], count: usize, z: i16) -> usize
-    ensures { λ r. ⌜ written (now (buffer .exit)) r ≡ putText (written (now (buffer .entry)) count) (signed z) ⌝ }
+    ensures { λ r. ⌜ written (now (buffer .exit)) r ≡ putText (written (now (buffer .entry)) count) (signedDecimal z) ⌝ }
 {
     let w = word(z) as u64;
     if w < 32768 {

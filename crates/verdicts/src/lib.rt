@@ -8,7 +8,7 @@ use text::writing::put_text;
 ghost use mathlib.Core.Path.{_≡_};
 ghost use Rattle.checker.specs.Checked.{checked};
 ghost use Rattle.verdicts.specs.VerdictLine.{verdictLine};
-ghost use Rattle.text.specs.Buffer.{Filled, buffer as written, putText};
+ghost use Rattle.text.specs.Buffer.{TextFilled, buffer as written, putText};
 
 // More room than any line of a verdict takes.
 pub const VERDICT_ROOM: usize = 128;
@@ -33,7 +33,7 @@ fn put_verdict(line: &mut [u8], verdict: Verdict) -> usize
 
 // Writes the line of a sheet's verdict into a lent buffer, and gives its length.
 pub fn verdict_line(sheet: &[u8], line: &mut [u8; VERDICT_ROOM]) -> usize
-    ensures { λ r. ⌜ Filled (now (line .entry)) (verdictLine (checked (now (sheet .entry)))) r (now (line .exit)) ⌝ }
+    ensures { λ r. ⌜ TextFilled (now (line .entry)) (verdictLine (checked (now (sheet .entry)))) r (now (line .exit)) ⌝ }
 {
     put_verdict(line, check(sheet))
 }

@@ -33,8 +33,8 @@ mul-x c = search needs
 element-copy-out-x : tie.Need-element-copy-out-x Inv-loop μ-loop
 element-copy-out-x c = search needs
 
-put-object-requires : tie.Need-put-object-requires Inv-loop μ-loop
-put-object-requires c κs = search needs
+put-setting-requires : tie.Need-put-setting-requires Inv-loop μ-loop
+put-setting-requires c κs = search needs
 
 add-o : tie.Need-add-o Inv-loop μ-loop
 add-o c = search needs
@@ -44,13 +44,13 @@ loop-less c = search needs
 
 loop-again : tie.Need-loop-again Inv-loop μ-loop
 loop-again c =
-    let at-put-object = c .before .before in
-    let at-loop-test = at-put-object .before .before .before in
+    let at-put-setting = c .before .before in
+    let at-loop-test = at-put-setting .before .before .before in
     let at-loop = at-loop-test .before in
     let start = at-loop .before .before in
     let inv = at-loop .loop .inv in
     let x = element-setting (start .args .t3) (at-loop .loop .o) (at-loop-test .loop-test .taken) in
-    (omega arith, at-put-object .put-object .kept .0 ∙ inv .1, object-put _ _ _ _ _ (inv .2) (rw x at (at-put-object .put-object .ensures)))
+    (omega arith, at-put-setting .put-setting .kept .0 ∙ inv .1, object-put _ _ _ _ _ (inv .2) (rw x at (at-put-setting .put-setting .ensures)))
 
 same-length : tie.Need-same-length Inv-loop μ-loop
 same-length c = search needs
@@ -71,7 +71,7 @@ put-objects-spec =
     cast-x
     mul-x
     element-copy-out-x
-    put-object-requires
+    put-setting-requires
     add-o
     loop-less
     loop-again

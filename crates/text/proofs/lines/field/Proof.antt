@@ -6,7 +6,7 @@ use native.Mathlib.Omega.{arith}
 use lib.ListN.{length, drop}
 use borrow.Author.Needs.{needs}
 use Rattle.text.specs.Lines.{fields}
-use Rattle.text.specs.steps.Runs.{beginsBlank}
+use Rattle.text.specs.steps.Stretches.{beginsBlank}
 use Rattle.text.proofs.FieldLaws as laws
 use Rattle.text.proofs.lines.field.Statement.{statement}
 use Rattle.text.proofs.lines.field.Tie as tie
@@ -18,14 +18,14 @@ Inv-loop line k at₀ left₀ at left =
 abbrev μ-loop : tie.MeasureT-loop
 μ-loop line k at₀ left₀ at left = left
 
-run-end-requires : tie.Need-run-end-requires Inv-loop μ-loop
-run-end-requires c κs = search needs
+stretch-end-requires : tie.Need-stretch-end-requires Inv-loop μ-loop
+stretch-end-requires c κs = search needs
 
 loop-holds : tie.Need-loop-holds Inv-loop μ-loop
 loop-holds c =
     let k = c .before .before .args .k in
     let e : k - k ≡ 0 = omega arith in
-    let at = laws.started _ _ (c .run-end .ensures) in
+    let at = laws.started _ _ (c .stretch-end .ensures) in
     (at .0, omega arith, at .1, rw e (at .2))
 
 next-field-requires : tie.Need-next-field-requires Inv-loop μ-loop
@@ -44,8 +44,8 @@ loop-again c =
     let next = laws.stepped _ _ _ (c .next-field .ensures) (inv .2) (inv .0) in
     (next .0, omega arith, next .1, next .2 ∙ ap (drop 1) (inv .3) ∙ laws.fallen _ _ _ left (inv .1))
 
-run-end-requires-2 : tie.Need-run-end-requires-2 Inv-loop μ-loop
-run-end-requires-2 c κs = search needs
+stretch-end-requires-2 : tie.Need-stretch-end-requires-2 Inv-loop μ-loop
+stretch-end-requires-2 c κs = search needs
 
 part-requires : tie.Need-part-requires Inv-loop μ-loop
 part-requires c κs = search needs
@@ -55,7 +55,7 @@ returns c =
     let inv = c .before .before .before .loop .inv in
     let k = c .before .before .before .before .before .before .args .k in
     let e : k - c .before .before .before .loop .left ≡ k = omega arith in
-    c .part .ensures ∙ laws.field-at _ _ _ _ (inv .0) (inv .2) (rw e at (inv .3)) (c .before .run-end2 .ensures)
+    c .part .ensures ∙ laws.field-at _ _ _ _ (inv .0) (inv .2) (rw e at (inv .3)) (c .before .stretch-end2 .ensures)
 
 pub field-spec : {M : Type 1} → statement M
 field-spec =
@@ -63,12 +63,12 @@ field-spec =
     (tie.spec
     Inv-loop
     μ-loop
-    run-end-requires
+    stretch-end-requires
     loop-holds
     next-field-requires
     sub-left
     loop-less
     loop-again
-    run-end-requires-2
+    stretch-end-requires-2
     part-requires
     returns)

@@ -6,7 +6,7 @@ use native.Mathlib.Omega.{arith}
 use lib.ListN.{length, drop}
 use borrow.Author.Needs.{needs}
 use Rattle.text.specs.Lines.{fields}
-use Rattle.text.specs.steps.Runs.{beginsBlank}
+use Rattle.text.specs.steps.Stretches.{beginsBlank}
 use Rattle.text.proofs.FieldLaws as laws
 use Rattle.text.proofs.lines.field_count.Statement.{statement}
 use Rattle.text.proofs.lines.field_count.Tie as tie
@@ -18,12 +18,12 @@ Inv-loop line at₀ n₀ at n =
 abbrev μ-loop : tie.MeasureT-loop
 μ-loop line at₀ n₀ at n = length line - at
 
-run-end-requires : tie.Need-run-end-requires Inv-loop μ-loop
-run-end-requires c κs = search needs
+stretch-end-requires : tie.Need-stretch-end-requires Inv-loop μ-loop
+stretch-end-requires c κs = search needs
 
 loop-holds : tie.Need-loop-holds Inv-loop μ-loop
 loop-holds c =
-    let at = laws.started _ _ (c .run-end .ensures) in
+    let at = laws.started _ _ (c .stretch-end .ensures) in
     (at .0, omega arith, at .1, rw (at .2) (omega arith))
 
 next-field-requires : tie.Need-next-field-requires Inv-loop μ-loop
@@ -56,7 +56,7 @@ field-count-spec =
     (tie.spec
     Inv-loop
     μ-loop
-    run-end-requires
+    stretch-end-requires
     loop-holds
     next-field-requires
     add-n

@@ -6,8 +6,8 @@ use Rattle.console.specs.Answers.{settingLine, objectLine}
 use Rattle.text.specs.Buffer.{putText}
 use Rattle.text.proofs.BufferLaws.{put-join, put-none}
 use borrow.Author.Needs.{needs}
-use Rattle.console.proofs.answers.put_object.Statement.{statement}
-use Rattle.console.proofs.answers.put_object.Tie as tie
+use Rattle.console.proofs.answers.put_setting.Statement.{statement}
+use Rattle.console.proofs.answers.put_setting.Tie as tie
 
 kept : (c : tie.Start) → toZ w16 (ofZ w16 (c .args .x .offset)) ≡ c .args .x .offset
 kept c = search needs
@@ -42,8 +42,8 @@ returns-2 c =
     rw (sym (at-is-resting .is-resting .ensures) ∙ at-if1 .if1 .left, put-join, put-join, put-none, ← (at-put-name .put-name .ensures))
     (rw (kept start) at (at-put-values .put-values .ensures))
 
-pub put-object-spec : {M : Type 1} → statement M
-put-object-spec =
+pub put-setting-spec : {M : Type 1} → statement M
+put-setting-spec =
     tie.close
     (tie.spec
     is-resting-requires

@@ -4,13 +4,13 @@ use mathlib.Core.Path.{_≡_, sym, _∙_}
 use lib.ListN.{length}
 use borrow.Author.Needs.{needs}
 use borrow.Author.Tests.{not-true, not-false}
-use Rattle.text.specs.steps.Runs.{runEnd}
+use Rattle.text.specs.steps.Stretches.{stretchEnd}
 use Rattle.text.proofs.FieldLaws as laws
-use Rattle.text.proofs.lines.run_end.Statement.{statement}
-use Rattle.text.proofs.lines.run_end.Tie as tie
+use Rattle.text.proofs.lines.stretch_end.Statement.{statement}
+use Rattle.text.proofs.lines.stretch_end.Tie as tie
 
 abbrev Inv-loop : tie.InvT-loop
-Inv-loop line from blank i₀ i = runEnd line i blank ≡ runEnd line from blank
+Inv-loop line from blank i₀ i = stretchEnd line i blank ≡ stretchEnd line from blank
 
 abbrev μ-loop : tie.MeasureT-loop
 μ-loop line from blank i₀ i = length line - i
@@ -39,8 +39,8 @@ loop-again c = laws.passed _ _ _ (c .before .before .before .loop-test .taken) (
 returns-2 : tie.Need-returns-2 Inv-loop μ-loop
 returns-2 c = laws.at-end _ _ _ (c .loop-test .left) ∙ c .before .loop .inv
 
-pub run-end-spec : {M : Type 1} → statement M
-run-end-spec =
+pub stretch-end-spec : {M : Type 1} → statement M
+stretch-end-spec =
     tie.close
     (tie.spec
     Inv-loop

@@ -1,4 +1,4 @@
--- How far a run of blank bytes, or of others, goes. Assumes nothing.
+-- How far a stretch of blank bytes, or of others, goes. Assumes nothing.
 use Prim.Native.Nat.{ℕ, suc, _+_}
 use mathlib.Core.Bool.{Bool, true, false, cond, not}
 use mathlib.Core.List.{List, [], _∷_}
@@ -11,13 +11,13 @@ isSuch true b = isBlank b
 isSuch false b = not (isBlank b)
 
 -- how many bytes at a text's start are so
-unfoldable pub runLength : Bool → List ℕ → ℕ
-runLength blank [] = 0
-runLength blank (b ∷ s) = cond (isSuch blank b) (suc (runLength blank s)) 0
+unfoldable pub stretchLength : Bool → List ℕ → ℕ
+stretchLength blank [] = 0
+stretchLength blank (b ∷ s) = cond (isSuch blank b) (suc (stretchLength blank s)) 0
 
--- where the run from a place ends
-unfoldable pub runEnd : List ℕ → ℕ → Bool → ℕ
-runEnd s from blank = from + runLength blank (drop from s)
+-- where the stretch from a place ends
+unfoldable pub stretchEnd : List ℕ → ℕ → Bool → ℕ
+stretchEnd s from blank = from + stretchLength blank (drop from s)
 
 -- a text begins with a blank
 abbrev pub beginsBlank : List ℕ → Bool
@@ -26,4 +26,4 @@ beginsBlank (b ∷ s) = isBlank b
 
 -- where the next field starts
 unfoldable pub nextField : List ℕ → ℕ → ℕ
-nextField s at = runEnd s (runEnd s at false) true
+nextField s at = stretchEnd s (stretchEnd s at false) true
