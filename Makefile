@@ -14,14 +14,14 @@ rusttest:
 
 # time per sheet of the proved checker, of the second one written for speed and of the plain second one
 bench:
-	rt staticlib host
+	tools/build host
 	cd bindings/rust && cargo bench --locked --offline --bench ratio
 
 # the verdict on sheet A
 example:
-	rt check sheetcheck
-	target/bin/sheetcheck <examples/a.sheet
+	tools/build sheetcheck
+	crates/sheetcheck/out/sheetcheck <examples/a.sheet
 
-# the listening bench, target/bin/listen
+# the listening bench, crates/listen/out/listen
 listen:
-	rt check listen
+	tools/build listen

@@ -1,6 +1,6 @@
 /*
  * The proved checker of emission sheets, and the proved listing of a programme's start, for host players in C.
- * Link with target/staticlib/libhost.a, which `rt staticlib host` writes; it needs no other library.
+ * Link with crates/host/out/libhost.a, which `tools/build host` writes; it needs no other library.
  */
 #ifndef SHEET_H
 #define SHEET_H

@@ -5,8 +5,8 @@ use std::path::PathBuf;
 
 /// The variable that names the folder of the archive.
 const FOLDER: &str = "SHEET_HOST_FOLDER";
-/// Where `rt staticlib host` writes it, from this package's folder.
-const DEFAULT: &str = "../../../target/staticlib";
+/// Where `tools/build host` writes it, from this package's folder.
+const DEFAULT: &str = "../../../crates/host/out";
 
 fn main() {
     let folder = archive_folder();
@@ -15,7 +15,7 @@ fn main() {
     println!("cargo::rerun-if-changed={}", archive.display());
     if !archive.is_file() {
         println!(
-            "cargo::error={} is missing: run `rt staticlib host` in the repository, or set {FOLDER} to its folder",
+            "cargo::error={} is missing: run `tools/build host` in the repository, or set {FOLDER} to its folder",
             archive.display()
         );
         return;

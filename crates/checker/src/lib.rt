@@ -1,5 +1,6 @@
 // The checker: the first broken rule with its place, or acceptance. It is one search over rules, sections and records.
 #![tactic(auto)]
+
 pub mod groups;
 pub mod lent;
 pub mod search;

@@ -1,6 +1,6 @@
 -- Answers with their bytes, and lines with the commands that they say, computed. What is expected was written down by hand. Assumes nothing.
 use Prim.Native.String.{String}
-use Rattle.std.specs.Prelude.{◌≡◌, refl, true, false, List, [], ◌∷◌, map, pos, negsuc, set, replicate}
+use Rattle.std.specs.Prelude.{◌≡◌, refl, true, false, [], ◌∷◌, map, pos, negsuc, set, replicate}
 use Rattle.values.specs.declared.Gain.TheVariants.{Silent, Tenths}
 use Rattle.values.specs.Gain.{atMost}
 use Rattle.profile.specs.Counting.{concatBelow}

@@ -1,5 +1,6 @@
 // What a programme gives its objects: start values, granted ranges, wholly included groups; and which values and activity fit them.
 #![tactic(auto)]
+
 pub mod activity;
 pub mod fitting;
 pub mod included;

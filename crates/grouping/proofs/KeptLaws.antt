@@ -5,7 +5,7 @@ use mathlib.Core.Bool.{Bool, true, false, true≢false, cond, not, ◌&&◌, ◌
 use mathlib.Core.List.{List}
 use mathlib.Core.Logic.{⊎_elim}
 use native.Mathlib.Omega.{arith}
-use borrow.Author.Count.{below-more}
+use borrow.Author.Count.{below_more}
 use borrow.Author.Tests.{eqb-true, eq-eqb, ne_eqb, leb-true, lt-leb, ltb-true, ltb-false, lt-ltb, not-false}
 use lib.Dec.{eqb, leb, ltb}
 use lib.ListN.{length, get_or}
@@ -343,7 +343,7 @@ module _ (s : Sheet) (p : ℕ) (both : Bool) (alike t₀ t₂ : List ℕ) (nough
 -- a programme more
 pub programme-more : (s : Sheet) (both : Bool) (owners alike : List ℕ) (p : ℕ) (t t' : List ℕ) → Passing s both owners alike → Entered s both alike p t t' → Standing (λ x. 0) t → length t ≡ count s objects
     → ((l : ℕ) → l < count s objects → GroupKept s t' l) → KeptTo s both p → KeptTo s both (p + 1)
-programme-more s both owners alike p t t' pass entered noughts full kept before = below-more (ProgrammeKept s both) p before (entered-kept s p both alike t t' noughts entered full pass.2 pass.1 kept)
+programme-more s both owners alike p t t' pass entered noughts full kept before = below_more (ProgrammeKept s both) p before (entered-kept s p both alike t t' noughts entered full pass.2 pass.1 kept)
 
 -- the two words of a list
 abbrev SameList : Sheet → ℕ → ℕ → ℕ → Type 0

@@ -2,7 +2,7 @@
 -- Assumes nothing.
 use Prim.Native.Nat.{ℕ, zero, suc, ◌≤◌}
 use mathlib.Core.Path.{◌≡◌, refl, sym}
-use mathlib.Core.Bool.{true, false, not, true≢false}
+use mathlib.Core.Bool.{true, not, true≢false}
 use native.Mathlib.Omega.{arith}
 use native.Mathlib.Nat.{le_trans}
 use borrow.Author.Tests.{eqb-false, ne_eqb, not-true}

@@ -7,7 +7,7 @@ use mathlib.Core.Logic.{⊎_elim}
 use native.Mathlib.Omega.{arith}
 use native.Mathlib.Nat.{zero-add, le_of_suc-le-suc}
 use native.Mathlib.Numerals.{add-one}
-use borrow.Author.Count.{below-more}
+use borrow.Author.Count.{below_more}
 use borrow.Author.Tests.{eqb-true, eqb-false, eq-eqb, ne_eqb, le-leb, ltb-true, ltb-false, lt-ltb, not-false}
 use lib.Dec.{eqb, leb, ltb}
 use lib.ListN.{length, get_or, set, length-set}
@@ -76,9 +76,9 @@ module _ (f : ℕ → ℕ) (a b : ℕ) (t₀ : List ℕ) where
 
     pub changed-more : Standing (λ z. cond (eqb y z) b (get_or t z 0)) t' → Changed f (n + 1) a b t₀ t'
     changed-more now = (
-      below-more (λ k. f k < length t₀) n before.0 (rw (sym e, sym same) inside),
-      below-more (λ k. get_or t₀ (f k) 0 ≡ a) n before.1 (rw (sym e) fresh.1),
-      below-more (λ k. any (λ i. eqb (f i) (f k)) k ≡ false) n before.2 (ap (λ (w : ℕ). any (λ i. eqb (f i) w) n) (sym e) ∙ fresh.0),
+      below_more (λ k. f k < length t₀) n before.0 (rw (sym e, sym same) inside),
+      below_more (λ k. get_or t₀ (f k) 0 ≡ a) n before.1 (rw (sym e) fresh.1),
+      below_more (λ k. any (λ i. eqb (f i) (f k)) k ≡ false) n before.2 (ap (λ (w : ℕ). any (λ i. eqb (f i) w) n) (sym e) ∙ fresh.0),
       marked-more f b t₀ t t' n y e long before.3 now,
     )
 
@@ -113,10 +113,10 @@ module _ (f e : ℕ → ℕ) (t₀ : List ℕ) where
     pub noted-more : Noted f e (n + 1) t₀ t'
     unfolding any
     noted-more = (
-      below-more (λ k. f k < length t₀) n before.0 (rw (sym q, sym same) inside),
-      below-more (λ k. get_or t₀ (f k) 0 ≡ 1) n before.1 (rw (sym q) (sym (before.4 y (rw (sym same) inside) new) ∙ stood)),
-      below-more (λ k. any (λ i. eqb (f i) (f k)) k ≡ false) n before.2 (ap (λ (w : ℕ). any (λ i. eqb (f i) w) n) (sym q) ∙ new),
-      below-more (λ k. get_or t' (f k) 0 ≡ e k + 2) n
+      below_more (λ k. f k < length t₀) n before.0 (rw (sym q, sym same) inside),
+      below_more (λ k. get_or t₀ (f k) 0 ≡ 1) n before.1 (rw (sym q) (sym (before.4 y (rw (sym same) inside) new) ∙ stood)),
+      below_more (λ k. any (λ i. eqb (f i) (f k)) k ≡ false) n before.2 (ap (λ (w : ℕ). any (λ i. eqb (f i) w) n) (sym q) ∙ new),
+      below_more (λ k. get_or t' (f k) 0 ≡ e k + 2) n
           (λ k l. other (f k) (rw same (before.0 k l)) (ne_eqb y (f k) (λ z. true≢false (sym (eq-eqb (f k) y (sym z)) ∙ any-none (λ i. eqb (f i) y) n new k l))) ∙ before.3 k l)
           (rw (sym q, sym r) (now y (rw long inside) ∙ ap (λ (b : Bool). cond b (v + 2) (get_or t y 0)) (eq-eqb y y refl))),
       λ x l h.
@@ -148,7 +148,7 @@ sets-more s alike owners p j v c u t₀ t t' owns set small e some stands same l
     record {
       noted = noted-more (ownerAt s p) (λ k. representative alike (namedSet s p k)) t₀ t t' j (c - 1) u (owner-read s owners v c owns e some ∙ ap (owner s) set)
           (stands ∙ ap (representative alike) set) same long before.noted now.0 now.1 now.2;
-      inside = below-more (λ k. namedSet s p k < count s valueSets) j before.inside (rw (sym set) small);
+      inside = below_more (λ k. namedSet s p k < count s valueSets) j before.inside (rw (sym set) small);
     }
 
 module _ (s : Sheet) where

@@ -6,7 +6,7 @@ use mathlib.Core.List.{List}
 use mathlib.Core.Logic.{⊎_elim}
 use native.Mathlib.Omega.{arith}
 use native.Mathlib.Nat.{le_of_suc-le-suc}
-use borrow.Author.Count.{below-more}
+use borrow.Author.Count.{below_more}
 use borrow.Author.Tests.{eqb-true, eq-eqb, not-false}
 use lib.Dec.{eqb, leb, ltb}
 use lib.ListN.{get_or}
@@ -35,10 +35,10 @@ module _ (s : Sheet) (t t' u u' : List ℕ) (g l j m : ℕ) (e : m ≡ entry s o
   pub listed-row : j < number s objects l complementList → RowsListed s t u g l j → RowsListed s t' u' (g + 1) l (j + 1)
   listed-row inside before = (
     λ k r i h. stays k (entry s objects k complementList i) (before.0 k r i h),
-    below-more (λ i. HasRow t' u' (g + 1) l (entry s objects l complementList i)) j
+    below_more (λ i. HasRow t' u' (g + 1) l (entry s objects l complementList i)) j
         (λ i h. stays l (entry s objects l complementList i) (before.1 i h))
         (g, omega arith, leaders.1, complements.1 ∙ e),
-    below-more (λ i. OnlyComplement s (get_or t' i 0) (get_or u' i 0)) g
+    below_more (λ i. OnlyComplement s (get_or t' i 0) (get_or u' i 0)) g
         (λ i h. rw (leaders.0 i h, complements.0 i h) (before.2 i h))
         (rw (leaders.1, complements.1) (partner inside)),
   )
@@ -46,7 +46,7 @@ module _ (s : Sheet) (t t' u u' : List ℕ) (g l j m : ℕ) (e : m ≡ entry s o
 -- an object more
 pub listed-next : (s : Sheet) (t u : List ℕ) (g l j : ℕ) → j ≡ number s objects l complementList → RowsListed s t u g l j → RowsListed s t u g (l + 1) 0
 listed-next s t u g l j z before = (
-  below-more (λ k. (i : ℕ) → i < number s objects k complementList → HasRow t u g k (entry s objects k complementList i)) l before.0 (rw z at before.1),
+  below_more (λ k. (i : ℕ) → i < number s objects k complementList → HasRow t u g k (entry s objects k complementList i)) l before.0 (rw z at before.1),
   λ i h. absurd (omega arith),
   before.2,
 )

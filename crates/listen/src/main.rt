@@ -1,10 +1,11 @@
 // The listening bench: `listen FILE` opens a sheet, then answers each line of standard input. console::commands has the commands.
 #![tactic(auto)]
+
 use console::bench::{ANSWER_ROOM, Bench, answer_part, opened};
-use libc::{STDERR_FILENO, STDIN_FILENO};
+use std::io::{Input, Read};
 use text::lines::{ROOM, line_end, part};
-use text::output::write_output;
-use text::reading::{argument_is, read_argument};
+use text::output::{say_failure, write_output};
+use text::reading::{arg_count, argument_is, read_argument};
 
 // The bench, and whether it goes on: not where the input ended, or an answer could not be written.
 #[derive(Clone, Copy)]
@@ -14,7 +15,8 @@ struct Session {
 }
 
 // Takes a part of a line, and writes what is answered.
-fn write_answer(
+fn write_answer<R: Print + Eprint>(
+    rt: &R,
     sheet: &[u8],
     bench: Bench,
     line: &mut [u8; ROOM],
@@ -23,12 +25,13 @@ fn write_answer(
     answer: &mut [u8; ANSWER_ROOM],
 ) -> Session {
     let next = answer_part(sheet, bench, line, more, whole, answer);
-    let open = write_output(part(answer, 0, next.answer));
+    let open = write_output(rt, part(answer, 0, next.answer));
     Session { bench: next, open }
 }
 
 // Answers the lines that end in what was read, and keeps the beginning of the next.
-fn answer_read(
+fn answer_read<R: Print + Eprint>(
+    rt: &R,
     sheet: &[u8],
     start: Bench,
     line: &mut [u8; ROOM],
@@ -44,6 +47,7 @@ fn answer_read(
         let end = line_end(read, at);
         let bench = session.bench;
         session = write_answer(
+            rt,
             sheet,
             bench,
             line,
@@ -60,13 +64,14 @@ fn answer_read(
 }
 
 // At the end of the input a line without a newline is answered, unless it is empty.
-fn answer_last(
+fn answer_last<R: Print + Eprint>(
+    rt: &R,
     sheet: &[u8],
     bench: Bench,
     line: &mut [u8; ROOM],
     answer: &mut [u8; ANSWER_ROOM],
 ) -> Session {
-    let last = write_answer(sheet, bench, line, b"", bench.line > 0, answer);
+    let last = write_answer(rt, sheet, bench, line, b"", bench.line > 0, answer);
     let next = last.bench;
     Session {
         bench: next,
@@ -75,28 +80,34 @@ fn answer_last(
 }
 
 // Reads what is there, and answers it before more is read.
-fn answer_some(
+fn answer_some<R: Print + Eprint, I: Read>(
+    rt: &R,
+    input: &mut I,
     sheet: &[u8],
     bench: Bench,
     line: &mut [u8; ROOM],
     answer: &mut [u8; ANSWER_ROOM],
 ) -> Session {
     let mut buffer = io::buffer();
-    let got = libc::read(STDIN_FILENO, &mut buffer);
-    if got < 0 {
-        os::fail(b"standard input");
-        return Session { bench, open: false };
+    match input.read(&mut buffer) {
+        Ok(0) => answer_last(rt, sheet, bench, line, answer),
+        Ok(n) => answer_read(rt, sheet, bench, line, &buffer[..n], answer),
+        Err(error) => {
+            say_failure(rt, "standard input", error);
+            Session { bench, open: false }
+        }
     }
-    let n = io::count(got, &buffer);
-    if n == 0 {
-        return answer_last(sheet, bench, line, answer);
-    }
-    answer_read(sheet, bench, line, &buffer[..n], answer)
 }
 
 // Answers until the input ends. A proved loop has to end, and nothing says that the input does: so this one counts its turns down, from
 // a number that no run uses up.
-fn answer_all(sheet: &[u8], start: Bench, answer: &mut [u8; ANSWER_ROOM]) {
+fn answer_all<R: Input + Print + Eprint>(
+    rt: &R,
+    sheet: &[u8],
+    start: Bench,
+    answer: &mut [u8; ANSWER_ROOM],
+) {
+    let mut input = rt.reader();
     let mut line = [0u8; ROOM];
     let mut session = Session {
         bench: start,
@@ -105,7 +116,7 @@ fn answer_all(sheet: &[u8], start: Bench, answer: &mut [u8; ANSWER_ROOM]) {
     let mut turns = u64::MAX;
     while turns > 0 {
         let bench = session.bench;
-        session = answer_some(sheet, bench, &mut line, answer);
+        session = answer_some(rt, &mut input, sheet, bench, &mut line, answer);
         if !session.open {
             return;
         }
@@ -114,40 +125,40 @@ fn answer_all(sheet: &[u8], start: Bench, answer: &mut [u8; ANSWER_ROOM]) {
 }
 
 // Opens the sheet, and answers.
-fn answer_input(sheet: &[u8]) {
+fn answer_input<R: Input + Print + Eprint>(rt: &R, sheet: &[u8]) {
     let mut answer = [0u8; ANSWER_ROOM];
     let start = opened(sheet, &mut answer);
     let n = start.count;
-    if write_output(&answer[..n]) {
+    if write_output(rt, &answer[..n]) {
         let state = start.state;
         let bench = Bench {
             state,
             line: 0,
             answer: 0,
         };
-        answer_all(sheet, bench, &mut answer);
+        answer_all(rt, sheet, bench, &mut answer);
     }
 }
 
-fn write_usage() {
-    io::write_all(STDERR_FILENO, b"usage: listen FILE\n");
+fn write_usage<R: Eprint>(rt: &R) {
+    let _ = eprintln!(rt; "usage: listen FILE");
 }
 
 // The buffer is longer than any sheet, so a file that fills it is refused, whatever follows.
-fn main() {
-    if os::arg_count() != 2 {
-        write_usage();
+fn main(rt: HostRuntime) {
+    if arg_count(&rt) != 2 {
+        write_usage(&rt);
         return;
     }
-    if argument_is(1, b"--help") {
-        write_usage();
+    if argument_is(&rt, 1, b"--help") {
+        write_usage(&rt);
         return;
     }
     let mut sheet = io::large_buffer();
-    let input = read_argument(1, &mut sheet);
-    if input.failed {
+    let input = read_argument(&rt, 1, &mut sheet);
+    if input.failed.is_some() {
         return;
     }
     let n = input.count;
-    answer_input(&sheet[..n]);
+    answer_input(&rt, &sheet[..n]);
 }

@@ -8,7 +8,7 @@ use native.Mathlib.Omega.{arith}
 use lib.Dec.{ltb}
 use lib.ListN.{length, get_or, set, replicate, length-set, length-replicate, get_or-replicate}
 use lib.Seq.{get_or-set_same, get_or-set_other, ext_get_or}
-use borrow.Author.Count.{below-none, below-more}
+use borrow.Author.Count.{below_none, below_more}
 use borrow.Author.Tests.{ltb-true, ltb-false}
 use Rattle.profile.specs.Counting.{tabulate}
 use Rattle.profile.proofs.ListLaws.{length-tabulate, getD-tabulate}
@@ -26,7 +26,7 @@ module _ {X : Type 0} where
       record {
         long = length-set t i v ∙ h.long;
         inside = omega arith;
-        right = below-more (λ k. get_or (set t i v) k d ≡ f k) i
+        right = below_more (λ k. get_or (set t i v) k d ≡ f k) i
             (λ k m. get_or-set_other t i k v d (λ q. let z : k ≡ i = q in absurd (omega arith)) ∙ h.right k m)
             (get_or-set_same t i v d b ∙ e);
       }
@@ -44,7 +44,7 @@ module _ {X : Type 0} where
   pub begun-none : (n : ℕ) (f : ℕ → X) (d e : X) → Begun n f d e (replicate n e) 0
   begun-none n f d e =
       record {
-        filled = record { long = length-replicate n e; inside = omega arith; right = below-none _ };
+        filled = record { long = length-replicate n e; inside = omega arith; right = below_none _ };
         rest = λ k l m. get_or-replicate n k e d m;
       }
 

@@ -1,6 +1,7 @@
 // The listener: "It is a layer of its own and knows the checker only by what that guarantees." Its state is a value that each call takes
 // and hands back.
 #![tactic(auto)]
+
 use values::Gain;
 
 pub mod calls;

@@ -90,31 +90,37 @@ fn take(sheet: &[u8], state: State, step: Step, answer: &mut [u8; ANSWER_ROOM]) 
 }
 
 // Writes an answer, and gives the state.
-fn written(answered: Answered, answer: &[u8]) -> State {
-    write_output(part(answer, 0, answered.count));
+fn written<R: Print + Eprint>(rt: &R, answered: Answered, answer: &[u8]) -> State {
+    write_output(rt, part(answer, 0, answered.count));
     answered.state
 }
 
 // Opens the sheet.
-fn begin(sheet: &[u8], answer: &mut [u8; ANSWER_ROOM]) -> State {
+fn begin<R: Print + Eprint>(rt: &R, sheet: &[u8], answer: &mut [u8; ANSWER_ROOM]) -> State {
     let answered = opened(sheet, answer);
-    written(answered, answer)
+    written(rt, answered, answer)
 }
 
 // Answers a line of the script.
-fn answer_line(sheet: &[u8], state: State, line: &[u8], answer: &mut [u8; ANSWER_ROOM]) -> State {
+fn answer_line<R: Print + Eprint>(
+    rt: &R,
+    sheet: &[u8],
+    state: State,
+    line: &[u8],
+    answer: &mut [u8; ANSWER_ROOM],
+) -> State {
     let answered = take(sheet, state, step_of(said(line)), answer);
-    written(answered, answer)
+    written(rt, answered, answer)
 }
 
 // Opens the sheet, then answers each line of the script; what follows its last newline is a line too, unless it is empty.
-pub fn answer_script(sheet: &[u8], script: &[u8]) {
+pub fn answer_script<R: Print + Eprint>(rt: &R, sheet: &[u8], script: &[u8]) {
     let mut answer = [0u8; ANSWER_ROOM];
-    let mut state = begin(sheet, &mut answer);
+    let mut state = begin(rt, sheet, &mut answer);
     let mut at = 0;
     while at < script.len() {
         let end = line_end(script, at);
-        state = answer_line(sheet, state, part(script, at, end), &mut answer);
+        state = answer_line(rt, sheet, state, part(script, at, end), &mut answer);
         at = end + 1;
     }
 }

@@ -1,6 +1,7 @@
 // The emission profile: document 01's limits, relations, rules and verdict as definitions (specs/), with the types and tables that the
 // checker's code shares. The checker itself is the crates above.
 #![tactic(auto)]
+
 pub mod limits;
 pub mod places;
 

@@ -7,7 +7,7 @@ use mathlib.Core.Logic.{◌⊎◌, ⊎_elim, inl, inr}
 use native.Mathlib.Omega.{arith}
 use native.Mathlib.Numerals.{add-one}
 use native.Mathlib.Nat.{eq-or-lt_of_le, eq-zero-or-pos}
-use borrow.Author.Count.{below-more}
+use borrow.Author.Count.{below_more}
 use borrow.Author.Tests.{ltb-true, ltb-false, eqb-true, eq-eqb, ne_eqb, not-false}
 use lib.Dec.{eqb, ltb}
 use lib.ListN.{length, get_or, set, replicate, length-set}
@@ -95,7 +95,7 @@ module _ (s : Sheet) (e g : ℕ → ℕ) where
           | false ↦ λ h.
               let same : get_or t' x 0 ≡ get_or t x 0 = now x l ∙ ap (λ (b : Bool). cond b (suc r) (get_or t x 0)) h in
               ⊎_elim
-              (λ none. inl (same ∙ none.0, below-more (λ i. eqb (g i) x ≡ false) j none.1 (ap (λ (z : ℕ). eqb z x) (sym key) ∙ h)))
+              (λ none. inl (same ∙ none.0, below_more (λ i. eqb (g i) x ≡ false) j none.1 (ap (λ (z : ℕ). eqb z x) (sym key) ∙ h)))
               (λ one. inr (one.0, same ∙ one.1, omega (arith, one.2), one.3))
               (firsts x (rw long at l))
         ]) refl
@@ -128,7 +128,7 @@ module _ (s : Sheet) (e g : ℕ → ℕ) where
 
       pub firsts-next : setsDiffer s (e r) (e j) ≡ false → (t' : List ℕ) → length t' ≡ length t → Standing (λ z. cond (eqb y z) (suc r) (get_or t z 0)) t'
           → Firsts t' (j + 1) × Agree (j + 1)
-      firsts-next d t' long now = (firsts-more t' long now, below-more (λ m. any (λ i. differ i m) m ≡ false) j agree (agree-next d))
+      firsts-next d t' long now = (firsts-more t' long now, below_more (λ m. any (λ i. differ i m) m ≡ false) j agree (agree-next d))
 
       pub found-next : setsDiffer s (e r) (e j) ≡ true → any (λ i. differ i j) j ≡ true
       found-next d =

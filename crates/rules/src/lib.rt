@@ -1,6 +1,7 @@
 // Rules 1 to 24 as functions on a lent sheet: each is the definition of the same name in the profile crate, where the tables that some
 // of them are lent are right.
 #![tactic(auto)]
+
 pub mod groups;
 pub mod header;
 pub mod limits;

@@ -7,12 +7,12 @@ use native.Mathlib.Nat.{add-zero}
 use lib.Dec.{eqb, leb, ltb}
 use borrow.Author.Tests.{eqb-true, eqb-false, ltb-true, ltb-false, le-ltb, eq-eqb, ne_eqb, lt-ltb, not-false, not-true}
 use Rattle.sheet.specs.Words.{Sheet}
-use Rattle.sheet.specs.Layout.{level, count, offset, start, field, first, number, entry, reference}
+use Rattle.sheet.specs.Layout.{count, offset, start, field, first, number, entry, reference}
 use Rattle.sheet.specs.Fields.{objects, packs, tracks, references, valueSets, noPack, trackList, childList, complementList, interact, objectOffset, setSpan, packChannels, trackPack, trackOrdinal, setOwn}
 use Rattle.values.specs.declared.Sort.TheVariants.{Gains, Offsets}
 use Rattle.values.specs.Values.{isAbsent}
 use Rattle.profile.specs.Counting.{any, howMany}
-use Rattle.profile.specs.Limits.{exceeds, limit, childrenLimit, complementsLimit, spanLimit}
+use Rattle.profile.specs.Limits.{exceeds, childrenLimit, complementsLimit, spanLimit}
 use Rattle.profile.specs.Relations.{leader, hasPack, packOf, hasChildren, hasObjectsPack, hasFrontPack, channels, trackAt, ownValue, setValue, effectiveValue, effectiveMinimum, effectiveMaximum}
 use Rattle.profile.specs.Rules.{beyond, lacks, listLacks, badWords, leaves, badComplement, differs, badSet, badSetWords, setRange, setLeaves, badObject, badObjectWords, objectRange, objectLeaves, rule4, rule5, rule8, rule11, rule13, rule14, rule15, rule16, rule17, rule18, rule19, rule20}
 use Rattle.profile.proofs.BoolLaws.{or-false, or-none, or-none-3, or-none-4, and-both, and-second}

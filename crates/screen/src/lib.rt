@@ -1,6 +1,7 @@
 // The screening of a sheet: one pass over each section that shows for most accepted sheets that no rule is broken. Where it cannot tell,
 // the search of the checker decides.
 #![tactic(auto)]
+
 pub mod complements;
 pub mod objects;
 pub mod records;

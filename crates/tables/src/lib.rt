@@ -1,6 +1,7 @@
 // Tables over the records of a sheet, filled in passes over its lists: how often a record is named, and by which record first. What
 // stands at each index is the contract of the function that fills the table.
 #![tactic(auto)]
+
 pub mod coverage;
 pub mod entry_counts;
 pub mod marks;

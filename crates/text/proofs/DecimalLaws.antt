@@ -1,5 +1,5 @@
 -- The digits that `io::decimal` gives, and the number spelled. Assumes nothing.
-use Prim.Native.Nat.{ℕ, zero, suc, ◌+◌, ◌-◌, ◌/◌, ◌%◌, ◌^◌, ◌≤◌, ◌<◌}
+use Prim.Native.Nat.{ℕ, zero, suc, ◌-◌, ◌/◌, ◌%◌, ◌^◌, ◌≤◌, ◌<◌}
 use mathlib.Core.Path.{◌≡◌, refl, ap, ◌∙◌}
 use mathlib.Core.Bool.{true, false, cond}
 use mathlib.Core.List.{[], ◌∷◌, ◌++◌, append-nil}
@@ -12,7 +12,7 @@ use lib.ListN.{length, length-append}
 use mir.Syntax.{w16}
 use mir.Val.{SFits}
 use Rattle.values.specs.Signed.{wordOf}
-use Rattle.io.specs.Digits.{hex_digit_ascii, last_digits, Fewest}
+use Rattle.io.specs.Digits.{hex_digit_ascii, last_digits, IsDigitCount}
 use Rattle.text.specs.Bytes.{ascii, join}
 use Rattle.text.specs.Decimal.{digitByte, spelled, decimal, signedDecimal}
 
@@ -21,11 +21,11 @@ last : (n : ℕ) → hex_digit_ascii (n % 10) ∷ [] ≡ digitByte (n % 10)
 last n = rw (lt-ltb (n % 10) 10 (mod-lt n (omega arith))) refl
 
 -- the least number of that many digits
-least : (n r : ℕ) → Fewest 10 1 n (suc (suc r)) → 10 ^ suc r ≤ n
+least : (n r : ℕ) → IsDigitCount 10 1 n (suc (suc r)) → 10 ^ suc r ≤ n
 least n r (_, below, above) = let e : suc (suc r) - 1 ≡ suc r = omega arith in rw e at (above (omega arith))
 
 -- one digit less
-fewer : (n r : ℕ) → Fewest 10 1 n (suc (suc r)) → Fewest 10 1 (n / 10) (suc r)
+fewer : (n r : ℕ) → IsDigitCount 10 1 n (suc (suc r)) → IsDigitCount 10 1 (n / 10) (suc r)
 fewer n r f =
     let e : suc r - 1 ≡ r = omega arith in (
       omega arith,
@@ -33,10 +33,10 @@ fewer n r f =
       λ h. rw e ((le-div_iff_mul-le {k = 10} {x = 10 ^ r} {y = n} (omega arith)).1 (rw (pow-suc 10 r) at (least n r f))),
     )
 
-ten : (n r : ℕ) → Fewest 10 1 n (suc (suc r)) → 10 ≤ n
+ten : (n r : ℕ) → IsDigitCount 10 1 n (suc (suc r)) → 10 ≤ n
 ten n r f = le_trans (pow-le-pow_right {n = 10} (omega arith) {i = 1} {j = suc r} (omega arith)) (least n r f)
 
-spelled-digits : (k r n : ℕ) → r ≤ suc k → Fewest 10 1 n r → last_digits 10 r n ≡ spelled k n
+spelled-digits : (k r n : ℕ) → r ≤ suc k → IsDigitCount 10 1 n r → last_digits 10 r n ≡ spelled k n
 unfolding spelled
 spelled-digits k zero n l f = absurd (omega arith)
 spelled-digits zero (suc zero) n l f = last n
@@ -48,7 +48,7 @@ spelled-digits (suc k) (suc (suc r)) n l f =
     rw (le-ltb n 10 (ten n r f), spelled-digits k (suc r) (n / 10) (omega arith) (fewer n r f), last n) refl
 
 -- a number of 64 bits has at most 20 digits
-few : (r n : ℕ) → n < 2 ^ 64 → Fewest 10 1 n r → r ≤ 20
+few : (r n : ℕ) → n < 2 ^ 64 → IsDigitCount 10 1 n r → r ≤ 20
 few r n h f =
     (elim (leb r 20) as (λ b. leb r 20 ≡ b → r ≤ 20) [
       | true ↦ λ e. leb-true r 20 e
@@ -59,7 +59,7 @@ few r n h f =
           absurd (omega arith)
     ]) refl
 
-pub decimal-digits : (r n : ℕ) → n < 2 ^ 64 → Fewest 10 1 n r → last_digits 10 r n ≡ decimal n
+pub decimal-digits : (r n : ℕ) → n < 2 ^ 64 → IsDigitCount 10 1 n r → last_digits 10 r n ≡ decimal n
 unfolding decimal
 decimal-digits r n h f = spelled-digits 19 r n (few r n h f) f
 

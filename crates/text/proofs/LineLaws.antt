@@ -1,21 +1,28 @@
 -- What a line says, by its length and its last byte. Assumes nothing.
-use Prim.Native.Nat.{ℕ, ◌+◌, ◌-◌, ◌≤◌}
+use Prim.Native.Nat.{ℕ, ◌+◌, ◌-◌, ◌≤◌, ◌<◌}
 use mathlib.Core.Path.{◌≡◌, refl, ◌∙◌}
 use mathlib.Core.List.{List, [], ◌∷◌}
 use native.Mathlib.Omega.{arith}
 use borrow.Author.Tests.{le-leb, eq-eqb, ne_eqb}
-use lib.ListN.{length, get_or, take, drop_of_length-le}
-use lib.Seq.{take-length}
-use Rattle.bytes.specs.Bytes.{slice, index_of}
+use lib.Dec.{eqb}
+use lib.ListN.{length, get_or, take, drop, drop_of_length-le}
+use lib.Seq.{take-length, length-take-le, drop-cons, get_or-take}
+use Rattle.std.specs.List.{position_or_len}
 use Rattle.text.specs.Lines.{lineEnd, withoutReturn, said}
+
+-- a byte that a stretch has at a place is the first from there on
+pub found-here : (s : List ℕ) (i e x : ℕ) → i < e → e ≤ length s → get_or s i 0 ≡ x → i + position_or_len (λ b. eqb b x) (drop i (take e s)) ≡ i
+found-here s i e x l h f =
+    let fits : i < length (take e s) = rw (length-take-le e s h) l in
+    rw (drop-cons (take e s) i 0 fits, get_or-take e s i 0 l, f, eq-eqb x x refl) (omega arith)
 
 -- where a line ends: past the text, and in it
 pub past-end : (s : List ℕ) (at : ℕ) → length s ≤ at → at ≡ lineEnd s at
-unfolding lineEnd index_of
+unfolding lineEnd
 past-end s at h = rw (drop_of_length-le s h) (omega arith)
 
-pub found-end : (s : List ℕ) (at r : ℕ) → r ≡ at + index_of 10 (slice at (length s) s) → r ≡ lineEnd s at
-unfolding lineEnd slice
+pub found-end : (s : List ℕ) (at r : ℕ) → r ≡ at + position_or_len (λ b. eqb b 10) (drop at (take (length s) s)) → r ≡ lineEnd s at
+unfolding lineEnd
 found-end s at r e = e ∙ rw (take-length s) refl
 
 pub none : (s : List ℕ) → length s ≡ 0 → s ≡ said s

@@ -1,6 +1,6 @@
 -- Lines of text, and the fields of a line. Assumes nothing.
 use Rattle.std.specs.Prelude.{ℕ, ◌+◌, ◌-◌, Bool, cond, ◌&&◌, ◌||◌, List, [], ◌∷◌, ◌++◌, eqb, leb, length, get_or, take, drop}
-use Rattle.bytes.specs.Bytes.{index_of}
+use Rattle.std.specs.List.{position_or_len}
 
 -- a text from one place to another; empty where it has no such part
 unfoldable pub part : List ℕ → ℕ → ℕ → List ℕ
@@ -8,7 +8,7 @@ part s start end = cond (leb start end && leb end (length s)) (take (end - start
 
 -- where the line that begins at a place of a text ends: before its newline, which is 10, or at the text's end
 unfoldable pub lineEnd : List ℕ → ℕ → ℕ
-lineEnd s at = at + index_of 10 (drop at s)
+lineEnd s at = at + position_or_len (λ b. eqb b 10) (drop at s)
 
 -- a line without a carriage return at its end; 13 is the carriage return
 unfoldable pub withoutReturn : List ℕ → List ℕ

@@ -1,5 +1,6 @@
 // What the programs read and write: files and arguments, lines and their fields, numbers, and texts in a lent buffer.
 #![tactic(auto)]
+
 pub mod lines;
 pub mod numbers;
 pub mod output;

@@ -1,10 +1,9 @@
 // Lines of text, and the fields of a line.
-ghost use Rattle.std.specs.Prelude.{◌≤◌, [], ◌≡◌, length, get_or};
+ghost use Rattle.std.specs.Prelude.{◌+◌, ◌≤◌, [], ◌≡◌, ◌==◌, length, get_or, take, drop};
+ghost use Rattle.std.specs.List.{position_or_len};
 ghost use Rattle.text.specs.Bytes.{same};
 ghost use Rattle.text.specs.Lines.{fields, isBlank, lineEnd, part, said};
 ghost use Rattle.text.specs.steps.Stretches.{isSuch, nextField, stretchEnd};
-
-use bytes::scan::find;
 
 // The longest line that can be a command, without its newline.
 const LONGEST: usize = 256;
@@ -16,7 +15,7 @@ pub const ROOM: usize = LONGEST + 1;
 pub fn same(a: &[u8], b: &[u8]) -> bool
     ensures { result ≡ same a.now b.now }
 {
-    check::same(a, b)
+    a == b
 }
 
 // A part of a text; empty where the text has no such part.
@@ -30,6 +29,23 @@ pub fn part(text: &[u8], start: usize, end: usize) -> &[u8]
         return &text[..0];
     }
     &text[start..end]
+}
+
+// The first place from `at` on, before `end`, at which a text has the byte; `end` where there is none.
+fn find(text: &[u8], at: usize, end: usize, byte: u8) -> usize
+    requires ordered { at ≤ end }
+    requires in_bounds { end ≤ length text.now }
+    ensures place { result ≡ at + position_or_len (λ b. b == byte) (drop at (take end text.now)) }
+    ensures within { result ≤ end }
+{
+    let mut i = at;
+    while i < end {
+        if text[i] == byte {
+            return i;
+        }
+        i += 1;
+    }
+    end
 }
 
 // Where the line that begins at a place of a text ends: before its newline, or at the text's end.

@@ -1,76 +1,137 @@
 // Reading a whole input, with an error told from the end, and the files that arguments name.
 ghost use Rattle.io.specs.Counts.{IsPrefixLen};
+ghost use Rattle.std.specs.Io.KnownBytes.{Consumes, IsAtEnd};
+ghost use Rattle.std.specs.Prelude.{◌<◌, IsNone, length, take};
 
 use crate::lines::same;
+use crate::output::say_failure;
+use std::env::{Env, FillError};
+use std::fmt::Display;
+use std::fs::Files;
+use std::io::{Error, ErrorKind, Read};
+use std::{fs, str};
 
-// What reading gave: so many bytes at the start of the buffer, and whether it stopped there because a read failed.
+// What reading gave: so many bytes at the start of the buffer, and why it stopped there, if a read failed.
 #[derive(Clone, Copy)]
 pub struct Input {
     pub count: usize,
-    pub failed: bool,
+    pub failed: Option<Error>,
 }
 
-// Reads until the buffer is full, the input ends or a read fails; a read may give less than it is asked for.
-pub fn read_input(fd: i32, buffer: &mut [u8]) -> Input
-    ensures { IsPrefixLen result.count buffer.new }
+// Reads until the buffer is full, the input ends or a read fails; a read may give less than it is asked for. Where the reader's bytes are
+// known, those are the first of them, and all of them if no read failed and the buffer is not full.
+pub fn read_input<R: Read>(reader: &mut R, buffer: &mut [u8]) -> Input
+    ensures bound { IsPrefixLen result.count buffer.new }
+    ensures bytes { Consumes (R.remaining reader.old) (R.remaining reader.new) (take result.count buffer.new) }
+    ensures whole { IsNone result.failed → result.count < length buffer.new → IsAtEnd (R.remaining reader.new) }
 {
     let mut n = 0;
     while n < buffer.len() {
-        let got = libc::read(fd, &mut buffer[n..]);
-        let more = io::count(got, &buffer[n..]);
-        if more == 0 {
-            return Input {
-                count: n,
-                failed: got < 0,
-            };
+        match reader.read(&mut buffer[n..]) {
+            Ok(0) => {
+                return Input {
+                    count: n,
+                    failed: None,
+                };
+            }
+            Ok(more) => n += more,
+            Err(error) => {
+                return Input {
+                    count: n,
+                    failed: Some(error),
+                };
+            }
         }
-        n += more;
     }
     Input {
         count: n,
-        failed: false,
+        failed: None,
+    }
+}
+
+// How many arguments the program was started with, its own name among them.
+pub fn arg_count<R: Env>(rt: &R) -> usize {
+    for i in 0..usize::MAX {
+        if let Err(FillError::NotPresent) = rt.arg(i, &mut []) {
+            return i;
+        }
+    }
+    usize::MAX
+}
+
+// An argument as text, which the name of a file has to be.
+fn argument_text<'a, R: Env>(rt: &R, i: usize, room: &'a mut [u8]) -> Result<&'a str, Error> {
+    match rt.arg(i, room) {
+        Ok(n) => match str::from_utf8(&room[..n]) {
+            Ok(name) => Ok(name),
+            Err(_) => Err(Error::from(ErrorKind::InvalidFilename)),
+        },
+        Err(FillError::NotPresent) => Err(Error::from(ErrorKind::InvalidInput)),
+        Err(FillError::TooLong) => Err(Error::from(ErrorKind::InvalidFilename)),
+    }
+}
+
+// Says on standard error why an argument does not serve.
+pub fn refuse_argument<R: Env + Eprint, D: Display + Drop>(rt: &R, i: usize, why: D) {
+    let mut room = io::buffer();
+    match argument_text(rt, i, &mut room) {
+        Ok(name) => say_failure(rt, name, why),
+        Err(error) => say_failure(rt, "argument", error),
+    }
+}
+
+// Reads the file of this name. Where that fails, standard error says why.
+fn read_file<R: Files + Eprint>(rt: &R, name: &str, buffer: &mut [u8]) -> Input
+    ensures { IsPrefixLen result.count buffer.new }
+{
+    match fs::open(rt, name) {
+        Ok(mut file) => {
+            let input = read_input(&mut file, buffer);
+            if let Some(error) = input.failed {
+                say_failure(rt, name, error);
+            }
+            input
+        }
+        Err(error) => {
+            say_failure(rt, name, error);
+            Input {
+                count: 0,
+                failed: Some(error),
+            }
+        }
     }
 }
 
 // Reads the file that an argument names. Where that fails, standard error says why.
-pub fn read_argument(i: usize, buffer: &mut [u8]) -> Input
+pub fn read_argument<R: Env + Files + Eprint>(rt: &R, i: usize, buffer: &mut [u8]) -> Input
     ensures { IsPrefixLen result.count buffer.new }
 {
-    let mut name = io::buffer();
-    let n = os::arg(i, &mut name);
-    if os::errno() != 0 {
-        os::fail(b"argument");
-        return Input {
-            count: 0,
-            failed: true,
-        };
+    let mut room = io::buffer();
+    match argument_text(rt, i, &mut room) {
+        Ok(name) => read_file(rt, name, buffer),
+        Err(error) => {
+            say_failure(rt, "argument", error);
+            Input {
+                count: 0,
+                failed: Some(error),
+            }
+        }
     }
-    let fd = os::open_read(&name[..n]);
-    if fd < 0 {
-        os::fail(&name[..n]);
-        return Input {
-            count: 0,
-            failed: true,
-        };
-    }
-    let input = read_input(fd, buffer);
-    if input.failed {
-        os::fail(&name[..n]);
-    }
-    libc::close(fd);
-    input
 }
 
 // Whether an argument is this word.
-pub fn argument_is(i: usize, word: &[u8]) -> bool {
-    let mut name = io::buffer();
-    let n = os::arg(i, &mut name);
-    same(&name[..n], word)
+pub fn argument_is<R: Env>(rt: &R, i: usize, word: &[u8]) -> bool {
+    let mut room = io::buffer();
+    match rt.arg(i, &mut room) {
+        Ok(n) => same(&room[..n], word),
+        Err(_) => false,
+    }
 }
 
-// Writes an argument as it was given.
-pub fn write_argument(fd: i32, i: usize) {
-    let mut name = io::buffer();
-    let n = os::arg(i, &mut name);
-    io::write_all(fd, &name[..n]);
+// Writes an argument to standard output, as it was given.
+pub fn write_argument<R: Env + Print>(rt: &R, i: usize) {
+    let mut room = io::buffer();
+    if let Ok(n) = rt.arg(i, &mut room) {
+        let _ = rt.write_all(&room[..n]);
+    }
 }

@@ -36,7 +36,7 @@ small (negsuc n) s = omega arith
 
 -- a number that fits is handed on as it is
 pub held : (z : ℤ) → mag z < 32768 → to_z w16 (of_z w16 z) ≡ z
-held z h = to_z-of_z (record { sfits = h })
+held z h = to_z-of_z {w = w16} (record { sfits = h })
 
 -- the number of a word fits
 pub kept : (w : ℕ) → w < 65536 → to_z w16 (of_z w16 (signedOf w)) ≡ signedOf w

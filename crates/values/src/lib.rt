@@ -1,6 +1,7 @@
 // The values of a sheet: signed words, gains, offsets, languages and loudness. Numbers only, no slices.
 // The sentences quoted in this crate are those of document 01, "The sheet".
 #![tactic(auto)]
+
 pub mod gains;
 pub mod language;
 pub mod offset;

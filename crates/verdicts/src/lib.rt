@@ -1,5 +1,6 @@
 // A verdict as a line of text, for every program that prints one: `verdict_line` is the line of the verdict on lent bytes.
 #![tactic(auto)]
+
 ghost use Rattle.std.specs.Prelude.{◌≡◌};
 ghost use Rattle.checker.specs.Checked.{checked};
 ghost use Rattle.verdicts.specs.VerdictLine.{verdictLine};

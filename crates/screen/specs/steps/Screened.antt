@@ -1,12 +1,10 @@
 -- What the screening of a sheet tests of a record. Assumes nothing.
-use Rattle.std.specs.Prelude.{ℕ, ◌<◌, Bool, false, ◌||◌, ◌≡◌, List, ltb, length}
+use Rattle.std.specs.Prelude.{ℕ, ◌<◌, Bool, false, ◌||◌, ◌≡◌, List, length}
 use Rattle.sheet.specs.Words.{Sheet}
-use Rattle.sheet.specs.Layout.{count, offset}
-use Rattle.sheet.specs.Fields.{programmes, contents, objects, packs, tracks, references, valueSets}
-use Rattle.values.specs.Language.{language, loudness}
-use Rattle.profile.specs.Counting.{any, twoOf}
-use Rattle.profile.specs.Limits.{exceeds, labelsLimit, programmeContentsLimit, programmeSetsLimit}
-use Rattle.profile.specs.Rules.{badPack, outside, rule1, rule2, rule3, rule4, rule5, rule6, rule7, rule8, rule9, rule10, rule11, rule12, rule23, rule24}
+use Rattle.sheet.specs.Layout.{count}
+use Rattle.sheet.specs.Fields.{programmes, contents, objects, packs, tracks, valueSets}
+use Rattle.profile.specs.Counting.{any}
+use Rattle.profile.specs.Rules.{badPack, rule1, rule2, rule3, rule5, rule7, rule10, rule11, rule12, rule23, rule24}
 use Rattle.tables.specs.steps.Marks.{Standing}
 use Rattle.tables.specs.steps.Right.{Named, Listed, Tops, Complemented, Spanned, Owners}
 use Rattle.lists.specs.steps.Speech.{contentBroken, programmeBroken}

@@ -1,0 +1,39 @@
+-- The tables are right, and the pass tells the rest. Assumes nothing.
+use Prim.Native.Nat.{ℕ}
+use mathlib.Core.Path.{sym, ◌∙◌}
+use native.Mathlib.Omega.{arith}
+use lib.ListN.{replicate}
+use lib.Seq.{length-take-le}
+use Rattle.sheet.specs.Words.{sheetOf}
+use Rattle.tables.specs.declared.Naming.TheVariants.{SetSpans}
+use Rattle.tables.proofs.MarkLaws.{nought}
+use Rattle.checker.proofs.SearchLaws.{firsts-made}
+use Rattle.checker.proofs.groups.kept_programmes.Goals as goal
+
+pub returns-then-m-gt2048 : goal.returns-then-m-gt2048
+returns-then-m-gt2048 c = λ apart p l. absurd (omega (arith, l))
+
+pub returns-then-not-sets_once : goal.returns-then-not-sets_once
+returns-then-not-sets_once c = λ apart p l. absurd (omega (arith, l))
+
+pub slice_bounds-kept_from-end-3 : goal.slice_bounds-kept_from-end-3
+slice_bounds-kept_from-end-3 c =
+    sym (length-take-le c.count-m.result c.first_namers-2.new.table (omega (arith, c.if-m-gt2048.false, c.first_namers-2.ensures.0)))
+
+pub slice_bounds-kept_from-end-4 : goal.slice_bounds-kept_from-end-4
+slice_bounds-kept_from-end-4 c =
+    sym (length-take-le c.count-m.result (replicate 2048 0) (omega (arith, c.if-m-gt2048.false)))
+
+pub slice_bounds-kept_from-end-5 : goal.slice_bounds-kept_from-end-5
+slice_bounds-kept_from-end-5 c =
+    sym (length-take-le c.count-m.result (replicate 2048 0) (omega (arith, c.if-m-gt2048.false)))
+
+pub returns : goal.returns
+returns c =
+    λ apart.
+    let objects = c.count-m in let owners = c.first_namers in let leaders = c.first_namers-2 in let full = length-take-le {A = ℕ} objects.result (replicate 2048 0) (omega (arith, c.if-m-gt2048.false)) ∙ objects.ensures in
+    c.kept_from.ensures.kept (
+      firsts-made (sheetOf c.args.s.now) (replicate 4680 0) (λ x h. nought 4680 x) SetSpans owners.new.table owners.ensures.0 owners.ensures.1,
+      c.fill_alike.ensures.1 (λ x h. nought 4680 x),
+      λ f. c.sets_once.ensures c.if-not-sets_once.false,
+    ) (length-take-le objects.result leaders.new.table (omega (arith, c.if-m-gt2048.false, leaders.ensures.0)) ∙ objects.ensures, full, full) apart (λ q h. absurd (omega (arith, h)))

@@ -1,0 +1,18 @@
+-- By the gain. Assumes nothing.
+use mathlib.Core.Path.{◌≡◌}
+use mir.Syntax.{w16}
+use mir.Val.{to_z, of_z}
+use Rattle.console.specs.Answers.{gainText}
+use borrow.Author.Rules.{rules}
+use Rattle.console.proofs.answers.put_gain.Goals as goal
+
+pub returns-in-Silent : goal.returns-in-Silent
+unfolding gainText
+returns-in-Silent c =
+    rw c.in-Silent.is c.put_text.ensures
+
+pub returns-in-Tenths : goal.returns-in-Tenths
+unfolding gainText
+returns-in-Tenths c =
+    let p : to_z w16 (of_z w16 c.in-Tenths.z) ≡ c.in-Tenths.z = search rules in
+    rw c.in-Tenths.is (rw p at c.put_signed.ensures)

@@ -1,0 +1,17 @@
+-- The opening's answer has room. Assumes nothing.
+use mathlib.Core.Path.{ap}
+use Rattle.sheet.specs.Words.{sheetOf}
+use Rattle.listener.specs.Calls.{opened}
+use Rattle.listener.specs.declared.Reply.{Reply}
+use native.Mathlib.Omega.{arith}
+use Rattle.console.proofs.AnswerLaws.{answer-fits}
+use Rattle.text.proofs.BufferLaws.{put-fills}
+use Rattle.console.proofs.bench.opened.Goals as goal
+
+pub returns : goal.returns
+returns c =
+    let e = c.open-opening.ensures in
+    record {
+      state_value = ap (λ (r : Reply). r.state) e;
+      text_filled = put-fills _ _ _ _ (rw e at c.put_answer-count.ensures) (omega (arith, answer-fits (opened (sheetOf c.args.sheet.now)).answer));
+    }

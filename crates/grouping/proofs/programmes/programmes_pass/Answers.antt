@@ -1,0 +1,40 @@
+-- The part of each table that has as many places as there are objects; no set stands for another. Assumes nothing.
+use mathlib.Core.Path.{refl, sym, ◌∙◌}
+use mathlib.Core.Bool.{true≢false}
+use native.Mathlib.Omega.{arith}
+use lib.Seq.{length-take-le}
+use borrow.Author.Tests.{eqb-true}
+use Rattle.sheet.specs.Words.{sheetOf}
+use Rattle.inclusion.proofs.AlikeLaws.{alike-empty}
+use borrow.Author.Rules.{rules}
+use Rattle.grouping.proofs.programmes.programmes_pass.Goals as goal
+
+pub returns-then-included-n : goal.returns-then-included-n
+returns-then-included-n c = (refl, refl, refl, λ e. absurd (true≢false (sym e)))
+
+pub returns-then-first-n : goal.returns-then-first-n
+returns-then-first-n c = (refl, refl, refl, λ e. absurd (true≢false (sym e)))
+
+pub returns-then-second-n : goal.returns-then-second-n
+returns-then-second-n c = (refl, refl, refl, λ e. absurd (true≢false (sym e)))
+
+pub slice_bounds-kept_from-end-3 : goal.slice_bounds-kept_from-end-3
+slice_bounds-kept_from-end-3 c = sym (length-take-le c.count-n.result c.args.first.now c.if-first-n.false)
+
+pub slice_bounds-kept_from-end-5 : goal.slice_bounds-kept_from-end-5
+slice_bounds-kept_from-end-5 c = sym (length-take-le c.count-n.result c.args.second.now c.if-second-n.false)
+
+pub slice_bounds-kept_from-end-7 : goal.slice_bounds-kept_from-end-7
+slice_bounds-kept_from-end-7 c = sym (length-take-le c.count-n.result c.args.included.now c.if-included-n.false)
+
+pub returns : goal.returns
+returns c =
+    let a = c.args in let n = c.count-n in let kept = c.kept_from in (
+      search rules,
+      search rules,
+      search rules,
+      λ e owns ground p l.
+          kept.ensures.kept (owns, alike-empty (sheetOf a.s.now), λ f. ground.0)
+          (length-take-le n.result a.first.now c.if-first-n.false ∙ n.ensures, length-take-le n.result a.second.now c.if-second-n.false ∙ n.ensures, length-take-le n.result a.included.now c.if-included-n.false ∙ n.ensures)
+          ground.1 (λ q l. absurd (omega arith)) p (omega (arith, eqb-true kept.result c.count.result e, c.count.ensures, l)),
+    )

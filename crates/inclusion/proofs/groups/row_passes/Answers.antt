@@ -1,0 +1,11 @@
+-- By what the table has, or by the leader. Assumes nothing.
+use mathlib.Core.Path.{sym, ◌∙◌}
+use mathlib.Core.Logic.{inl, inr}
+use borrow.Author.Tests.{eqb-true}
+use Rattle.inclusion.proofs.groups.row_passes.Goals as goal
+
+pub returns-then-at : goal.returns-then-at
+returns-then-at c = λ e. inl (sym c.at.ensures ∙ c.if-at.true ∙ c.at-2.ensures)
+
+pub returns : goal.returns
+returns c = λ e. inr (eqb-true _ _ e)

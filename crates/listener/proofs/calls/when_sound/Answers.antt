@@ -1,0 +1,16 @@
+-- 25, then 26, then the rest. Assumes nothing.
+use mathlib.Core.Path.{sym, ◌∙◌}
+use Rattle.listener.specs.steps.Answers.{whenSound}
+use Rattle.listener.proofs.calls.when_sound.Goals as goal
+
+pub returns-then-sound : goal.returns-then-sound
+unfolding whenSound
+returns-then-sound c = simp (sym c.sound.ensures ∙ c.if-sound.true, sym c.opens.ensures ∙ c.if-opens.true)
+
+pub returns-else-sound : goal.returns-else-sound
+unfolding whenSound
+returns-else-sound c = simp (sym c.sound.ensures ∙ c.if-sound.false, sym c.opens.ensures ∙ c.if-opens.true)
+
+pub returns-else-opens : goal.returns-else-opens
+unfolding whenSound
+returns-else-opens c = simp (sym c.opens.ensures ∙ c.if-opens.false)

@@ -1,0 +1,29 @@
+-- The flags, then each object by the tables, then the rest by itself. Assumes nothing.
+use Prim.Native.Nat.{◌-◌, ◌≤◌}
+use mathlib.Core.Path.{◌≡◌}
+use mathlib.Core.Bool.{cond, ◌&&◌, ◌||◌}
+use lib.Dec.{ltb}
+use Rattle.sheet.specs.Words.{sheetOf}
+use Rattle.profile.specs.Counting.{every}
+use Rattle.listener.specs.State.{stateObjects, setting, active as isActive, isResting}
+use Rattle.listener.specs.steps.Settings.{flaggedSound}
+use Rattle.listener.proofs.FillLaws.{Begun}
+use Rattle.listener.proofs.sounding.sound.Given as goal
+
+abbrev pub invariant-loop-o : goal.invariant-loop-o
+invariant-loop-o l = (l.o ≤ l.n) × Begun stateObjects (λ q. cond (isActive l.state q) 1 0) 0 0 l.active l.o
+
+abbrev pub decreases-loop-o : goal.decreases-loop-o
+decreases-loop-o l = l.n - l.o
+
+abbrev pub invariant-loop-o-2 : goal.invariant-loop-o-2
+invariant-loop-o-2 l = (l.o ≤ l.n) × (l.good ≡ every (λ q. flaggedSound (sheetOf l.s) l.state.programme l.active q (setting l.state q)) l.o)
+
+abbrev pub decreases-loop-o-2 : goal.decreases-loop-o-2
+decreases-loop-o-2 l = l.n - l.o
+
+abbrev pub invariant-loop-o-3 : goal.invariant-loop-o-3
+invariant-loop-o-3 l = (l.o ≤ stateObjects) × (l.n ≤ l.o) × (l.good ≡ (l.initial.good && every (λ q. ltb q l.n || isResting (setting l.state q)) l.o))
+
+abbrev pub decreases-loop-o-3 : goal.decreases-loop-o-3
+decreases-loop-o-3 l = stateObjects - l.o

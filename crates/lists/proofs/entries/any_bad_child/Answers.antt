@@ -1,0 +1,18 @@
+use mathlib.Core.Path.{◌≡◌, refl, ap, ◌∙◌}
+use native.Mathlib.Omega.{arith}
+use native.Mathlib.Numerals.{add-one}
+use Rattle.profile.specs.Counting.{any}
+use borrow.Author.Rules.{rules}
+use Rattle.lists.specs.steps.Entries.{badChildAt}
+use Rattle.lists.proofs.entries.any_bad_child.Goals as goal
+
+pub loop-i-init : goal.loop-i-init
+unfolding any
+loop-i-init c = (search rules, refl)
+
+pub loop-i-preserved : goal.loop-i-preserved
+unfolding any badChildAt
+loop-i-preserved c = (search rules, rw (add-one, c.has_objects_pack.ensures, c.entry_at-e.ensures, c.loop-i.invariant.1))
+
+pub returns : goal.returns
+returns c = let e : c.loop-i.i ≡ c.args.n = omega arith in c.loop-i.invariant.1 ∙ ap (any _) e

@@ -1,0 +1,13 @@
+-- Found so far is what the entries passed have. Assumes nothing.
+use Prim.Native.Nat.{◌-◌, ◌≤◌}
+use mathlib.Core.Path.{◌≡◌}
+use Rattle.profile.specs.Counting.{any}
+use Rattle.sheet.specs.Words.{sheetOf}
+use Rattle.lists.specs.steps.Entries.{lackingAt}
+use Rattle.lists.proofs.entries.any_lacking.Given as goal
+
+abbrev pub invariant-loop-i : goal.invariant-loop-i
+invariant-loop-i l = (l.i ≤ l.n) × (l.found ≡ any (lackingAt (sheetOf l.s) l.base l.first l.many) l.i)
+
+abbrev pub decreases-loop-i : goal.decreases-loop-i
+decreases-loop-i l = l.n - l.i

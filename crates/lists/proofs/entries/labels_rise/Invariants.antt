@@ -1,0 +1,15 @@
+-- The labels passed are languages and below the last one. Assumes nothing.
+use Prim.Native.Nat.{◌-◌, ◌≤◌}
+use mathlib.Core.Path.{◌≡◌}
+use mathlib.Core.Bool.{false}
+use Rattle.sheet.specs.Words.{sheetOf}
+use Rattle.profile.specs.Counting.{any}
+use Rattle.lists.specs.steps.Entries.{entryAt, noLanguageAt, sameAt}
+use Rattle.lists.proofs.RisingLaws.{Below}
+use Rattle.lists.proofs.entries.labels_rise.Given as goal
+
+abbrev pub invariant-loop-i : goal.invariant-loop-i
+invariant-loop-i l = (l.i ≤ l.n) × Below (entryAt (sheetOf l.s) l.base l.first) l.i l.last × (any (noLanguageAt (sheetOf l.s) l.base l.first) l.i ≡ false) × (any (λ k. any (λ h. sameAt (sheetOf l.s) l.base l.first h k) k) l.i ≡ false)
+
+abbrev pub decreases-loop-i : goal.decreases-loop-i
+decreases-loop-i l = l.n - l.i

@@ -1,0 +1,28 @@
+use mathlib.Core.Path.{◌≡◌, refl, ap, ◌∙◌}
+use native.Mathlib.Omega.{arith}
+use native.Mathlib.Numerals.{add-one}
+use Rattle.profile.specs.Counting.{sum}
+use Rattle.relations.specs.steps.Sizes.{childrenTracks}
+use borrow.Author.Rules.{rules}
+use Rattle.relations.proofs.sizes.children_tracks.Goals as goal
+
+pub loop-i-init : goal.loop-i-init
+unfolding sum
+loop-i-init c = (search rules, search rules, refl)
+
+pub overflow_add-total : goal.overflow_add-total
+overflow_add-total c = omega arith
+
+pub loop-i-preserved : goal.loop-i-preserved
+unfolding sum
+loop-i-preserved c = (
+  search rules,
+  omega arith,
+  rw (add-one, c.loop-i.invariant.2, c.number.ensures, c.entry.ensures),
+)
+
+pub returns : goal.returns
+unfolding childrenTracks
+returns c =
+    let e : c.loop-i.i ≡ c.number-n.result = omega arith in
+    c.loop-i.invariant.2 ∙ ap (sum _) (e ∙ c.number-n.ensures)

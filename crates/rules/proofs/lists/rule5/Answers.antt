@@ -1,0 +1,40 @@
+-- The indices of each section. Assumes nothing.
+use Rattle.profile.specs.Rules.{rule5}
+use Rattle.sheet.specs.Fields.{contents, objects, tracks, valueSets}
+use Rattle.runs.specs.declared.ReferenceTest.TheVariants.{Lacks}
+use Rattle.runs.specs.steps.Runs.{NextRight}
+use Rattle.rules.specs.steps.Loops.{firstTarget, secondTarget}
+use Rattle.sheet.specs.Words.{sheetOf}
+use Rattle.profile.proofs.BoolLaws.{or-false}
+use native.Mathlib.Omega.{arith}
+use borrow.Author.Tests.{ne_eqb}
+use Rattle.rules.proofs.lists.rule5.Goals as goal
+
+pub returns-in-1 : goal.returns-in-1
+unfolding rule5 firstTarget secondTarget
+returns-in-1 c = λ first second.
+    let a = c.args in let s = sheetOf a.s.now in
+    let f : NextRight s (Lacks contents) a.first.now = rw c.in-1.is at first in
+    let g : NextRight s (Lacks valueSets) a.second.now = rw c.in-1.is at second in
+    simp (c.list_lacks_by-in-1.ensures g, c.list_lacks_by.ensures f, c.in-1.is, or-false)
+
+pub returns-in-2 : goal.returns-in-2
+unfolding rule5
+returns-in-2 c = λ first second. simp (c.lacks.ensures, c.field.ensures, c.in-2.is, or-false)
+
+pub returns-in-3 : goal.returns-in-3
+unfolding rule5 firstTarget secondTarget
+returns-in-3 c =
+    λ first second.
+    let a = c.args in let s = sheetOf a.s.now in
+    let f : NextRight s (Lacks tracks) a.first.now = rw c.in-3.is at first in
+    let g : NextRight s (Lacks objects) a.second.now = rw c.in-3.is at second in
+    simp (c.list_lacks_by-in-3-3.ensures g, c.list_lacks_by-in-3-2.ensures g, c.list_lacks_by-in-3.ensures f, c.lacks-in-3.ensures, c.pack_of.ensures, c.has_pack.ensures, c.in-3.is, or-false)
+
+pub returns-in-5 : goal.returns-in-5
+unfolding rule5
+returns-in-5 c = λ first second. simp (c.lacks-in-5.ensures, c.field-in-5.ensures, c.in-5.is)
+
+pub returns-in_default : goal.returns-in_default
+unfolding rule5
+returns-in_default c = λ first second. simp (ne_eqb c.args.section 1 (omega arith), ne_eqb c.args.section 2 (omega arith), ne_eqb c.args.section 3 (omega arith), ne_eqb c.args.section 5 (omega arith), or-false)

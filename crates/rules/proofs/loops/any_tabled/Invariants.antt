@@ -1,0 +1,14 @@
+-- Found so far is what the entries passed have. Assumes nothing.
+use Prim.Native.Nat.{◌+◌, ◌-◌, ◌≤◌}
+use mathlib.Core.Path.{◌≡◌}
+use Rattle.profile.specs.Counting.{any}
+use Rattle.sheet.specs.Layout.{reference}
+use Rattle.sheet.specs.Words.{sheetOf}
+use Rattle.rules.specs.steps.Loops.{tabledTest, tabledRight}
+use Rattle.rules.proofs.loops.any_tabled.Given as goal
+
+abbrev pub invariant-loop-i : goal.invariant-loop-i
+invariant-loop-i l = (l.i ≤ l.n) × (tabledRight (sheetOf l.s) l.test l.a l.b → l.found ≡ any (λ j. tabledTest (sheetOf l.s) l.test (reference (sheetOf l.s) (l.first + j))) l.i)
+
+abbrev pub decreases-loop-i : goal.decreases-loop-i
+decreases-loop-i l = l.n - l.i

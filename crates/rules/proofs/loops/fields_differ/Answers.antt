@@ -1,0 +1,19 @@
+use mathlib.Core.Path.{◌≡◌, refl, ap, ◌∙◌}
+use native.Mathlib.Omega.{arith}
+use native.Mathlib.Numerals.{add-one}
+use Rattle.profile.specs.Counting.{any}
+use Rattle.rules.specs.steps.Loops.{fieldsDiffer}
+use borrow.Author.Rules.{rules}
+use Rattle.rules.proofs.loops.fields_differ.Goals as goal
+
+pub loop-f-init : goal.loop-f-init
+unfolding any
+loop-f-init c = (search rules, refl)
+
+pub loop-f-preserved : goal.loop-f-preserved
+unfolding any
+loop-f-preserved c = (search rules, rw (add-one, c.field-in-loop-f.ensures, c.field.ensures, c.loop-f.invariant.1))
+
+pub returns : goal.returns
+unfolding fieldsDiffer
+returns c = let e : c.loop-f.f ≡ 7 = omega arith in c.loop-f.invariant.1 ∙ ap (any _) e

@@ -1,0 +1,14 @@
+-- The sum so far is that of the objects passed. Assumes nothing.
+use Prim.Native.Nat.{◌*◌, ◌-◌, ◌≤◌}
+use mathlib.Core.Path.{◌≡◌}
+use Rattle.profile.specs.Counting.{sum}
+use Rattle.sheet.specs.Fields.{objects}
+use Rattle.profile.specs.Relations.{times}
+use Rattle.sheet.specs.Words.{sheetOf}
+use Rattle.rules.proofs.loops.total_times.Given as goal
+
+abbrev pub invariant-loop-q : goal.invariant-loop-q
+invariant-loop-q l = (l.q ≤ l.n) × (l.total ≤ 65535 * l.q) × (l.total ≡ sum (λ j. times (sheetOf l.s) objects j l.at l.x) l.q)
+
+abbrev pub decreases-loop-q : goal.decreases-loop-q
+decreases-loop-q l = l.n - l.q

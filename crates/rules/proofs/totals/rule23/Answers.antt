@@ -1,0 +1,7 @@
+-- Groups and units. Assumes nothing.
+use Rattle.profile.specs.Rules.{rule23}
+use Rattle.rules.proofs.totals.rule23.Goals as goal
+
+pub returns : goal.returns
+unfolding rule23
+returns c = λ tops complements. simp (c.exceeds-2.ensures, c.units.ensures tops complements, c.exceeds.ensures, c.groups.ensures)

@@ -1,0 +1,17 @@
+-- No content passed breaks one. Assumes nothing.
+use Prim.Native.Nat.{◌-◌, ◌≤◌}
+use mathlib.Core.Path.{◌≡◌}
+use mathlib.Core.Bool.{false, ◌||◌}
+use Rattle.sheet.specs.Words.{sheetOf}
+use Rattle.profile.specs.Counting.{any}
+use Rattle.profile.specs.Rules.{rule12}
+use Rattle.sheet.specs.Fields.{contents}
+use Rattle.lists.specs.steps.Speech.{contentBroken}
+use Rattle.tables.specs.steps.Right.{Listed}
+use Rattle.screen.proofs.records.contents_keep.Given as goal
+
+abbrev pub invariant-loop-k : goal.invariant-loop-k
+invariant-loop-k l = (l.k ≤ l.n) × (Listed (sheetOf l.s) l.listed → any (λ k. contentBroken (sheetOf l.s) k || rule12 (sheetOf l.s) contents k) l.k ≡ false)
+
+abbrev pub decreases-loop-k : goal.decreases-loop-k
+decreases-loop-k l = l.n - l.k

@@ -1,0 +1,14 @@
+-- No programme passed breaks one. Assumes nothing.
+use Prim.Native.Nat.{◌-◌, ◌≤◌}
+use mathlib.Core.Path.{◌≡◌}
+use mathlib.Core.Bool.{false}
+use Rattle.sheet.specs.Words.{sheetOf}
+use Rattle.profile.specs.Counting.{any}
+use Rattle.lists.specs.steps.Speech.{programmeBroken}
+use Rattle.screen.proofs.records.programmes_keep.Given as goal
+
+abbrev pub invariant-loop-k : goal.invariant-loop-k
+invariant-loop-k l = (l.k ≤ l.n) × (any (programmeBroken (sheetOf l.s)) l.k ≡ false)
+
+abbrev pub decreases-loop-k : goal.decreases-loop-k
+decreases-loop-k l = l.n - l.k

@@ -1,0 +1,33 @@
+-- The line's pieces, one behind the other. Assumes nothing.
+use Rattle.verdicts.specs.VerdictLine.{verdictLine}
+use Rattle.text.proofs.BufferLaws.{put-join, put-none}
+use Rattle.verdicts.proofs.put_verdict.Goals as goal
+
+pub returns-in-Accepted : goal.returns-in-Accepted
+unfolding verdictLine
+returns-in-Accepted c =
+    rw c.in-Accepted.is c.put_text.ensures
+
+pub returns-in-Broken : goal.returns-in-Broken
+unfolding verdictLine
+returns-in-Broken c =
+    rw (
+      c.in-Broken.is,
+      put-join,
+      put-join,
+      put-join,
+      put-join,
+      put-join,
+      put-join,
+      put-join,
+      put-none,
+      ← c.put_text-n.ensures,
+      ← c.put_number-n.ensures,
+      ← c.put_text-n-in-Broken.ensures,
+      ← c.section.ensures.0,
+      ← c.put_number-n-in-Broken.ensures,
+      ← c.put_text-n-in-Broken-2.ensures,
+      ← c.place_record.ensures.0,
+      ← c.put_number-n-in-Broken-2.ensures,
+    )
+    c.put_text-in-Broken.ensures
