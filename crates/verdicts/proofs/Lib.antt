@@ -1,2 +1,2 @@
-mod LengthLaws
+pub mod LengthLaws
 pub mod LongInput

@@ -15,7 +15,7 @@ use text::writing::{put_number, put_text};
 pub const VERDICT_ROOM: usize = 128;
 
 // `accepted`, or the rule with its place as in `rule 14 section 3 record 0`, and the line's end.
-fn put_verdict(line: &mut [u8], verdict: Verdict) -> usize
+pub fn put_verdict(line: &mut [u8], verdict: Verdict) -> usize
     ensures { written line.new result ≡ putText (written line.old 0) (verdictLine verdict) }
 {
     match verdict {

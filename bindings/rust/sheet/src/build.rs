@@ -175,13 +175,18 @@ impl Plan {
 
     /// Adds an object on a pack, with the first track of each channel.
     pub fn add_object(&mut self, pack: u16) -> u16 {
+        let tracks = self.tracks_of_pack(pack);
+        self.push_object(pack, tracks, Vec::new())
+    }
+
+    /// The first track of each channel of a pack.
+    pub fn tracks_of_pack(&self, pack: u16) -> Vec<u16> {
         let channels = self.packs[usize::from(pack)].channels;
         let is_channel = |track: &Track, ordinal| track.pack == pack && track.ordinal == ordinal;
-        let tracks = (0..channels)
+        (0..channels)
             .filter_map(|ordinal| self.tracks.iter().position(|t| is_channel(t, ordinal)))
             .map(word)
-            .collect();
-        self.push_object(pack, tracks, Vec::new())
+            .collect()
     }
 
     /// Adds an object with children.

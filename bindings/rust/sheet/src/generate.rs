@@ -12,6 +12,8 @@ pub mod clauses;
 /// Small random sheets in which many lists overlap.
 pub mod crowded;
 mod damage;
+/// Random sheets of which figures are told.
+pub mod figures;
 /// Honest sheets as large as they get.
 pub mod honest;
 /// Sheets of unusual length, and largest sheets made to be slow to check.
@@ -22,6 +24,8 @@ pub mod random;
 pub mod scripts;
 /// The sheets that are kept as files.
 pub mod stored;
+/// The sheets that are kept as files for the figures.
+pub mod stored_figures;
 /// The scripts of listener calls that are kept as files.
 pub mod stored_scripts;
 

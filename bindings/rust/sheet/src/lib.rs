@@ -1,6 +1,7 @@
 //! The emission sheet: a second checker and listener, and sheets to try checkers on.
 //!
-//! Written from document 01 (`01-scope.md`) and its readings (`READINGS.md`) alone.
+//! Written from document 01 (`01-scope.md`) and its readings (`READINGS.md`) alone, the figures
+//! from L1 of document 02 (`02-change-requests.md`) and its readings (`REQUESTS.md`) besides.
 
 /// The second checker and the second listener.
 pub mod second;

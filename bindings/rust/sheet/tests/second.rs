@@ -39,3 +39,11 @@ mod script;
 /// The scripts kept as files.
 #[path = "second/stored_scripts.rs"]
 mod stored_scripts;
+
+/// Figures that clashed.
+#[path = "second/figures.rs"]
+mod figures;
+
+/// The sheets kept as files for the figures.
+#[path = "second/stored_figures.rs"]
+mod stored_figures;

@@ -1,6 +1,6 @@
 //! The test of the programs themselves: `sheetcheck` on the stored sheets, held to the second
-//! checker, `listen` on the stored scripts, held to the second listener, and both at a user's
-//! slips. A test fails at the first difference and says it.
+//! checker, `listen` on the stored scripts, held to the second listener, and both, and
+//! `sheetfigures`, at a user's slips. A test fails at the first difference and says it.
 
 #[path = "../shared/built.rs"]
 mod built;

@@ -7,43 +7,54 @@ use crate::input;
 use crate::run::{program, run, run_into};
 use crate::stored::sheet_a;
 
+/// The programs that print a verdict on standard input.
+const CHECKING: [&str; 2] = ["sheetcheck", "sheetfigures"];
+
 /// How many lines `listen` is offered while it can't answer: many times what a pipe holds.
 const MANY_LINES: usize = 200_000;
 
 #[test]
-fn sheetcheck_with_arguments() {
+fn a_checking_program_with_arguments() {
     let sheet = sheet_a();
     let slips = [&[&*sheet.file][..], &["--help"], &[&sheet.file, &sheet.file]];
     let inputs = [&[][..], &sheet.bytes];
-    for arguments in slips {
-        for input in inputs {
-            let what = format!("sheetcheck {arguments:?} on {} bytes", input.len());
-            let run = run(program("sheetcheck", arguments), input::pipe(input));
-            run.must_complain("usage: sheetcheck", &what);
+    for name in CHECKING {
+        for arguments in slips {
+            for input in inputs {
+                let what = format!("{name} {arguments:?} on {} bytes", input.len());
+                let run = run(program(name, arguments), input::pipe(input));
+                run.must_complain(&format!("usage: {name}"), &what);
+            }
         }
     }
-    println!("sheetcheck with arguments: {} lines", slips.len() * inputs.len());
+    println!("with arguments: {} lines", CHECKING.len() * slips.len() * inputs.len());
 }
 
 #[test]
-fn sheetcheck_on_a_folder() {
-    let run = run(program("sheetcheck", &[]), input::file("/"));
-    run.must_complain("standard input: ", "sheetcheck </");
-    println!("sheetcheck on a folder: 1 line");
+fn a_checking_program_on_a_folder() {
+    for name in CHECKING {
+        let run = run(program(name, &[]), input::file("/"));
+        run.must_complain("standard input: ", &format!("{name} </"));
+    }
+    println!("on a folder: {} lines", CHECKING.len());
 }
 
 #[test]
-fn sheetcheck_with_a_full_output() {
-    let run = run_into(full(), program("sheetcheck", &[]), input::file(&sheet_a().file));
-    run.must_complain("standard output: ", "sheetcheck >/dev/full");
-    println!("sheetcheck with a full output: 1 line");
+fn a_checking_program_with_a_full_output() {
+    for name in CHECKING {
+        let run = run_into(full(), program(name, &[]), input::file(&sheet_a().file));
+        run.must_complain("standard output: ", &format!("{name} >/dev/full"));
+    }
+    println!("with a full output: {} lines", CHECKING.len());
 }
 
 #[test]
-fn sheetcheck_with_a_closed_output() {
-    let run = run(with_closed_output(&program("sheetcheck", &[])), input::file(&sheet_a().file));
-    run.must_complain("standard output: ", "sheetcheck >&-");
-    println!("sheetcheck with a closed output: 1 line");
+fn a_checking_program_with_a_closed_output() {
+    for name in CHECKING {
+        let run = run(with_closed_output(&program(name, &[])), input::file(&sheet_a().file));
+        run.must_complain("standard output: ", &format!("{name} >&-"));
+    }
+    println!("with a closed output: {} lines", CHECKING.len());
 }
 
 #[test]

@@ -4,6 +4,8 @@ mod objects;
 mod programmes;
 mod values;
 
+pub(super) use self::values::object_values;
+
 use super::random::Random;
 use crate::build::{word, Pack, Plan, Track};
 
@@ -116,6 +118,18 @@ pub fn plan_near_limits(random: &mut Random, level: u16) -> Plan {
     within(random, level, budget)
 }
 
+/// A random sheet of level 1 or 2, accepted but for so many counted tracks more than its level
+/// has, if there are objects enough for them.
+pub(super) fn plan_of_many_tracks(random: &mut Random, level: u16, more: usize) -> Plan {
+    let limits = budget(level);
+    let budget = Budget {
+        programmes: random.between(1, limits.programmes),
+        counted_tracks: limits.counted_tracks + more,
+        ..limits
+    };
+    within(random, level, budget)
+}
+
 fn within(random: &mut Random, level: u16, budget: Budget) -> Plan {
     let mut plan = Plan::new(level);
     objects::add_packs(random, &mut plan, &budget);
@@ -144,7 +158,7 @@ fn reduced(random: &mut Random, budget: Budget) -> Budget {
 }
 
 /// Numbers the objects in a random order.
-fn renumber_objects(random: &mut Random, plan: &mut Plan) {
+pub(super) fn renumber_objects(random: &mut Random, plan: &mut Plan) {
     let mut order: Vec<usize> = (0..plan.objects.len()).collect();
     random.shuffle(&mut order);
     let mut numbers = vec![0; order.len()];

@@ -30,7 +30,7 @@ pub fn sheets() -> Vec<Generated> {
 }
 
 /// The words of a name, in small letters with hyphens between.
-fn hyphenated(what: &str) -> String {
+pub(super) fn hyphenated(what: &str) -> String {
     let what = what.to_lowercase().replace(" -", " minus ").replace('\'', "");
     let words = what.split(|letter: char| !letter.is_ascii_alphanumeric());
     words.filter(|word| !word.is_empty()).collect::<Vec<_>>().join("-")

@@ -1,8 +1,11 @@
 //! The second checker: the verdict on one sheet, rule by rule in checking order.
 //!
 //! As plain as possible: no record is decoded ahead, every rule reads the words of the
-//! sheet again, and every sentence quoted in these modules is document 01's.
+//! sheet again, and every sentence quoted in these modules, but for `figures`, is
+//! document 01's.
 
+/// The figures that clashed.
+pub mod figures;
 pub(crate) mod limits;
 /// The listener above the checker.
 pub mod listener;

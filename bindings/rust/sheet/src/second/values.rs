@@ -157,6 +157,6 @@ fn present(word: u16) -> Option<u16> {
 }
 
 /// "Signed words are two's complement."
-fn signed(word: u16) -> i16 {
+pub(super) fn signed(word: u16) -> i16 {
     word as i16
 }

@@ -1,0 +1,78 @@
+// Clashes of two figures, and which of several is told.
+ghost use Rattle.std.specs.Prelude.{◌≡◌};
+ghost use Rattle.figures.specs.Clashes.{earlier, inObject, inSet, noClash, noFigure, told, wordAt};
+ghost use Rattle.sheet.specs.Words.{sheetOf};
+
+use crate::{Clash, Figure, FigureNumber, WordPlace};
+use sheet::fields::{OBJECTS, VALUE_SETS};
+use sheet::layout::field;
+
+// The place of an object's word.
+pub fn in_object(o: u16, at: u8) -> WordPlace
+    ensures { result ≡ inObject o at }
+{
+    WordPlace {
+        section: OBJECTS,
+        index: o,
+        at,
+    }
+}
+
+// The place of a value set's word.
+pub fn in_set(v: u16, at: u8) -> WordPlace
+    ensures { result ≡ inSet v at }
+{
+    WordPlace {
+        section: VALUE_SETS,
+        index: v,
+        at,
+    }
+}
+
+// The word at a place.
+pub fn word_at(s: &[u8], place: WordPlace) -> u16
+    ensures { result ≡ wordAt (sheetOf s.now) place }
+{
+    field(s, place.section, place.index, place.at)
+}
+
+// The word at a place, as a figure.
+pub fn told(s: &[u8], place: WordPlace) -> Figure
+    ensures { result ≡ told (sheetOf s.now) place }
+{
+    Figure {
+        section: place.section,
+        index: place.index,
+        number: FigureNumber::Word(word_at(s, place)),
+    }
+}
+
+// "Of several clashes in that record the first is told."
+#[tactic(auto, unfolding(crate::specs::Clashes::earlier))]
+pub fn earlier(a: Clash, b: Clash) -> Clash
+    ensures { result ≡ earlier a b }
+{
+    if a.found { a } else { b }
+}
+
+// No figure.
+pub fn no_figure() -> Figure
+    ensures { result ≡ noFigure }
+{
+    Figure {
+        section: 0,
+        index: 0,
+        number: FigureNumber::Word(0),
+    }
+}
+
+// Nothing clashes.
+pub fn no_clash() -> Clash
+    ensures { result ≡ noClash }
+{
+    Clash {
+        found: false,
+        first: no_figure(),
+        second: no_figure(),
+    }
+}

@@ -1,0 +1,50 @@
+// The figures that a refusal by rule 18, 20 or 24 is told with (document 02, L1), by the verdict.
+#![tactic(auto)]
+
+pub mod by_verdict;
+pub mod clashes;
+pub mod lists;
+pub mod members;
+pub mod ranges;
+pub mod shares;
+
+// The number of a figure: a word of the sheet, taken as signed, or a number that follows from the sheet, a kind or a share.
+#[derive(Clone, Copy)]
+pub enum FigureNumber {
+    Word(u16),
+    Derived(u32),
+}
+
+// A figure: the section and the index of its record, and its number.
+#[derive(Clone, Copy)]
+pub struct Figure {
+    pub section: u8,
+    pub index: u16,
+    pub number: FigureNumber,
+}
+
+// Where a word stands: the section and the index of its record, and its position there.
+#[derive(Clone, Copy)]
+pub struct WordPlace {
+    pub section: u8,
+    pub index: u16,
+    pub at: u8,
+}
+
+// Two figures side by side, and whether they break the rule.
+#[derive(Clone, Copy)]
+pub struct Clash {
+    pub found: bool,
+    pub first: Figure,
+    pub second: Figure,
+}
+
+// No refusal has more figures.
+pub const MOST_FIGURES: usize = 16;
+
+// The first `count` figures are there, in the order in which they are told.
+#[derive(Clone, Copy)]
+pub struct Figures {
+    pub count: usize,
+    pub lines: [Figure; MOST_FIGURES],
+}

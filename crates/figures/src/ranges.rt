@@ -1,0 +1,175 @@
+// Rule 18: "the value, then the bound".
+ghost use Rattle.std.specs.Prelude.{◌≡◌};
+ghost use Rattle.figures.specs.Ranges.{belowMinimum, boundPlace, effectiveClash, effectivePlace, objectClash, objectClashes, ownClash, rangeClash, rangeClashes, rangePlace, setClashes};
+ghost use Rattle.sheet.specs.Words.{sheetOf};
+
+use crate::clashes::{earlier, in_object, in_set, told, word_at};
+use crate::{Clash, WordPlace};
+use relations::records::owner;
+use relations::sets::{
+    object_maximum, object_minimum, object_value, set_maximum, set_minimum, set_value,
+};
+use sheet::fields::{OBJECTS, SET_OWN, VALUE_SETS};
+use sheet::layout::field;
+use values::Sort;
+use values::gains::{at_most, gain_of};
+use values::signed::signed;
+use values::values::{in_range, is_absent};
+
+// A value is below a minimum.
+#[tactic(auto, unfolding(crate::specs::Ranges::belowMinimum, crate::specs::Ranges::ordered))]
+fn below_minimum(sort: Sort, value: u16, minimum: u16) -> bool
+    ensures { result ≡ belowMinimum sort value minimum }
+{
+    match sort {
+        Sort::Gains => !at_most(gain_of(minimum), gain_of(value)),
+        Sort::Offsets => signed(value) < signed(minimum),
+    }
+}
+
+// The bound that a value outside its range is told with.
+#[tactic(auto, unfolding(crate::specs::Ranges::boundPlace))]
+fn bound_place(
+    s: &[u8],
+    sort: Sort,
+    value: WordPlace,
+    minimum: WordPlace,
+    maximum: WordPlace,
+) -> WordPlace
+    ensures { result ≡ boundPlace (sheetOf s.now) sort value minimum maximum }
+{
+    if below_minimum(sort, word_at(s, value), word_at(s, minimum)) {
+        minimum
+    } else {
+        maximum
+    }
+}
+
+// A value against a range, each by its place.
+#[tactic(auto, unfolding(crate::specs::Ranges::rangeClash, profile::specs::Rules::leaves))]
+fn range_clash(
+    s: &[u8],
+    sort: Sort,
+    value: WordPlace,
+    minimum: WordPlace,
+    maximum: WordPlace,
+) -> Clash
+    ensures { result ≡ rangeClash (sheetOf s.now) sort value minimum maximum }
+{
+    let v = word_at(s, value);
+    let lo = word_at(s, minimum);
+    let hi = word_at(s, maximum);
+    let found = !is_absent(v) & (!is_absent(lo) & !in_range(sort, lo, v, hi));
+    let first = told(s, value);
+    let second = told(s, bound_place(s, sort, value, minimum, maximum));
+    Clash {
+        found,
+        first,
+        second,
+    }
+}
+
+// An object's own value against its range.
+#[tactic(auto, unfolding(crate::specs::Ranges::objectClash))]
+fn object_clash(s: &[u8], o: u16, sort: Sort) -> Clash
+    ensures { result ≡ objectClash (sheetOf s.now) o sort }
+{
+    range_clash(
+        s,
+        sort,
+        in_object(o, object_value(sort)),
+        in_object(o, object_minimum(sort)),
+        in_object(o, object_maximum(sort)),
+    )
+}
+
+// Where the effective value of set v of object o stands.
+#[tactic(auto, unfolding(crate::specs::Ranges::effectivePlace))]
+fn effective_place(s: &[u8], o: u16, v: u16, sort: Sort) -> WordPlace
+    ensures { result ≡ effectivePlace (sheetOf s.now) o v sort }
+{
+    if is_absent(field(s, VALUE_SETS, v, set_value(sort))) {
+        in_object(o, object_value(sort))
+    } else {
+        in_set(v, set_value(sort))
+    }
+}
+
+// Where a word of its effective range stands: `inside` is its position in a set, `outside` in an object.
+#[tactic(auto, unfolding(crate::specs::Ranges::rangePlace))]
+fn range_place(s: &[u8], o: u16, v: u16, inside: u8, outside: u8) -> WordPlace
+    ensures { result ≡ rangePlace (sheetOf s.now) o v inside outside }
+{
+    if field(s, VALUE_SETS, v, SET_OWN) == 1 {
+        in_set(v, inside)
+    } else {
+        in_object(o, outside)
+    }
+}
+
+// The effective value against the effective range.
+#[tactic(auto, unfolding(crate::specs::Ranges::effectiveClash))]
+fn effective_clash(s: &[u8], o: u16, v: u16, sort: Sort) -> Clash
+    ensures { result ≡ effectiveClash (sheetOf s.now) o v sort }
+{
+    range_clash(
+        s,
+        sort,
+        effective_place(s, o, v, sort),
+        range_place(s, o, v, set_minimum(sort), object_minimum(sort)),
+        range_place(s, o, v, set_maximum(sort), object_maximum(sort)),
+    )
+}
+
+// The set's own value against the object's range.
+#[tactic(auto, unfolding(crate::specs::Ranges::ownClash))]
+fn own_clash(s: &[u8], o: u16, v: u16, sort: Sort) -> Clash
+    ensures { result ≡ ownClash (sheetOf s.now) o v sort }
+{
+    range_clash(
+        s,
+        sort,
+        in_set(v, set_value(sort)),
+        in_object(o, object_minimum(sort)),
+        in_object(o, object_maximum(sort)),
+    )
+}
+
+// The first clash of an object: "gain before offset".
+#[tactic(auto, unfolding(crate::specs::Ranges::objectClashes))]
+fn object_clashes(s: &[u8], o: u16) -> Clash
+    ensures { result ≡ objectClashes (sheetOf s.now) o }
+{
+    earlier(
+        object_clash(s, o, Sort::Gains),
+        object_clash(s, o, Sort::Offsets),
+    )
+}
+
+// The first clash of set v of object o: "in the rule's order, then gain before offset".
+#[tactic(auto, unfolding(crate::specs::Ranges::setClashes))]
+fn set_clashes(s: &[u8], o: u16, v: u16) -> Clash
+    ensures { result ≡ setClashes (sheetOf s.now) o v }
+{
+    let effective = earlier(
+        effective_clash(s, o, v, Sort::Gains),
+        effective_clash(s, o, v, Sort::Offsets),
+    );
+    let own = earlier(
+        own_clash(s, o, v, Sort::Gains),
+        own_clash(s, o, v, Sort::Offsets),
+    );
+    earlier(effective, own)
+}
+
+// The first clash of a record that breaks rule 18.
+#[tactic(auto, unfolding(crate::specs::Ranges::rangeClashes))]
+pub fn range_clashes(s: &[u8], section: u32, k: u16) -> Clash
+    ensures { result ≡ rangeClashes (sheetOf s.now) section k }
+{
+    if section == OBJECTS as u32 {
+        object_clashes(s, k)
+    } else {
+        set_clashes(s, owner(s, k), k)
+    }
+}

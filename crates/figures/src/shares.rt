@@ -1,0 +1,81 @@
+// Rule 24: "each group's (under its leader) and lone object's share by rising record".
+ghost use Rattle.std.specs.Prelude.{◌≡◌};
+ghost use Rattle.figures.specs.Lists.{firstFigures, noFigures};
+ghost use Rattle.figures.specs.Shares.{hasShare, shareFigure, shareFigures, shareList};
+ghost use Rattle.profile.specs.Relations.{lone, share};
+ghost use Rattle.sheet.specs.Words.{sheetOf};
+
+use crate::lists::{no_figures, with_figure};
+use crate::{Figure, FigureNumber, Figures};
+use relations::objects::leader;
+use relations::records::{complement, top};
+use relations::sizes::{largest_member, size};
+use sheet::fields::OBJECTS;
+use sheet::layout::count;
+
+// A top object in no group.
+#[tactic(auto, unfolding(profile::specs::Relations::lone))]
+fn lone(s: &[u8], o: u16) -> bool
+    ensures { result ≡ lone (sheetOf s.now) o }
+{
+    top(s, o) & !leader(s, o) & !complement(s, o)
+}
+
+// A leader or a lone object.
+#[tactic(auto, unfolding(crate::specs::Shares::hasShare))]
+fn has_share(s: &[u8], o: u16) -> bool
+    ensures { result ≡ hasShare (sheetOf s.now) o }
+{
+    leader(s, o) | lone(s, o)
+}
+
+// What an object adds to the counted tracks.
+#[tactic(auto, unfolding(profile::specs::Relations::share, relations::specs::steps::Sizes::largestMember))]
+fn share(s: &[u8], o: u16) -> u32
+    ensures { result ≡ share (sheetOf s.now) o }
+{
+    if leader(s, o) {
+        largest_member(s, o)
+    } else if lone(s, o) {
+        size(s, o)
+    } else {
+        0
+    }
+}
+
+// Its share, as a figure.
+fn share_figure(s: &[u8], o: u16) -> Figure
+    ensures { result ≡ shareFigure (sheetOf s.now) o }
+{
+    Figure {
+        section: OBJECTS,
+        index: o,
+        number: FigureNumber::Derived(share(s, o)),
+    }
+}
+
+// The share of an object that has one, behind those before it.
+#[tactic(auto, unfolding(crate::specs::Shares::shareFigures, crate::specs::Lists::firstFigures))]
+fn with_share(s: &[u8], given: Figures, o: u16) -> Figures
+    ensures { result ≡ firstFigures given (shareFigures (sheetOf s.now) o) }
+{
+    if has_share(s, o) {
+        with_figure(given, share_figure(s, o))
+    } else {
+        given
+    }
+}
+
+// The shares of all objects that have one.
+pub fn shares(s: &[u8]) -> Figures
+    ensures { result ≡ firstFigures noFigures (shareList (sheetOf s.now)) }
+{
+    let n = count(s, OBJECTS);
+    let mut given = no_figures();
+    let mut o: u16 = 0;
+    while o < n {
+        given = with_share(s, given, o);
+        o += 1;
+    }
+    given
+}
