@@ -17,10 +17,10 @@ bench:
 	tools/build host
 	cd bindings/rust && cargo bench --locked --offline --bench ratio
 
-# the verdict on sheet A
+# the verdict on sheet A, under the list of languages in examples
 example:
 	tools/build sheetcheck
-	crates/sheetcheck/out/sheetcheck <examples/a.sheet
+	cd examples && ../crates/sheetcheck/out/sheetcheck <a.sheet
 
 # the listening bench, crates/listen/out/listen
 listen:

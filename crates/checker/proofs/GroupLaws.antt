@@ -30,27 +30,27 @@ sets-once s t right each =
     (λ v l. ap not (sym (counted-one (howMany (λ o. hasSet s o v) (count s objects))) ∙ eq-eqb (counted (howMany (λ o. hasSet s o v) (count s objects))) 1 (sym (right v (each v l).0) ∙ (each v l).1)))
 
 -- the rules by their numbers; they are about programmes only
-pub unbroken-21 : (s : Sheet) (section k : ℕ) → ((p : ℕ) → p < k → rule21 s programmes p ≡ false) → Unbroken s 21 section k
+pub unbroken-21 : (s : Sheet) (langs : List ℕ) (section k : ℕ) → ((p : ℕ) → p < k → rule21 s programmes p ≡ false) → Unbroken s langs 21 section k
 unfolding breaks rule21
-unbroken-21 s section k kept = kept
+unbroken-21 s langs section k kept = kept
 
-pub unbroken-22 : (s : Sheet) (section k : ℕ) → KeptBelow s k → Unbroken s 22 section k
+pub unbroken-22 : (s : Sheet) (langs : List ℕ) (section k : ℕ) → KeptBelow s k → Unbroken s langs 22 section k
 unfolding breaks rule22
-unbroken-22 s section k kept p l = (kept p l).2 refl
+unbroken-22 s langs section k kept p l = (kept p l).2 refl
 
 -- an object that breaks rule 19
-broken-19 : (s : Sheet) (k : ℕ) → k < count s objects → rule19 s objects k ≡ true → sectionBroken s 19 objects ≡ true
+broken-19 : (s : Sheet) (langs : List ℕ) (k : ℕ) → k < count s objects → rule19 s objects k ≡ true → sectionBroken s langs 19 objects ≡ true
 unfolding sectionBroken brokenRecord subjects subjectKind breaks
-broken-19 s k l e = finds (rule19 s objects) (count s objects) k l e
+broken-19 s langs k l e = finds (rule19 s objects) (count s objects) k l e
 
 -- where there is none, no two groups have a member in common
-pub groups-apart : (s : Sheet) → ruleBroken s 19 ≡ false → GroupsApart s
+pub groups-apart : (s : Sheet) (langs : List ℕ) → ruleBroken s langs 19 ≡ false → GroupsApart s
 unfolding ruleBroken brokenSection
-groups-apart s kept =
+groups-apart s langs kept =
     (elim (any (rule19 s objects) (count s objects)) as (λ b. any (rule19 s objects) (count s objects) ≡ b → b ≡ false) [
       | true ↦ λ h.
           let w = any-witness (rule19 s objects) (count s objects) h in
-          absurd (true≢false (sym (finds (sectionBroken s 19) sectionCount objects (omega arith) (broken-19 s w.0 w.1 w.2)) ∙ kept))
+          absurd (true≢false (sym (finds (sectionBroken s langs 19) sectionCount objects (omega arith) (broken-19 s langs w.0 w.1 w.2)) ∙ kept))
       | false ↦ λ h. refl
     ]) refl
 

@@ -1,12 +1,14 @@
 -- What one rule finds, what the search over the rules finds, and the tables that are lent. Assumes nothing.
 use Prim.Native.Nat.{ℕ, ◌<◌, ◌≤◌}
 use mathlib.Core.Path.{◌≡◌, refl, sym, ap, ◌∙◌}
-use mathlib.Core.Bool.{true, false}
+use mathlib.Core.Bool.{Bool, true, false, cond}
 use mathlib.Core.List.{List, []}
 use native.Mathlib.Omega.{arith}
 use borrow.Author.Tests.{lt-ltb, le-ltb, ltb-true, ltb-false}
 use lib.Dec.{ltb}
 use lib.ListN.{length, get_or}
+use Rattle.std.proofs.Common.{Some, None}
+use Rattle.std.proofs.lemmas.Option.{none-some}
 use Rattle.sheet.specs.Words.{Sheet}
 use Rattle.profile.specs.declared.Place.{Place}
 use Rattle.profile.specs.declared.Verdict.{Verdict}
@@ -30,68 +32,73 @@ use Rattle.checker.specs.steps.Rows.{KindsFrom, ruleVerdict}
 use Rattle.checker.specs.steps.Tables.{Right}
 use Rattle.checker.proofs.SubjectLaws.{rest-ended}
 
-module _ (s : Sheet) where
-  module _ (rule section n k : ℕ) (all : n ≡ subjects s rule section) (low : k ≡ lowest (breaks s rule section) n) where
-    found-record : k ≡ brokenRecord s rule section
-    unfolding brokenRecord
-    found-record = low ∙ ap (lowest (breaks s rule section)) all
+-- what is lent only where a test holds was not lent
+pub none-lent : {A : Type 0} (b : Bool) (x : A) → cond b (Some x) None ≡ None → b ≡ false
+none-lent true x e = absurd (none-some x (sym e))
+none-lent false x e = refl
 
-    section-by : sectionBroken s rule section ≡ ltb k n
+module _ (s : Sheet) (langs : List ℕ) where
+  module _ (rule section n k : ℕ) (all : n ≡ subjects s rule section) (low : k ≡ lowest (breaks s langs rule section) n) where
+    found-record : k ≡ brokenRecord s langs rule section
+    unfolding brokenRecord
+    found-record = low ∙ ap (lowest (breaks s langs rule section)) all
+
+    section-by : sectionBroken s langs rule section ≡ ltb k n
     unfolding sectionBroken
     section-by = rw (← found-record, ← all) refl
 
-    pub section-found : k < n → sectionBroken s rule section ≡ true
+    pub section-found : k < n → sectionBroken s langs rule section ≡ true
     section-found l = section-by ∙ lt-ltb k n l
 
-    pub section-none : n ≤ k → sectionBroken s rule section ≡ false
+    pub section-none : n ≤ k → sectionBroken s langs rule section ≡ false
     section-none l = section-by ∙ le-ltb k n l
 
     -- a record that breaks the rule, in the first section with one
-    pub rule-found : section < sectionCount → ((j : ℕ) → j < section → sectionBroken s rule j ≡ false) → k < n → Broken rule (placeAt section k) ≡ ruleVerdict s rule
+    pub rule-found : section < sectionCount → ((j : ℕ) → j < section → sectionBroken s langs rule j ≡ false) → k < n → Broken rule (placeAt section k) ≡ ruleVerdict s langs rule
     unfolding ruleVerdict ruleBroken brokenAt brokenSection
     rule-found inside before l =
-        let e : lowest (sectionBroken s rule) sectionCount ≡ section = lowest-at (sectionBroken s rule) sectionCount section inside before (section-found l) in
+        let e : lowest (sectionBroken s langs rule) sectionCount ≡ section = lowest-at (sectionBroken s langs rule) sectionCount section inside before (section-found l) in
         rw (e, lt-ltb section sectionCount inside, ← found-record) refl
 
-  pub rule-none : (rule : ℕ) → ((j : ℕ) → j < sectionCount → sectionBroken s rule j ≡ false) → Accepted ≡ ruleVerdict s rule
+  pub rule-none : (rule : ℕ) → ((j : ℕ) → j < sectionCount → sectionBroken s langs rule j ≡ false) → Accepted ≡ ruleVerdict s langs rule
   unfolding ruleVerdict ruleBroken brokenSection
   rule-none rule none =
-      let e : lowest (sectionBroken s rule) sectionCount ≡ sectionCount = lowest-none (sectionBroken s rule) sectionCount none in
+      let e : lowest (sectionBroken s langs rule) sectionCount ≡ sectionCount = lowest-none (sectionBroken s langs rule) sectionCount none in
       rw e refl
 
-  pub rule-ended : (rule section row : ℕ) → KindsFrom rule section row → row ≡ 0 → ((j : ℕ) → j < section → sectionBroken s rule j ≡ false) → Accepted ≡ ruleVerdict s rule
+  pub rule-ended : (rule section row : ℕ) → KindsFrom rule section row → row ≡ 0 → ((j : ℕ) → j < section → sectionBroken s langs rule j ≡ false) → Accepted ≡ ruleVerdict s langs rule
   rule-ended rule section row rest z before = rule-none rule each
     where
-      each : (j : ℕ) → j < sectionCount → sectionBroken s rule j ≡ false
+      each : (j : ℕ) → j < sectionCount → sectionBroken s langs rule j ≡ false
       each j h =
-          (elim (ltb j section) as (λ b. ltb j section ≡ b → sectionBroken s rule j ≡ false) [
+          (elim (ltb j section) as (λ b. ltb j section ≡ b → sectionBroken s langs rule j ≡ false) [
             | true ↦ λ e. before j (ltb-true j section e)
-            | false ↦ λ e. rest-ended s rule section row rest z j (ltb-false j section e) h
+            | false ↦ λ e. rest-ended s langs rule section row rest z j (ltb-false j section e) h
           ]) refl
 
   -- a rule that gives no acceptance is broken, and one that does is not
-  pub broken-one : (rule : ℕ) (r : ℕ) (p : Place) → Broken r p ≡ ruleVerdict s rule → ruleBroken s rule ≡ true
+  pub broken-one : (rule : ℕ) (r : ℕ) (p : Place) → Broken r p ≡ ruleVerdict s langs rule → ruleBroken s langs rule ≡ true
   unfolding ruleVerdict
   broken-one rule r p e =
-      (elim (ruleBroken s rule) as (λ b. ruleBroken s rule ≡ b → b ≡ true) [
+      (elim (ruleBroken s langs rule) as (λ b. ruleBroken s langs rule ≡ b → b ≡ true) [
         | true ↦ λ f. refl
         | false ↦ λ f. let z : ◌≡◌ {A = Verdict} (Broken r p) Accepted = rw f at e in let y : ◌≡◌ {A = ℕ} 0 1 = cc in absurd (omega arith)
       ]) refl
 
-  pub broken-none : (rule : ℕ) → Accepted ≡ ruleVerdict s rule → ruleBroken s rule ≡ false
+  pub broken-none : (rule : ℕ) → Accepted ≡ ruleVerdict s langs rule → ruleBroken s langs rule ≡ false
   unfolding ruleVerdict brokenAt
   broken-none rule e =
-      (elim (ruleBroken s rule) as (λ b. ruleBroken s rule ≡ b → b ≡ false) [
+      (elim (ruleBroken s langs rule) as (λ b. ruleBroken s langs rule ≡ b → b ≡ false) [
         | true ↦ λ f. let z = rw f at e in let y : ◌≡◌ {A = ℕ} 0 1 = cc in absurd (omega arith)
         | false ↦ λ f. refl
       ]) refl
 
-  module _ (i : ℕ) (inside : i < ruleCount) (before : (j : ℕ) → j < i → ruleBroken s (numberAt j) ≡ false) where
-    pub verdict-broken : (r : ℕ) (p : Place) → Broken r p ≡ ruleVerdict s (numberAt i) → Broken r p ≡ verdict s
+  module _ (i : ℕ) (inside : i < ruleCount) (before : (j : ℕ) → j < i → ruleBroken s langs (numberAt j) ≡ false) where
+    pub verdict-broken : (r : ℕ) (p : Place) → Broken r p ≡ ruleVerdict s langs (numberAt i) → Broken r p ≡ verdict s langs
     unfolding verdict brokenPosition ruleVerdict
     verdict-broken r p e =
-        let b : ruleBroken s (numberAt i) ≡ true = broken-one (numberAt i) r p e in
-        let l : lowest (λ j. ruleBroken s (numberAt j)) ruleCount ≡ i = lowest-at (λ j. ruleBroken s (numberAt j)) ruleCount i inside before b in
+        let b : ruleBroken s langs (numberAt i) ≡ true = broken-one (numberAt i) r p e in
+        let l : lowest (λ j. ruleBroken s langs (numberAt j)) ruleCount ≡ i = lowest-at (λ j. ruleBroken s langs (numberAt j)) ruleCount i inside before b in
         e ∙ rw (l, lt-ltb i ruleCount inside, b) refl
 
     -- when rule 21 comes, rule 19 is kept
@@ -99,14 +106,14 @@ module _ (s : Sheet) where
     unfolding position lowest lowestFrom numberAt ruleAt ruleCount rules
     apart-before e =
         let p : i ≡ position 21 = sym (position-number i inside) ∙ ap position e in
-        groups-apart s (before (position 19) (omega (arith, p)))
+        groups-apart s langs (before (position 19) (omega (arith, p)))
 
-  pub verdict-none : ((j : ℕ) → j < ruleCount → ruleBroken s (numberAt j) ≡ false) → Accepted ≡ verdict s
+  pub verdict-none : ((j : ℕ) → j < ruleCount → ruleBroken s langs (numberAt j) ≡ false) → Accepted ≡ verdict s langs
   unfolding verdict brokenPosition
-  verdict-none none = rw (finds-none (λ j. ruleBroken s (numberAt j)) ruleCount none) refl
+  verdict-none none = rw (finds-none (λ j. ruleBroken s langs (numberAt j)) ruleCount none) refl
 
   -- an empty table is right
-  pub empty-right : (which : Table) → Right s which []
+  pub empty-right : (which : Table) → Right s langs which []
   empty-right Nothing = tt
   empty-right Named = λ x l. absurd (omega arith)
   empty-right Spanned = λ x l. absurd (omega arith)
@@ -121,6 +128,7 @@ module _ (s : Sheet) where
   empty-right Strays = λ x l. absurd (omega arith)
   empty-right Ordinals = λ x l. absurd (omega arith)
 
+module _ (s : Sheet) where
   module _ (t₀ : List ℕ) (noughts : Standing (λ x. 0) t₀) where
     pub counts-made : (kind : Naming) (t : List ℕ) → length t ≡ length t₀ → Standing (λ x. repeat (marked Count) (namedBy s kind x) (get_or t₀ x 0)) t
         → Standing (λ x. counted (namedBy s kind x)) t

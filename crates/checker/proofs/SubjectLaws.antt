@@ -1,5 +1,6 @@
 -- The rows of the code are the rules of the list, and the subjects by their digits. Assumes nothing.
 use Prim.Native.Nat.{zero-le, ℕ, zero, suc, ◌+◌, ◌-◌, ◌/◌, ◌%◌, ◌<◌, ◌≤◌}
+use mathlib.Core.List.{List}
 use mathlib.Core.Path.{◌≡◌, refl, sym, ap, ◌∙◌}
 use mathlib.Core.Bool.{true, false, ◌&&◌}
 use native.Mathlib.Omega.{arith}
@@ -17,7 +18,7 @@ use Rattle.checker.specs.declared.RuleRow.{RuleRow}
 use Rattle.checker.specs.steps.Rows.{KindsFrom, packed, digit, rowOf, rowAt, subjectsOf}
 
 -- the code's number of rules
-pub rule-count : ruleCount ≡ 24
+pub rule-count : ruleCount ≡ 25
 unfolding ruleCount rules
 rule-count = refl
 
@@ -35,11 +36,11 @@ other-numbers n (suc k) none i l =
     (eq-or-lt_of_le (le_of_suc-le-suc l))
 
 -- a number that is no rule's is broken nowhere
-pub no-rule : (s : Sheet) (n section k : ℕ) → NoneOf n ruleCount → false ≡ breaks s n section k
+pub no-rule : (s : Sheet) (langs : List ℕ) (n section k : ℕ) → NoneOf n ruleCount → false ≡ breaks s langs n section k
 unfolding breaks
-no-rule s n section k none =
+no-rule s langs n section k none =
     let e : position n ≡ ruleCount = unfold position in lowest-none (λ i. eqb (numberAt i) n) ruleCount (other-numbers n ruleCount none) in
-    ap (λ (i : ℕ). (ruleAt i).test s section k) (sym e)
+    ap (λ (i : ℕ). (ruleAt i).test s langs section k) (sym e)
 
 -- a digit that is neither 1 nor 2 stands for no subject
 pub other-kind : (s : Sheet) (section kind : ℕ) → (kind ≡ 1 → ⊥) → (kind ≡ 2 → ⊥) → 0 ≡ subjectsOf s section kind
@@ -95,10 +96,10 @@ unfolding subjects subjectsOf
 all-subjects s rule section kind n e f = f ∙ ap (subjectsOf s section) e
 
 -- no section from one on has subjects where nothing is left of the row
-pub rest-ended : (s : Sheet) (rule section row : ℕ) → KindsFrom rule section row → row ≡ 0 → (j : ℕ) → section ≤ j → j < sectionCount → sectionBroken s rule j ≡ false
+pub rest-ended : (s : Sheet) (langs : List ℕ) (rule section row : ℕ) → KindsFrom rule section row → row ≡ 0 → (j : ℕ) → section ≤ j → j < sectionCount → sectionBroken s langs rule j ≡ false
 unfolding sectionBroken subjects
-rest-ended s rule section row rest z j l h =
+rest-ended s langs rule section row rest z j l h =
     let e : section + (j - section) ≡ j = omega arith in
     let f : subjectKind rule j ≡ 0 = sym (ap (λ (n : ℕ). subjectKind rule n) e) ∙ sym (rest (j - section) (omega arith)) ∙ ap (λ (n : ℕ). digit n (j - section)) z ∙ no-digit (j - section) in
     let g : subjects s rule j ≡ 0 = rw f refl in
-    ap (ltb (brokenRecord s rule j)) g ∙ le-ltb (brokenRecord s rule j) 0 zero-le
+    ap (ltb (brokenRecord s langs rule j)) g ∙ le-ltb (brokenRecord s langs rule j) 0 zero-le

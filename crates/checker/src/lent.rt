@@ -5,6 +5,7 @@ ghost use Rattle.sheet.specs.Words.{sheetOf};
 ghost use Rattle.tables.specs.steps.Marks.{Standing};
 
 use crate::Table;
+use languages::list::Languages;
 use rules::lists::{first_target, second_target};
 use runs::fill::{fill_next, fill_repeats};
 use runs::{ReferenceKey, ReferenceTest};
@@ -59,8 +60,8 @@ pub fn second_table(rule: u8, section: u8) -> Table
 }
 
 // Fills a table of noughts.
-pub fn fill_table(s: &[u8], which: Table, table: &mut [u16])
-    ensures { (length table.new ≡ length table.old) × (Standing (λ x. 0) table.old → Right (sheetOf s.now) which table.new) }
+pub fn fill_table(s: &[u8], langs: &Languages, which: Table, table: &mut [u16])
+    ensures { (length table.new ≡ length table.old) × (Standing (λ x. 0) table.old → Right (sheetOf s.now) langs.now which table.new) }
 {
     match which {
         Table::Nothing => {}
@@ -74,10 +75,10 @@ pub fn fill_table(s: &[u8], which: Table, table: &mut [u16])
         Table::Complements => count_covered(s, Naming::Complements, table),
         Table::Owners => first_namers(s, Naming::SetSpans, table),
         Table::Leaders => first_namers(s, Naming::Complements, table),
-        Table::Lacking(target) => fill_next(s, ReferenceTest::Lacks(target), table),
-        Table::Languages => fill_next(s, ReferenceTest::NoLanguage, table),
+        Table::Lacking(target) => fill_next(s, langs, ReferenceTest::Lacks(target), table),
+        Table::Languages => fill_next(s, langs, ReferenceTest::NoLanguage, table),
         Table::Repeats => fill_repeats(s, ReferenceKey::Itself, table),
-        Table::Strays => fill_next(s, ReferenceTest::Stray, table),
+        Table::Strays => fill_next(s, langs, ReferenceTest::Stray, table),
         Table::Ordinals => fill_repeats(s, ReferenceKey::Ordinal, table),
     }
 }

@@ -32,7 +32,7 @@ pub enum Table {
     Leaders,
     // the next reference that this section has no record for
     Lacking(u8),
-    // the next reference that is no language
+    // the next reference that is no good language
     Languages,
     // the next reference that repeats one before it
     Repeats,

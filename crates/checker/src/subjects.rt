@@ -6,6 +6,7 @@ ghost use Rattle.profile.specs.Verdict.{breaks};
 ghost use Rattle.sheet.specs.Words.{sheetOf};
 
 use crate::RuleRow;
+use languages::list::Languages;
 use rules::groups::{rule19, rule20, rule21};
 use rules::header::{rule1, rule2, rule3};
 use rules::limits::{rule7, rule8, rule10};
@@ -20,9 +21,10 @@ use sheet::layout::count;
 use tables::marks::mark_included;
 
 // The rules in checking order.
-pub const RULE_COUNT: usize = 24;
+pub const RULE_COUNT: usize = 25;
 
 const RULES: [RuleRow; RULE_COUNT] = [
+    RuleRow(33, 1),
     RuleRow(1, 1),
     RuleRow(2, 1),
     RuleRow(3, 21844),
@@ -75,6 +77,7 @@ pub fn subjects(s: &[u8], section: u8, kind: u16) -> u16
 // the compiler keeps its tables out of this function's frame (docs/SPEED.md).
 pub fn breaks(
     s: &[u8],
+    langs: &Languages,
     first: &[u16],
     second: &[u16],
     marks: &mut [u16],
@@ -82,7 +85,7 @@ pub fn breaks(
     section: u8,
     k: u16,
 ) -> bool
-    ensures { (length marks.new ≡ length marks.old) × (Right (sheetOf s.now) (firstTable rule section) first.now → Right (sheetOf s.now) (secondTable rule section) second.now → result ≡ breaks (sheetOf s.now) rule section k) }
+    ensures { (length marks.new ≡ length marks.old) × (Right (sheetOf s.now) langs.now (firstTable rule section) first.now → Right (sheetOf s.now) langs.now (secondTable rule section) second.now → result ≡ breaks (sheetOf s.now) langs.now rule section k) }
 {
     match rule {
         1 => rule1(s, section, k),
@@ -90,7 +93,7 @@ pub fn breaks(
         3 => rule3(s, section, k),
         4 => rule4(s, section, k),
         5 => rule5(s, first, second, section, k),
-        6 => rule6(s, first, section, k),
+        6 => rule6(s, langs, first, section, k),
         7 => rule7(s, section, k),
         8 => rule8(s, section, k),
         9 => rule9(s, first, section, k),
@@ -119,6 +122,7 @@ pub fn breaks(
         },
         23 => rule23(s, first, second, section, k),
         24 => rule24(s, first, second, section, k),
+        33 => !langs.rises(),
         _ => false,
     }
 }

@@ -21,23 +21,23 @@ use Rattle.console.specs.declared.commands.Command.TheVariants as command
 use Rattle.console.specs.Bench.{callOf, stateAfter, obeyed, callsOf, answeredLine, answeredPart}
 
 -- commands do to the state what the calls among them do
-obeyed-run : (s : Sheet) (st : State) (cs : List Command) → run s st (callsOf cs) ≡ obeyed s st cs
+obeyed-run : (s : Sheet) (langs : List ℕ) (st : State) (cs : List Command) → run s langs st (callsOf cs) ≡ obeyed s langs st cs
 unfolding run callsOf obeyed stateAfter
-obeyed-run s st [] = refl
-obeyed-run s st (command.Call c ∷ cs) = obeyed-run s (reply s st (callOf c)).state cs
-obeyed-run s st (command.List ∷ cs) = obeyed-run s st cs
-obeyed-run s st (command.State ∷ cs) = obeyed-run s st cs
-obeyed-run s st (command.Unknown ∷ cs) = obeyed-run s st cs
+obeyed-run s langs st [] = refl
+obeyed-run s langs st (command.Call c ∷ cs) = obeyed-run s langs (reply s langs st (callOf c)).state cs
+obeyed-run s langs st (command.List ∷ cs) = obeyed-run s langs st cs
+obeyed-run s langs st (command.State ∷ cs) = obeyed-run s langs st cs
+obeyed-run s langs st (command.Unknown ∷ cs) = obeyed-run s langs st cs
 
 -- demand 3: for a sheet accepted at level 1 or 2, after every list of commands from its opening
-pub bench-listening : (s : Sheet) → verdict s ≡ Accepted → (level s ≡ 1) ⊎ (level s ≡ 2) → (cs : List Command)
-    → Promises s (lastChosen s (callsOf cs)) (obeyed s (opened s).state cs)
+pub bench-listening : (s : Sheet) (langs : List ℕ) → verdict s langs ≡ Accepted → (level s ≡ 1) ⊎ (level s ≡ 2) → (cs : List Command)
+    → Promises s langs (lastChosen s langs (callsOf cs)) (obeyed s langs (opened s langs).state cs)
 unfolding after
-bench-listening s accepted at cs =
-    subst (λ (st : State). Promises s (lastChosen s (callsOf cs)) st) (obeyed-run s (opened s).state cs) (listening s accepted at (callsOf cs)).promises
+bench-listening s langs accepted at cs =
+    subst (λ (st : State). Promises s langs (lastChosen s langs (callsOf cs)) st) (obeyed-run s langs (opened s langs).state cs) (listening s langs accepted at (callsOf cs)).promises
 
 -- a line that is read in two parts is answeredPart as if it were read at once
-pub cut-anywhere : (s : Sheet) (st : State) (line : Buffer) (a b : List ℕ) (whole : Bool)
-    → answeredPart s st line (a ++ b) whole ≡ answeredPart s (answeredPart s st line a false).state (answeredPart s st line a false).line b whole
+pub cut-anywhere : (s : Sheet) (langs : List ℕ) (st : State) (line : Buffer) (a b : List ℕ) (whole : Bool)
+    → answeredPart s langs st line (a ++ b) whole ≡ answeredPart s langs (answeredPart s langs st line a false).state (answeredPart s langs st line a false).line b whole
 unfolding answeredPart answeredLine
-cut-anywhere s st line a b whole = ap (λ (l : Buffer). answeredLine s st l whole) (put-append line a b)
+cut-anywhere s langs st line a b whole = ap (λ (l : Buffer). answeredLine s langs st l whole) (put-append line a b)

@@ -17,10 +17,10 @@ use Rattle.console.specs.Answers.{listingLine}
 use Rattle.console.proofs.AnswerLaws.{tracks-fit}
 
 -- a listing that is done had enough words
-done-room : (s : Sheet) (st : State) (words : ℕ) → listingAnswer s st words ≡ Done → length (entries s st) ≤ words
+done-room : (s : Sheet) (langs : List ℕ) (st : State) (words : ℕ) → listingAnswer s langs st words ≡ Done → length (entries s st) ≤ words
 unfolding listingAnswer tooFewWords
-done-room s st words d =
-    let sound = (done-ground (notOpen s) _ d).1 in
+done-room s langs st words d =
+    let sound = (done-ground (notOpen s langs) _ d).1 in
     let room = (done-ground (notSound s st) _ sound).1 in
     ltb-false words (length (entries s st)) (done-ground (tooFewWords s st words) _ room).0
 
@@ -28,35 +28,35 @@ tracks-number : (s : Sheet) (st : State) → length (listedTracks s st) ≡ leng
 unfolding listedTracks
 tracks-number s st = length-map (entries s st) (λ (e : Entry). e.track)
 
-tracks-room : (s : Sheet) (st : State) → listingAnswer s st enoughWords ≡ Done → length (listedTracks s st) ≤ enoughWords
-tracks-room s st d = rw (tracks-number s st) (done-room s st enoughWords d)
+tracks-room : (s : Sheet) (langs : List ℕ) (st : State) → listingAnswer s langs st enoughWords ≡ Done → length (listedTracks s st) ≤ enoughWords
+tracks-room s langs st d = rw (tracks-number s st) (done-room s langs st enoughWords d)
 
-module _ (s : Sheet) (st : State) (r : Listing) (words : List ℕ) (e : r ≡ listed s st enoughWords) (f : words ≡ buffered s st (replicate enoughWords 0)) where
-  pub listing-answer : r.answer ≡ listingAnswer s st enoughWords
+module _ (s : Sheet) (langs : List ℕ) (st : State) (r : Listing) (words : List ℕ) (e : r ≡ listed s langs st enoughWords) (f : words ≡ buffered s langs st (replicate enoughWords 0)) where
+  pub listing-answer : r.answer ≡ listingAnswer s langs st enoughWords
   unfolding listed
-  listing-answer = told-answer r (length (entries s st)) (listingAnswer s st enoughWords) e
+  listing-answer = told-answer r (length (entries s st)) (listingAnswer s langs st enoughWords) e
 
   module _ (d : r.answer ≡ Done) where
-    answer-done : listingAnswer s st enoughWords ≡ Done
+    answer-done : listingAnswer s langs st enoughWords ≡ Done
     answer-done = sym listing-answer ∙ d
 
     pub listing-tracks : take r.entries words ≡ listedTracks s st
     unfolding listed buffered
     listing-tracks =
-        told-tracks r (length (entries s st)) (listingAnswer s st enoughWords) e words (replicate enoughWords 0) (listedTracks s st) f answer-done
-        (tracks-number s st) (done-room s st enoughWords answer-done)
+        told-tracks r (length (entries s st)) (listingAnswer s langs st enoughWords) e words (replicate enoughWords 0) (listedTracks s st) f answer-done
+        (tracks-number s st) (done-room s langs st enoughWords answer-done)
 
     pub listing-room : r.entries ≤ length words
     unfolding listed buffered
     listing-room =
-        let n = told-number r (length (entries s st)) (listingAnswer s st enoughWords) e answer-done in
-        let l = told-length r (length (entries s st)) (listingAnswer s st enoughWords) e words (replicate enoughWords 0) (listedTracks s st) f answer-done in
-        rw (n, l) (done-room s st enoughWords answer-done)
+        let n = told-number r (length (entries s st)) (listingAnswer s langs st enoughWords) e answer-done in
+        let l = told-length r (length (entries s st)) (listingAnswer s langs st enoughWords) e words (replicate enoughWords 0) (listedTracks s st) f answer-done in
+        rw (n, l) (done-room s langs st enoughWords answer-done)
 
     pub listing-length : r.entries ≡ length (take r.entries words)
     listing-length = sym (length-take-le r.entries words listing-room)
 
 -- the line of a listing
-pub listing-fits : (s : Sheet) (st : State) → length (listingLine s st) ≤ 600
+pub listing-fits : (s : Sheet) (langs : List ℕ) (st : State) → length (listingLine s langs st) ≤ 600
 unfolding listingLine
-listing-fits s st = tracks-fit (listedTracks s st) (listingAnswer s st enoughWords) (tracks-room s st)
+listing-fits s langs st = tracks-fit (listedTracks s st) (listingAnswer s langs st enoughWords) (tracks-room s langs st)

@@ -29,8 +29,8 @@ tracksLine tracks Done = join (ascii "tracks" ∷ wordsText tracks ∷ ascii "\n
 tracksLine tracks (Refused r) = answerLine (Refused r)
 
 -- the listing of a state
-unfoldable pub listingLine : Sheet → State → List ℕ
-listingLine s st = tracksLine (listedTracks s st) (listingAnswer s st enoughWords)
+unfoldable pub listingLine : Sheet → List ℕ → State → List ℕ
+listingLine s langs st = tracksLine (listedTracks s st) (listingAnswer s langs st enoughWords)
 
 unfoldable pub activityText : Bool → List ℕ
 activityText active = cond active (ascii " active") (ascii " inactive")

@@ -1,4 +1,5 @@
--- The listening bench: what a command does to the listener's state, and what it is answered. Assumes nothing.
+-- The listening bench: what a command does to the listener's state, and what it is answered. All its calls are lent one sheet, `s`, and
+-- one list of languages, `langs`. Assumes nothing.
 use Rattle.std.specs.Prelude.{ℕ, Bool, true, false, List, [], ◌∷◌}
 use Rattle.sheet.specs.Words.{Sheet}
 use Rattle.listener.specs.declared.State.{State}
@@ -21,23 +22,23 @@ callOf (Gain o g) = run.Call.gain o g
 callOf (Offset o z) = run.Call.offset o z
 
 -- the state after a command: only a call changes it
-unfoldable pub stateAfter : Sheet → State → Command → State
-stateAfter s st (command.Call c) = (reply s st (callOf c)).state
-stateAfter s st command.List = st
-stateAfter s st command.State = st
-stateAfter s st command.Unknown = st
+unfoldable pub stateAfter : Sheet → List ℕ → State → Command → State
+stateAfter s langs st (command.Call c) = (reply s langs st (callOf c)).state
+stateAfter s langs st command.List = st
+stateAfter s langs st command.State = st
+stateAfter s langs st command.Unknown = st
 
 -- what is answered
-unfoldable pub answerTo : Sheet → State → Command → List ℕ
-answerTo s st (command.Call c) = answerLine (reply s st (callOf c)).answer
-answerTo s st command.List = listingLine s st
-answerTo s st command.State = stateLines st
-answerTo s st command.Unknown = unknownLine
+unfoldable pub answerTo : Sheet → List ℕ → State → Command → List ℕ
+answerTo s langs st (command.Call c) = answerLine (reply s langs st (callOf c)).answer
+answerTo s langs st command.List = listingLine s langs st
+answerTo s langs st command.State = stateLines st
+answerTo s langs st command.Unknown = unknownLine
 
 -- the state after a list of commands
-unfoldable pub obeyed : Sheet → State → List Command → State
-obeyed s st [] = st
-obeyed s st (c ∷ cs) = obeyed s (stateAfter s st c) cs
+unfoldable pub obeyed : Sheet → List ℕ → State → List Command → State
+obeyed s langs st [] = st
+obeyed s langs st (c ∷ cs) = obeyed s langs (stateAfter s langs st c) cs
 
 -- the calls among them
 unfoldable pub callsOf : List Command → List run.Call
@@ -54,12 +55,12 @@ pub record Turn : Type 0 where
   pub answer : List ℕ
 
 -- a line that is whole is answered, and the next one begins
-unfoldable pub answeredLine : Sheet → State → Buffer → Bool → Turn
-answeredLine s st line true =
+unfoldable pub answeredLine : Sheet → List ℕ → State → Buffer → Bool → Turn
+answeredLine s langs st line true =
     let c = commandOf (said (part line.bytes 0 line.count)) in
-    record { state = stateAfter s st c; line = buffer line.bytes 0; answer = answerTo s st c }
-answeredLine s st line false = record { state = st; line = line; answer = [] }
+    record { state = stateAfter s langs st c; line = buffer line.bytes 0; answer = answerTo s langs st c }
+answeredLine s langs st line false = record { state = st; line = line; answer = [] }
 
 -- more bytes of the line were read, and it is whole or not
-unfoldable pub answeredPart : Sheet → State → Buffer → List ℕ → Bool → Turn
-answeredPart s st line more whole = answeredLine s st (putText line more) whole
+unfoldable pub answeredPart : Sheet → List ℕ → State → Buffer → List ℕ → Bool → Turn
+answeredPart s langs st line more whole = answeredLine s langs st (putText line more) whole

@@ -1,9 +1,10 @@
 // Answers of the listener, tracks and states as text.
 ghost use Rattle.std.specs.Prelude.{◌≡◌};
 ghost use Rattle.console.specs.Answers.{activityText, answerLine, gainText, listingLine, nameText, objectLine, objectLines, stateLines, valuesText, wordsText};
-ghost use Rattle.sheet.specs.Words.{sheetOf};
+ghost use Rattle.sheet.specs.Words.{sheetOf, words};
 ghost use Rattle.text.specs.Buffer.{buffer as written, putText};
 
+use crate::Lent;
 use listener::refusals::refusal_number;
 use listener::settings::is_resting;
 use listener::{Answer, MOST_ENTRIES, STATE_END, Setting, State};
@@ -39,11 +40,11 @@ pub fn put_words(buffer: &mut [u8], count: usize, words: &[u16]) -> usize
 }
 
 // As in `tracks 0 1 5`, or why not.
-pub fn put_listing(buffer: &mut [u8], count: usize, sheet: &[u8], state: State) -> usize
-    ensures { written buffer.new result ≡ putText (written buffer.old count) (listingLine (sheetOf sheet.now) state) }
+pub fn put_listing(buffer: &mut [u8], count: usize, lent: Lent, state: State) -> usize
+    ensures { written buffer.new result ≡ putText (written buffer.old count) (listingLine (sheetOf lent.entry.sheet.now) (words lent.entry.langs.now) state) }
 {
     let mut words = [0u16; MOST_ENTRIES];
-    let listing = state.list(sheet, &mut words);
+    let listing = state.list(lent.sheet, lent.langs, &mut words);
     let answer = listing.answer;
     match answer {
         Answer::Done => {

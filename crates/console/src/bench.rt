@@ -4,9 +4,10 @@ ghost use Rattle.console.specs.Answers.{answerLine};
 ghost use Rattle.console.specs.Bench.{answerTo, callOf, answeredPart, stateAfter};
 ghost use Rattle.guarantee.specs.Run.{reply};
 ghost use Rattle.listener.specs.Calls.{opened};
-ghost use Rattle.sheet.specs.Words.{sheetOf};
+ghost use Rattle.sheet.specs.Words.{sheetOf, words};
 ghost use Rattle.text.specs.Buffer.{TextFilled, buffer as written};
 
+use crate::Lent;
 use crate::answers::{put_answer, put_listing, put_state};
 use crate::commands::{Call, Command, command_of};
 use listener::calls::open;
@@ -25,11 +26,11 @@ pub struct Answered {
 }
 
 // Opens the sheet.
-pub fn opened(sheet: &[u8], answer: &mut [u8; ANSWER_ROOM]) -> Answered
-    ensures state_value { result.state ≡ (opened (sheetOf sheet.now)).state }
-    ensures text_filled { TextFilled answer.old (answerLine (opened (sheetOf sheet.now)).answer) result.count answer.new }
+pub fn opened(lent: Lent, answer: &mut [u8; ANSWER_ROOM]) -> Answered
+    ensures state_value { result.state ≡ (opened (sheetOf lent.entry.sheet.now) (words lent.entry.langs.now)).state }
+    ensures text_filled { TextFilled answer.old (answerLine (opened (sheetOf lent.entry.sheet.now) (words lent.entry.langs.now)).answer) result.count answer.new }
 {
-    let opening = open(sheet);
+    let opening = open(lent.sheet, lent.langs);
     let told = opening.answer;
     let count = put_answer(answer, 0, told);
     let state = opening.state;
@@ -37,37 +38,32 @@ pub fn opened(sheet: &[u8], answer: &mut [u8; ANSWER_ROOM]) -> Answered
 }
 
 // What a call hands back.
-fn reply_to(sheet: &[u8], state: State, call: Call) -> Reply
-    ensures { result ≡ reply (sheetOf sheet.now) state (callOf call) }
+fn reply_to(lent: Lent, state: State, call: Call) -> Reply
+    ensures { result ≡ reply (sheetOf lent.entry.sheet.now) (words lent.entry.langs.now) state (callOf call) }
 {
     match call {
-        Call::Programme(p) => state.choose_programme(sheet, p),
-        Call::Object(o) => state.choose_object(sheet, o),
-        Call::Gain(o, gain) => state.set_gain(sheet, o, gain),
-        Call::Offset(o, offset) => state.set_offset(sheet, o, offset),
+        Call::Programme(p) => state.choose_programme(lent.sheet, lent.langs, p),
+        Call::Object(o) => state.choose_object(lent.sheet, lent.langs, o),
+        Call::Gain(o, gain) => state.set_gain(lent.sheet, lent.langs, o, gain),
+        Call::Offset(o, offset) => state.set_offset(lent.sheet, lent.langs, o, offset),
     }
 }
 
 // Answers a command, and gives the state after it.
-pub fn obey(
-    sheet: &[u8],
-    state: State,
-    command: Command,
-    answer: &mut [u8; ANSWER_ROOM],
-) -> Answered
-    ensures state_value { result.state ≡ stateAfter (sheetOf sheet.now) state command }
-    ensures text_filled { TextFilled answer.old (answerTo (sheetOf sheet.now) state command) result.count answer.new }
+pub fn obey(lent: Lent, state: State, command: Command, answer: &mut [u8; ANSWER_ROOM]) -> Answered
+    ensures state_value { result.state ≡ stateAfter (sheetOf lent.entry.sheet.now) (words lent.entry.langs.now) state command }
+    ensures text_filled { TextFilled answer.old (answerTo (sheetOf lent.entry.sheet.now) (words lent.entry.langs.now) state command) result.count answer.new }
 {
     match command {
         Command::Call(call) => {
-            let reply = reply_to(sheet, state, call);
+            let reply = reply_to(lent, state, call);
             let told = reply.answer;
             let count = put_answer(answer, 0, told);
             let next = reply.state;
             Answered { state: next, count }
         }
         Command::List => {
-            let count = put_listing(answer, 0, sheet, state);
+            let count = put_listing(answer, 0, lent, state);
             Answered { state, count }
         }
         Command::State => {
@@ -91,22 +87,22 @@ pub struct Bench {
 
 // Adds what was read to the line, and answers the line if it is whole.
 pub fn answer_part(
-    sheet: &[u8],
+    lent: Lent,
     bench: Bench,
     line: &mut [u8; ROOM],
     more: &[u8],
     whole: bool,
     answer: &mut [u8; ANSWER_ROOM],
 ) -> Bench
-    ensures state_value { result.state ≡ (answeredPart (sheetOf sheet.now) bench.state (written line.old bench.line) more.now whole).state }
-    ensures line_after { written line.new result.line ≡ (answeredPart (sheetOf sheet.now) bench.state (written line.old bench.line) more.now whole).line }
-    ensures text_filled { TextFilled answer.old (answeredPart (sheetOf sheet.now) bench.state (written line.old bench.line) more.now whole).answer result.answer answer.new }
+    ensures state_value { result.state ≡ (answeredPart (sheetOf lent.entry.sheet.now) (words lent.entry.langs.now) bench.state (written line.old bench.line) more.now whole).state }
+    ensures line_after { written line.new result.line ≡ (answeredPart (sheetOf lent.entry.sheet.now) (words lent.entry.langs.now) bench.state (written line.old bench.line) more.now whole).line }
+    ensures text_filled { TextFilled answer.old (answeredPart (sheetOf lent.entry.sheet.now) (words lent.entry.langs.now) bench.state (written line.old bench.line) more.now whole).answer result.answer answer.new }
 {
     let count = put_text(line, bench.line, more);
     let state = bench.state;
     if whole {
         let command = command_of(said(part(line, 0, count)));
-        let answered = obey(sheet, state, command, answer);
+        let answered = obey(lent, state, command, answer);
         let next = answered.state;
         Bench {
             state: next,

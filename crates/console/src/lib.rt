@@ -4,3 +4,10 @@
 pub mod answers;
 pub mod bench;
 pub mod commands;
+
+// What every call is lent: the bytes of a sheet, and those of a list of languages.
+#[derive(Clone, Copy)]
+pub struct Lent<'a> {
+    pub sheet: &'a [u8],
+    pub langs: &'a [u8],
+}

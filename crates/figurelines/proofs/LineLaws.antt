@@ -34,6 +34,6 @@ lines-fit [] = simp none-length (omega arith)
 lines-fit (x ∷ xs) = simp join-length (omega (arith, line-fits x, lines-fit xs))
 
 -- the text of a sheet has room
-pub text-fits : (s : Sheet) → length (figures s) ≤ mostFigures → length (figuresText s) ≤ 2048
+pub text-fits : (s : Sheet) (langs : List ℕ) → length (figures s langs) ≤ mostFigures → length (figuresText s langs) ≤ 2048
 unfolding figuresText
-text-fits s h = simp length-append (omega (arith, verdict-fits (verdict s), lines-fit (figures s)))
+text-fits s langs h = simp length-append (omega (arith, verdict-fits (verdict s langs), lines-fit (figures s langs)))

@@ -17,9 +17,9 @@ unfoldable pub figureLine : Figure → List ℕ
 figureLine x =
     join (ascii "section " ∷ decimal x.section ∷ ascii " record " ∷ decimal x.index ∷ ascii " figure " ∷ signedDecimal (printed x.number) ∷ ascii "\n" ∷ [])
 
--- the verdict line, then a line for each figure
-unfoldable pub figuresText : Sheet → List ℕ
-figuresText s = verdictLine (verdict s) ++ join (map figureLine (figures s))
+-- the verdict line, then a line for each figure; `langs` is the list of languages lent beside the sheet
+unfoldable pub figuresText : Sheet → List ℕ → List ℕ
+figuresText s langs = verdictLine (verdict s langs) ++ join (map figureLine (figures s langs))
 
 -- some lines, computed
 abbrev line : ℕ → ℕ → FigureNumber → Figure

@@ -1,4 +1,4 @@
-// The figures of a lent sheet, and their lines of text behind the line of the verdict (document 02, L1).
+// The figures of a lent sheet under a lent list of languages, and their lines of text behind the line of the verdict (document 02, L1).
 #![tactic(auto)]
 
 ghost use Rattle.std.specs.Prelude.{map, take, ◌≡◌};
@@ -6,7 +6,7 @@ ghost use Rattle.figurelines.specs.FigureLines.{figureLine, figuresText};
 ghost use Rattle.figures.specs.Clashes.{printed};
 ghost use Rattle.figures.specs.Figures.{figures};
 ghost use Rattle.figures.specs.Lists.{FiguresGiven};
-ghost use Rattle.sheet.specs.Words.{sheetOf};
+ghost use Rattle.sheet.specs.Words.{sheetOf, words};
 ghost use Rattle.text.specs.Buffer.{TextFilled, buffer as written, putText};
 ghost use Rattle.text.specs.Bytes.{join};
 ghost use Rattle.text.specs.Decimal.{signedDecimal};
@@ -60,18 +60,18 @@ fn put_figures(text: &mut [u8], count: usize, given: Figures) -> usize
     n
 }
 
-// The figures of a sheet: those of its refusal by 18, 20 or 24, none for any other verdict.
-pub fn figures(sheet: &[u8]) -> Figures
-    ensures { FiguresGiven (figures (sheetOf sheet.now)) result }
+// The figures of a sheet under a list of languages: those of its refusal by 18, 20 or 24, none for any other verdict.
+pub fn figures(sheet: &[u8], langs: &[u8]) -> Figures
+    ensures { FiguresGiven (figures (sheetOf sheet.now) (words langs.now)) result }
 {
-    figures_by(sheet, check(sheet))
+    figures_by(sheet, check(sheet, langs))
 }
 
-// Writes the line of a sheet's verdict and a line for each figure into a lent buffer, and gives their length.
-pub fn figures_text(sheet: &[u8], text: &mut [u8; FIGURES_ROOM]) -> usize
-    ensures { TextFilled text.old (figuresText (sheetOf sheet.now)) result text.new }
+// Writes the line of a sheet's verdict under a list of languages and a line for each figure into a lent buffer, and gives their length.
+pub fn figures_text(sheet: &[u8], langs: &[u8], text: &mut [u8; FIGURES_ROOM]) -> usize
+    ensures { TextFilled text.old (figuresText (sheetOf sheet.now) (words langs.now)) result text.new }
 {
-    let verdict = check(sheet);
+    let verdict = check(sheet, langs);
     let n = put_verdict(text, verdict);
     put_figures(text, n, figures_by(sheet, verdict))
 }

@@ -3,7 +3,7 @@
 use Prim.Native.Nat.{ℕ, zero, suc, ◌<◌}
 use mathlib.Core.Path.{◌≡◌, refl, sym, ap, ◌∙◌}
 use mathlib.Core.Bool.{Bool, true, false, true≢false, cond, ◌||◌}
-use mathlib.Core.List.{[], ◌∷◌}
+use mathlib.Core.List.{List, [], ◌∷◌}
 use native.Mathlib.Omega.{arith}
 use borrow.Author.Tests.{ne_eqb}
 use Rattle.sheet.specs.Words.{Sheet}
@@ -56,16 +56,16 @@ unfolding clashFigures
 told-figures x e = rw e
 
 -- and those of a refusal
-pub broken-figures : (s : Sheet) (rule : ℕ) (place : Place) → verdict s ≡ Broken rule place → figures s ≡ figuresOf s rule place
+pub broken-figures : (s : Sheet) (langs : List ℕ) (rule : ℕ) (place : Place) → verdict s langs ≡ Broken rule place → figures s langs ≡ figuresOf s rule place
 unfolding figures figuresBy
-broken-figures s rule place e = rw e
+broken-figures s langs rule place e = rw e
 
 -- other rules have no figures
-pub no-figures : (s : Sheet) (rule : ℕ) (place : Place) → verdict s ≡ Broken rule place → (rule ≡ 18 → ⊥) → (rule ≡ 20 → ⊥) → (rule ≡ 24 → ⊥) → figures s ≡ []
+pub no-figures : (s : Sheet) (langs : List ℕ) (rule : ℕ) (place : Place) → verdict s langs ≡ Broken rule place → (rule ≡ 18 → ⊥) → (rule ≡ 20 → ⊥) → (rule ≡ 24 → ⊥) → figures s langs ≡ []
 unfolding figuresOf
-no-figures s rule place e a b c = broken-figures s rule place e ∙ rw (ne_eqb rule 18 a, ne_eqb rule 20 b, ne_eqb rule 24 c)
+no-figures s langs rule place e a b c = broken-figures s langs rule place e ∙ rw (ne_eqb rule 18 a, ne_eqb rule 20 b, ne_eqb rule 24 c)
 
 -- nor has acceptance
-pub accepted-none-told : (s : Sheet) → verdict s ≡ Accepted → figures s ≡ []
+pub accepted-none-told : (s : Sheet) (langs : List ℕ) → verdict s langs ≡ Accepted → figures s langs ≡ []
 unfolding figures figuresBy
-accepted-none-told s e = rw e
+accepted-none-told s langs e = rw e

@@ -3,6 +3,7 @@ use Prim.Native.Nat.{ℕ, ◌<◌}
 use mathlib.Core.Path.{◌≡◌, refl, sym, ap, ◌∙◌}
 use mathlib.Core.Bool.{Bool, true, false, not, ◌&&◌, ◌||◌}
 use mathlib.Core.Logic.{inl}
+use mathlib.Core.List.{List}
 use native.Mathlib.Omega.{arith}
 use lib.Dec.{eqb, ltb, leb}
 use borrow.Author.Tests.{leb-false, eqb-true, ltb-true, not-false}
@@ -59,12 +60,12 @@ one-owner s v e =
     let w = any-witness p (count s objects) some in
     ltb-true _ _ (finds p (count s objects) w.0 w.1 w.2)
 
-module _ (s : Sheet) (rule : ℕ) (place : Place) (e : verdict s ≡ Broken rule place) where
+module _ (s : Sheet) (langs : List ℕ) (rule : ℕ) (place : Place) (e : verdict s langs ≡ Broken rule place) where
   -- a rule that comes before is broken nowhere
-  pub kept : (r section k : ℕ) → position r < position rule → k < subjects s r section → breaks s r section k ≡ false
+  pub kept : (r section k : ℕ) → position r < position rule → k < subjects s r section → breaks s langs r section k ≡ false
   kept r section k l m =
-      (elim (breaks s r section k) as (λ t. breaks s r section k ≡ t → breaks s r section k ≡ false) [
-        | true ↦ λ f. absurd ((broken-first s rule place e).nothing-earlier r section k (inl l) (record { subject = m; broken = f }))
+      (elim (breaks s langs r section k) as (λ t. breaks s langs r section k ≡ t → breaks s langs r section k ≡ false) [
+        | true ↦ λ f. absurd ((broken-first s langs rule place e).nothing-earlier r section k (inl l) (record { subject = m; broken = f }))
         | false ↦ λ f. f
       ]) refl
 

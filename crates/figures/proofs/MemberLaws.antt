@@ -4,7 +4,7 @@ use mathlib.Core.Path.{◌≡◌, refl, sym, ap, ◌∙◌}
 use mathlib.Core.Bool.{Bool, true, false, not, ◌||◌}
 use mathlib.Core.Logic.{◌⊎◌, inl, inr, ⊎_elim}
 use native.Mathlib.Omega.{arith}
-use mathlib.Core.List.{[], ◌∷◌}
+use mathlib.Core.List.{List, [], ◌∷◌}
 use lib.Dec.{eqb}
 use lib.IntN.{pos}
 use borrow.Author.Tests.{eq-eqb, not-true, both_ways}
@@ -126,14 +126,14 @@ unfolding subjects subjectKind
 object-place s (Object k) l = l
 object-place s place l = absurd (omega arith)
 
-rule20-broken : (s : Sheet) (section k : ℕ) → breaks s 20 section k ≡ true → rule20 s section k ≡ true
+rule20-broken : (s : Sheet) (langs : List ℕ) (section k : ℕ) → breaks s langs 20 section k ≡ true → rule20 s section k ≡ true
 unfolding breaks
-rule20-broken s section k e = e
+rule20-broken s langs section k e = e
 
-figures-twenty : (s : Sheet) (place : Place) → verdict s ≡ Broken 20 place → (leaderClash s (recordOf place)).found ≡ true
-    → figures s ≡ (leaderClash s (recordOf place)).first ∷ (leaderClash s (recordOf place)).second ∷ []
+figures-twenty : (s : Sheet) (langs : List ℕ) (place : Place) → verdict s langs ≡ Broken 20 place → (leaderClash s (recordOf place)).found ≡ true
+    → figures s langs ≡ (leaderClash s (recordOf place)).first ∷ (leaderClash s (recordOf place)).second ∷ []
 unfolding figuresOf
-figures-twenty s place e h = broken-figures s 20 place e ∙ told-figures (leaderClash s (recordOf place)) h
+figures-twenty s langs place e h = broken-figures s langs 20 place e ∙ told-figures (leaderClash s (recordOf place)) h
 
 -- a clash of a leader with one that it lists
 record Listed (s : Sheet) (l : ℕ) (x : Clash) : Type 0 where
@@ -149,22 +149,22 @@ leader-listed s fit l m n e =
     below-keeps (Listed s l) (λ i. memberClash s l (entry s objects l complementList i)) (number s objects l complementList)
     (λ i k h. record { place = i; is-listed = k; differ = clash-differs s fit l (entry s objects l complementList i) m (n i m k) h }) e
 
-pub member-differs : (s : Sheet) (place : Place) → ((i : ℕ) → word s i < 65536) → verdict s ≡ Broken 20 place → MemberDiffers s (recordOf place)
-member-differs s place fit e =
-    let b : BrokenAt s 20 (sectionOf place) (recordOf place) = (broken-first s 20 place e).here in
+pub member-differs : (s : Sheet) (langs : List ℕ) (place : Place) → ((i : ℕ) → word s i < 65536) → verdict s langs ≡ Broken 20 place → MemberDiffers s langs (recordOf place)
+member-differs s langs place fit e =
+    let b : BrokenAt s langs 20 (sectionOf place) (recordOf place) = (broken-first s langs 20 place e).here in
     let l : ℕ = recordOf place in
     let m : l < count s objects = object-place s place b.subject in
-    let h : (leaderClash s l).found ≡ true = leader-found s (sectionOf place) l (rule20-broken s (sectionOf place) l b.broken) in
-    let x : Listed s l (leaderClash s l) = leader-listed s fit l m (complement-index s 20 place e five-twenty l) h in
+    let h : (leaderClash s l).found ≡ true = leader-found s (sectionOf place) l (rule20-broken s langs (sectionOf place) l b.broken) in
+    let x : Listed s l (leaderClash s l) = leader-listed s fit l m (complement-index s langs 20 place e five-twenty l) h in
     record {
       place = x.place;
       first = (leaderClash s l).first;
       second = (leaderClash s l).second;
-      listed = figures-twenty s place e h;
+      listed = figures-twenty s langs place e h;
       is-listed = x.is-listed;
       leader-of = x.differ.leader-of;
       member-of = x.differ.member-of;
-      inside = (m, complement-index s 20 place e five-twenty l x.place m x.is-listed);
+      inside = (m, complement-index s langs 20 place e five-twenty l x.place m x.is-listed);
       same-word = x.differ.same-word;
       unequal = x.differ.unequal;
     }

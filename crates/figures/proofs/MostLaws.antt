@@ -1,5 +1,5 @@
 -- No refusal has more than sixteen figures. Assumes nothing.
-use Rattle.std.proofs.Common.{◌≡◌, ℕ, zero, suc, ◌+◌, ◌-◌, ◌<◌, ◌≤◌, Bool, true, false, cond, not, ◌&&◌, ◌||◌, refl, ap, sym, ◌∙◌, [], ◌∷◌, length, get_or, eqb, ltb, arith}
+use Rattle.std.proofs.Common.{◌≡◌, ℕ, zero, suc, ◌+◌, ◌-◌, ◌<◌, ◌≤◌, Bool, true, false, cond, not, ◌&&◌, ◌||◌, refl, ap, sym, ◌∙◌, List, [], ◌∷◌, length, get_or, eqb, ltb, arith}
 use mathlib.Core.Bool.{true≢false}
 use borrow.Author.Tests.{ltb-false, ne_eqb, eqb-true, eq-eqb}
 use Rattle.sheet.specs.Words.{Sheet}
@@ -60,15 +60,15 @@ unfolding position lowest lowestFrom numberAt ruleAt ruleCount rules
 twenty-three = omega arith
 
 -- where 24 comes, 23 is kept
-module _ (s : Sheet) (place : Place) (e : verdict s ≡ Broken 24 place) where
+module _ (s : Sheet) (langs : List ℕ) (place : Place) (e : verdict s langs ≡ Broken 24 place) where
   units-kept : exceeds s unitsLimit (units s) ≡ false
   unfolding breaks subjects subjectKind rule23
-  units-kept = (or-none (exceeds s groupsLimit (groups s)) (exceeds s unitsLimit (units s)) (kept s 24 place e 23 header 0 twenty-three (omega arith))).1
+  units-kept = (or-none (exceeds s groupsLimit (groups s)) (exceeds s unitsLimit (units s)) (kept s langs 24 place e 23 header 0 twenty-three (omega arith))).1
 
   units-most : units s ≤ mostFigures
   unfolding exceeds
   units-most =
-      let none = and-second (not (eqb (level s) 0)) (ltb (limit (level s) unitsLimit) (units s)) units-kept (ap not (ne_eqb (level s) 0 (levelled s place e).0)) in
+      let none = and-second (not (eqb (level s) 0)) (ltb (limit (level s) unitsLimit) (units s)) units-kept (ap not (ne_eqb (level s) 0 (levelled s langs place e).0)) in
       omega (arith, ltb-false _ _ none, limit-most (level s))
 
 -- a clash has two figures
@@ -95,20 +95,20 @@ few s rule place n = go (eqb rule 18) (eqb rule 20) (eqb rule 24) refl
     go false false true e = absurd (n (eqb-true rule 24 e))
     go false false false e = omega arith
 
-most-by : (s : Sheet) (v : Verdict) → verdict s ≡ v → length (figuresBy s v) ≤ mostFigures
+most-by : (s : Sheet) (langs : List ℕ) (v : Verdict) → verdict s langs ≡ v → length (figuresBy s v) ≤ mostFigures
 unfolding figuresBy
-most-by s Accepted e = omega arith
-most-by s (Broken rule place) e = go (eqb rule 24) refl
+most-by s langs Accepted e = omega arith
+most-by s langs (Broken rule place) e = go (eqb rule 24) refl
   where
     go : (b : Bool) → eqb rule 24 ≡ b → length (figuresOf s rule place) ≤ mostFigures
     go true q =
         let r : rule ≡ 24 = eqb-true rule 24 q in
-        let f : verdict s ≡ Broken 24 place = e ∙ ap (λ n. Broken n place) r in
+        let f : verdict s langs ≡ Broken 24 place = e ∙ ap (λ n. Broken n place) r in
         let same : figuresOf s rule place ≡ shareList s = ap (λ n. figuresOf s n place) r ∙ by-shares s place in
-        rw same (omega (arith, as-units s, units-most s place f))
+        rw same (omega (arith, as-units s, units-most s langs place f))
     go false q = omega (arith, few s rule place (λ r. absurd (true≢false (sym (eq-eqb rule 24 r) ∙ q))))
 
 -- whatever the verdict
-pub figures-most : (s : Sheet) → length (figures s) ≤ mostFigures
+pub figures-most : (s : Sheet) (langs : List ℕ) → length (figures s langs) ≤ mostFigures
 unfolding figures
-figures-most s = most-by s (verdict s) refl
+figures-most s langs = most-by s langs (verdict s langs) refl

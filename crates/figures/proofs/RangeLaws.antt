@@ -2,7 +2,7 @@
 use Prim.Native.Nat.{ℕ, ◌-◌, ◌<◌, ◌≤◌}
 use mathlib.Core.Path.{◌≡◌, refl, sym, ap, ◌∙◌}
 use mathlib.Core.Bool.{Bool, true, false, true≢false, cond, not, ◌&&◌, ◌||◌}
-use mathlib.Core.List.{[], ◌∷◌}
+use mathlib.Core.List.{List, [], ◌∷◌}
 use mathlib.Core.Logic.{◌⊎◌, inl, inr, ⊎_elim}
 use native.Mathlib.Omega.{arith}
 use lib.Dec.{eqb, ltb}
@@ -344,18 +344,18 @@ sets-beyond s o v l m r q e =
     (earlier-keeps (Beyond s (AtSet s o v)) _ _ (own-beyond s o Gains l (r Gains) v m) (own-beyond s o Offsets l (r Offsets) v m)) e
 
 -- rule 18 at an object, at a value set
-rule18-object : (s : Sheet) (o : ℕ) → breaks s 18 objects o ≡ true → (objectLeaves s o Gains || objectLeaves s o Offsets) ≡ true
+rule18-object : (s : Sheet) (langs : List ℕ) (o : ℕ) → breaks s langs 18 objects o ≡ true → (objectLeaves s o Gains || objectLeaves s o Offsets) ≡ true
 unfolding breaks rule18
-rule18-object s o e = simp or-false at e
+rule18-object s langs o e = simp or-false at e
 
-rule18-set : (s : Sheet) (v : ℕ) → breaks s 18 valueSets v ≡ true → (setLeaves s (owner s v) v Gains || setLeaves s (owner s v) v Offsets) ≡ true
+rule18-set : (s : Sheet) (langs : List ℕ) (v : ℕ) → breaks s langs 18 valueSets v ≡ true → (setLeaves s (owner s v) v Gains || setLeaves s (owner s v) v Offsets) ≡ true
 unfolding breaks rule18
-rule18-set s v e = e
+rule18-set s langs v e = e
 
-figures-eighteen : (s : Sheet) (place : Place) → verdict s ≡ Broken 18 place → (rangeClashes s (sectionOf place) (recordOf place)).found ≡ true
-    → figures s ≡ (rangeClashes s (sectionOf place) (recordOf place)).first ∷ (rangeClashes s (sectionOf place) (recordOf place)).second ∷ []
+figures-eighteen : (s : Sheet) (langs : List ℕ) (place : Place) → verdict s langs ≡ Broken 18 place → (rangeClashes s (sectionOf place) (recordOf place)).found ≡ true
+    → figures s langs ≡ (rangeClashes s (sectionOf place) (recordOf place)).first ∷ (rangeClashes s (sectionOf place) (recordOf place)).second ∷ []
 unfolding figuresOf
-figures-eighteen s place e h = broken-figures s 18 place e ∙ told-figures (rangeClashes s (sectionOf place) (recordOf place)) h
+figures-eighteen s langs place e h = broken-figures s langs 18 place e ∙ told-figures (rangeClashes s (sectionOf place) (recordOf place)) h
 
 -- the same figures, as those of the place
 placed : (s : Sheet) (P Q : Sort → Figure → Figure → Type 0) (x : Clash) → ((t : Sort) → P t x.first x.second → Q t x.first x.second) → Beyond s P x → Beyond s Q x
@@ -366,44 +366,44 @@ placed s P Q x f b =
 abbrev Told : Sheet → ℕ → ℕ → Type 0
 Told s section k = ((rangeClashes s section k).found ≡ true) × Beyond s (BreakAt s section k) (rangeClashes s section k)
 
-module _ (s : Sheet) (place : Place) (e : verdict s ≡ Broken 18 place) where
-  object-told : (o : ℕ) → o < count s objects → breaks s 18 objects o ≡ true → Told s objects o
+module _ (s : Sheet) (langs : List ℕ) (place : Place) (e : verdict s langs ≡ Broken 18 place) where
+  object-told : (o : ℕ) → o < count s objects → breaks s langs 18 objects o ≡ true → Told s objects o
   unfolding rangeClashes
   object-told o l b =
-      let r : (t : Sort) → LegalRange t (field s objects o (objectMinimum t)) (field s objects o (objectMaximum t)) = λ t. object-range s 18 place e six-eighteen o t l in
-      let h : (objectClashes s o).found ≡ true = objects-found s o r (rule18-object s o b) in
+      let r : (t : Sort) → LegalRange t (field s objects o (objectMinimum t)) (field s objects o (objectMaximum t)) = λ t. object-range s langs 18 place e six-eighteen o t l in
+      let h : (objectClashes s o).found ≡ true = objects-found s o r (rule18-object s langs o b) in
       (h, placed s (AtObject o) (BreakAt s objects o) (objectClashes s o) (λ t p. inl (refl, p)) (objects-beyond s o l r h))
 
   -- the effective ranges of a set are legal too
   legal-effective : (o v : ℕ) (t : Sort) → o < count s objects → v < count s valueSets → LegalRange t (effectiveMinimum s o v t) (effectiveMaximum s o v t)
-  legal-effective o v t l m = effective-range s o v t (object-range s 18 place e six-eighteen o t l) (set-range s 18 place e six-eighteen v t m)
+  legal-effective o v t l m = effective-range s o v t (object-range s langs 18 place e six-eighteen o t l) (set-range s langs 18 place e six-eighteen v t m)
 
-  set-told : (v : ℕ) → v < count s valueSets → breaks s 18 valueSets v ≡ true → Told s valueSets v
+  set-told : (v : ℕ) → v < count s valueSets → breaks s langs 18 valueSets v ≡ true → Told s valueSets v
   unfolding rangeClashes
   set-told v m b =
       let o : ℕ = owner s v in
-      let l : o < count s objects = owner-index s 18 place e eleven-eighteen v m in
+      let l : o < count s objects = owner-index s langs 18 place e eleven-eighteen v m in
       let r : (t : Sort) → LegalRange t (effectiveMinimum s o v t) (effectiveMaximum s o v t) = λ t. legal-effective o v t l m in
-      let h : (setClashes s o v).found ≡ true = sets-found s o v r (rule18-set s v b) in
-      let beyond : Beyond s (AtSet s o v) (setClashes s o v) = sets-beyond s o v l m (λ t. object-range s 18 place e six-eighteen o t l) r h in
+      let h : (setClashes s o v).found ≡ true = sets-found s o v r (rule18-set s langs v b) in
+      let beyond : Beyond s (AtSet s o v) (setClashes s o v) = sets-beyond s o v l m (λ t. object-range s langs 18 place e six-eighteen o t l) r h in
       (h, placed s (AtSet s o v) (BreakAt s valueSets v) (setClashes s o v) (λ t p. inr (refl, p)) beyond)
 
 -- the places that rule 18 has
-told-at : (s : Sheet) (place : Place) → verdict s ≡ Broken 18 place → BrokenAt s 18 (sectionOf place) (recordOf place) → Told s (sectionOf place) (recordOf place)
+told-at : (s : Sheet) (langs : List ℕ) (place : Place) → verdict s langs ≡ Broken 18 place → BrokenAt s langs 18 (sectionOf place) (recordOf place) → Told s (sectionOf place) (recordOf place)
 unfolding subjects subjectKind
-told-at s (Object k) e b = object-told s (Object k) e k b.subject b.broken
-told-at s (ValueSet k) e b = set-told s (ValueSet k) e k b.subject b.broken
-told-at s place e b = absurd (omega arith)
+told-at s langs (Object k) e b = object-told s langs (Object k) e k b.subject b.broken
+told-at s langs (ValueSet k) e b = set-told s langs (ValueSet k) e k b.subject b.broken
+told-at s langs place e b = absurd (omega arith)
 
-pub range-left : (s : Sheet) (place : Place) → verdict s ≡ Broken 18 place → RangeLeft s (sectionOf place) (recordOf place)
-range-left s place e =
+pub range-left : (s : Sheet) (langs : List ℕ) (place : Place) → verdict s langs ≡ Broken 18 place → RangeLeft s langs (sectionOf place) (recordOf place)
+range-left s langs place e =
     let x : Clash = rangeClashes s (sectionOf place) (recordOf place) in
-    let h : Told s (sectionOf place) (recordOf place) = told-at s place e (broken-first s 18 place e).here in
+    let h : Told s (sectionOf place) (recordOf place) = told-at s langs place e (broken-first s langs 18 place e).here in
     record {
       sort = h.1.sort;
       value = x.first;
       bound = x.second;
-      listed = figures-eighteen s place e h.0;
+      listed = figures-eighteen s langs place e h.0;
       place = h.1.place;
       value-stands = h.1.value-stands;
       value-there = h.1.value-there;

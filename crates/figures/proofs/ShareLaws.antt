@@ -1,5 +1,5 @@
 -- The figures of a sheet that is refused by 24: each share has its line, and they add up above the limit. Assumes nothing.
-use Rattle.std.proofs.Common.{◌≡◌, ℕ, suc, ◌<◌, Bool, true, false, cond, not, refl, ap, sym, ◌∙◌, length, eqb, ltb}
+use Rattle.std.proofs.Common.{◌≡◌, ℕ, suc, ◌<◌, Bool, true, false, cond, not, refl, ap, sym, ◌∙◌, List, length, eqb, ltb}
 use mathlib.Core.Bool.{true≢false}
 use borrow.Author.Tests.{ltb-true, eq-eqb, not-true}
 use Rattle.sheet.specs.Words.{Sheet}
@@ -41,19 +41,19 @@ shares-total s =
     ∙ picked-total (hasShare s) (shareFigure s) (count s objects)
     ∙ sum-eq (λ o. cond (hasShare s o) (share s o) 0) (share s) (count s objects) (λ o l. share-or-none s o (hasShare s o) refl)
 
-module _ (s : Sheet) (place : Place) (e : verdict s ≡ Broken 24 place) where
+module _ (s : Sheet) (langs : List ℕ) (place : Place) (e : verdict s langs ≡ Broken 24 place) where
   -- the figures are the shares
-  pub figures-shares : figures s ≡ shareList s
+  pub figures-shares : figures s langs ≡ shareList s
   unfolding figures figuresBy figuresOf
   figures-shares = rw e refl
 
-  figures-picked : figures s ≡ picked (hasShare s) (shareFigure s) (count s objects)
+  figures-picked : figures s langs ≡ picked (hasShare s) (shareFigure s) (count s objects)
   figures-picked = figures-shares ∙ list-picked s
 
   -- the rule is broken: the level has a limit, and the counted tracks are above it
   pub exceeded : exceeds s countedLimit (countedTracks s) ≡ true
   unfolding breaks rule24
-  exceeded = (broken-first s 24 place e).here.broken
+  exceeded = (broken-first s langs 24 place e).here.broken
 
   pub levelled : (level s ≡ 0 → ⊥) × (limit (level s) countedLimit < countedTracks s)
   unfolding exceeds
@@ -61,21 +61,21 @@ module _ (s : Sheet) (place : Place) (e : verdict s ≡ Broken 24 place) where
       let both = and-both (not (eqb (level s) 0)) (ltb (limit (level s) countedLimit) (countedTracks s)) exceeded in
       (λ z. true≢false (sym (eq-eqb (level s) 0 z) ∙ not-true _ both.0), ltb-true _ _ both.1)
 
-  share-of : (i : ℕ) → i < length (figures s) → ShareOf s (figureAt (figures s) i)
+  share-of : (i : ℕ) → i < length (figures s langs) → ShareOf s (figureAt (figures s langs) i)
   share-of i h =
       let w = picked-each (hasShare s) (shareFigure s) (count s objects) i (rw figures-picked at h) in
       rw (figures-picked, w.1.1.1) (record { of-object = refl; inside = w.1.0; has-share = w.1.1.0; number = refl })
 
-  has-line : (o : ℕ) → o < count s objects → hasShare s o ≡ true → (i : ℕ) × ((i < length (figures s)) × (recordAt (figures s) i ≡ o))
+  has-line : (o : ℕ) → o < count s objects → hasShare s o ≡ true → (i : ℕ) × ((i < length (figures s langs)) × (recordAt (figures s langs) i ≡ o))
   has-line o l h =
       let w = picked-all (hasShare s) (shareFigure s) (count s objects) o l h in
       rw figures-picked (w.0, (w.1.0, ap (λ x. x.index) w.1.1))
 
-  rises : (i : ℕ) → suc i < length (figures s) → recordAt (figures s) i < recordAt (figures s) (suc i)
+  rises : (i : ℕ) → suc i < length (figures s langs) → recordAt (figures s langs) i < recordAt (figures s langs) (suc i)
   rises i h = rw figures-picked (picked-rise (hasShare s) (shareFigure s) (λ o. refl) (count s objects) i (rw figures-picked at h))
 
   -- what is promised of them
-  pub shares-exceed : SharesExceed s
+  pub shares-exceed : SharesExceed s langs
   shares-exceed = record {
     levelled = levelled.0;
     each = share-of;

@@ -1,6 +1,6 @@
 -- The theorems about the figures of a refusal, all in one place. Document 02, L1: "These figures are proved to stand in the sheet (kinds and
 -- shares: to follow from it) and by themselves to break that rule." What each theorem says of the figures is in specs/Promises.antt. Each is
--- stated here whole and proved by the theorem that it cites. That the code answers these figures is in the contract of `figures_by`
+-- stated here whole, for every list of languages, and proved by the theorem that it cites. That the code answers these figures is in the contract of `figures_by`
 -- (src/by_verdict.rt). Assumes nothing.
 use Rattle.std.proofs.Common.{◌≡◌, ℕ, ◌<◌, ◌≤◌, List, [], length, get_or}
 use Rattle.sheet.specs.Words.{Sheet, sheetOf}
@@ -19,29 +19,29 @@ use Rattle.figures.proofs.FoundLaws.{no-figures as none, accepted-none-told as n
 
 -- "the value, then the bound for 18": the two figures of a refusal by 18 are words of the sheet, those that the rule sets side by side at the
 -- place of the refusal, and as printed numbers the value is below that minimum or above that maximum
-pub range-left : (s : Sheet) (place : Place) → verdict s ≡ Broken 18 place → RangeLeft s (sectionOf place) (recordOf place)
+pub range-left : (s : Sheet) (langs : List ℕ) (place : Place) → verdict s langs ≡ Broken 18 place → RangeLeft s langs (sectionOf place) (recordOf place)
 range-left = ranges
 
 -- "the leader's, then the member's unequal word or kind for 20": the two figures of a refusal by 20 are one word of the leader at the place and
 -- the same word of a member that it lists, or their two kinds, and the printed numbers are unequal; the sheet is lent as bytes
-pub member-differs : (bytes : List ℕ) → ((i : ℕ) → get_or bytes i 0 < 256) → (place : Place) → verdict (sheetOf bytes) ≡ Broken 20 place
-    → MemberDiffers (sheetOf bytes) (recordOf place)
-member-differs bytes h place e = members (sheetOf bytes) place (words-fit bytes h) e
+pub member-differs : (bytes langs : List ℕ) → ((i : ℕ) → get_or bytes i 0 < 256) → (place : Place) → verdict (sheetOf bytes) langs ≡ Broken 20 place
+    → MemberDiffers (sheetOf bytes) langs (recordOf place)
+member-differs bytes langs h place e = members (sheetOf bytes) langs place (words-fit bytes h) e
 
 -- "each group's (under its leader) and lone object's share by rising record for 24": the figures of a refusal by 24 are the shares of all
 -- leaders and lone objects, by rising record, and the numbers add up above the limit of the sheet's level
-pub shares-exceed : (s : Sheet) (place : Place) → verdict s ≡ Broken 24 place → SharesExceed s
+pub shares-exceed : (s : Sheet) (langs : List ℕ) (place : Place) → verdict s langs ≡ Broken 24 place → SharesExceed s langs
 shares-exceed = shares
 
 -- no sheet has more than sixteen figures, so that the sixteen places of the code's answer hold "each group's (under its leader) and lone
 -- object's share"
-pub figures-most : (s : Sheet) → length (figures s) ≤ mostFigures
+pub figures-most : (s : Sheet) (langs : List ℕ) → length (figures s langs) ≤ mostFigures
 figures-most = most
 
 -- "For any other verdict it prints the verdict line only": a refusal by another rule has no figures
-pub no-figures : (s : Sheet) (rule : ℕ) (place : Place) → verdict s ≡ Broken rule place → (rule ≡ 18 → ⊥) → (rule ≡ 20 → ⊥) → (rule ≡ 24 → ⊥) → figures s ≡ []
+pub no-figures : (s : Sheet) (langs : List ℕ) (rule : ℕ) (place : Place) → verdict s langs ≡ Broken rule place → (rule ≡ 18 → ⊥) → (rule ≡ 20 → ⊥) → (rule ≡ 24 → ⊥) → figures s langs ≡ []
 no-figures = none
 
 -- and acceptance has none
-pub accepted-none-told : (s : Sheet) → verdict s ≡ Accepted → figures s ≡ []
+pub accepted-none-told : (s : Sheet) (langs : List ℕ) → verdict s langs ≡ Accepted → figures s langs ≡ []
 accepted-none-told = none-told

@@ -1,7 +1,7 @@
 -- A table of cases: sheets and the figures that each is told with, worked out by hand from document 02, L1, as the section, the record and the
 -- number of each line. Assumes nothing.
 use Rattle.std.specs.Prelude.{ℕ, ◌+◌, ◌-◌, ◌≡◌, refl, List, [], ◌∷◌, ◌++◌, map, replicate, ℤ, pos, negsuc}
-use Rattle.sheet.specs.Words.{sheetOf}
+use Rattle.sheet.specs.Words.{words, sheetOf}
 use Rattle.sheet.specs.Fields.{objects, objectGainMinimum}
 use Rattle.profile.specs.declared.Place.TheVariants.{Header, Object, ValueSet}
 use Rattle.profile.specs.declared.Verdict.{Verdict}
@@ -9,7 +9,7 @@ use Rattle.profile.specs.declared.Verdict.TheVariants.{Accepted, Broken}
 use Rattle.profile.specs.Verdict.{verdict}
 use Rattle.profile.specs.Judged.{judged}
 use Rattle.profile.specs.Build.{Row, Parts, build, put, bytesOf, absent, programme, content, object, still, slider, leaf, below, speakers, frontPack, sidePack, channelTracks, gainRow, plain, rowEntries, rowWords, sectionWords, sectionEntries, pairs}
-use Rattle.profile.specs.Cases.{sheetA}
+use Rattle.profile.specs.Cases.{listedEng, sheetA}
 use Rattle.profile.specs.RuleCases.{sheet, single}
 use Rattle.figures.specs.declared.Figure.{Figure}
 use Rattle.figures.specs.Clashes.{printed, earlier, firstBelow}
@@ -45,9 +45,13 @@ pub record Told : Type 0 where
   pub answer : Verdict
   pub lines : List Line
 
+-- the list that this table lends: "eng", the language of its sheets
+abbrev pub lent : List ℕ
+lent = words listedEng
+
 -- and those that the definitions give the bytes
 abbrev pub toldOn : List ℕ → Told
-toldOn bytes = record { bytes = bytes; answer = verdict (sheetOf bytes); lines = map lineOf (figures (sheetOf bytes)) }
+toldOn bytes = record { bytes = bytes; answer = verdict (sheetOf bytes) lent; lines = map lineOf (figures (sheetOf bytes) lent) }
 
 unfoldable pub case : Parts → Verdict → List Line → Told
 case p v lines = record { bytes = bytesOf (build p); answer = v; lines = lines }
@@ -111,7 +115,7 @@ cases =
 
 -- each of them has that verdict and those lines
 pub cases-hold : map (λ (c : Told). toldOn c.bytes) cases ≡ cases
-unfolding cases judged earlier firstBelow ordered belowMinimum boundPlace rangeClash objectClash effectivePlace rangePlace effectiveClash ownClash
+unfolding cases listedEng judged earlier firstBelow ordered belowMinimum boundPlace rangeClash objectClash effectivePlace rangePlace effectiveClash ownClash
     objectClashes setClashes rangeClashes wordClash kindClash wordClashes memberClash leaderClash hasShare shareFigures shareList concatBelow
     clashFigures figuresOf figuresBy figures
 cases-hold = refl

@@ -1,6 +1,7 @@
 -- The figures of a refusal. Document 02, L1: "For a sheet refused by 18, 20 or 24 a tool prints, after the verdict line, the figures with
 -- their records: the value, then the bound for 18; the leader's, then the member's unequal word or kind for 20; each group's (under its
--- leader) and lone object's share by rising record for 24. [..] For any other verdict it prints the verdict line only." Assumes nothing.
+-- leader) and lone object's share by rising record for 24. [..] For any other verdict it prints the verdict line only." The verdict is that
+-- under the list of languages lent beside the sheet, which is `langs` here. Assumes nothing.
 use Rattle.std.specs.Prelude.{ℕ, cond, List, [], ◌∷◌, eqb}
 use Rattle.sheet.specs.Words.{Sheet}
 use Rattle.profile.specs.declared.Place.{Place}
@@ -29,5 +30,5 @@ figuresBy s Accepted = []
 figuresBy s (Broken rule place) = figuresOf s rule place
 
 -- the figures of a sheet: each with the section and the record where it stands, in the order in which they are told
-unfoldable pub figures : Sheet → List Figure
-figures s = figuresBy s (verdict s)
+unfoldable pub figures : Sheet → List ℕ → List Figure
+figures s langs = figuresBy s (verdict s langs)

@@ -1,6 +1,6 @@
 -- What the figures of a refusal are held to. Document 02, L1: "These figures are proved to stand in the sheet (kinds and shares: to follow
 -- from it) and by themselves to break that rule." Each record says it of one rule; the theorems, in proofs/Theorems.antt, give it for every
--- sheet that is refused by that rule. Assumes nothing.
+-- sheet that is refused by that rule, under whatever list of languages, which is `langs` here. Assumes nothing.
 use Rattle.std.specs.Prelude.{ℕ, suc, ◌+◌, ◌<◌, ◌≡◌, Bool, true, false, cond, List, [], ◌∷◌, eqb, length, get_or, ℤ, pos, negsuc}
 use mathlib.Core.Logic.{◌⊎◌}
 use lib.Signed.{le_z}
@@ -80,11 +80,11 @@ BreakAt s section k t value bound =
 
 -- 18: "the value, then the bound". Two figures, a value and the minimum or the maximum of its sort, which the rule sets side by side at
 -- record k of the section; both are there, and the value is below that minimum or above that maximum
-pub record RangeLeft (s : Sheet) (section k : ℕ) : Type 0 where
+pub record RangeLeft (s : Sheet) (langs : List ℕ) (section k : ℕ) : Type 0 where
   pub sort : Sort
   pub value : Figure
   pub bound : Figure
-  pub listed : figures s ≡ value ∷ bound ∷ []
+  pub listed : figures s langs ≡ value ∷ bound ∷ []
   pub place : BreakAt s section k sort value bound
   pub value-stands : Stands s value (valueAt value.section sort)
   pub value-there : IsThere value
@@ -94,11 +94,11 @@ pub record RangeLeft (s : Sheet) (section k : ℕ) : Type 0 where
 
 -- 20: "the leader's, then the member's unequal word or kind". Two figures of a leader and a complement that it lists; they are the same word of
 -- both, or their kinds, and the printed numbers are unequal
-pub record MemberDiffers (s : Sheet) (leader : ℕ) : Type 0 where
+pub record MemberDiffers (s : Sheet) (langs : List ℕ) (leader : ℕ) : Type 0 where
   pub place : ℕ
   pub first : Figure
   pub second : Figure
-  pub listed : figures s ≡ first ∷ second ∷ []
+  pub listed : figures s langs ≡ first ∷ second ∷ []
   pub is-listed : place < number s objects leader complementList
   pub leader-of : (first.section ≡ objects) × (first.index ≡ leader)
   pub member-of : (second.section ≡ objects) × (second.index ≡ entry s objects leader complementList place)
@@ -133,9 +133,9 @@ total (x ∷ xs) = derived x.number + total xs
 
 -- 24: "each group's (under its leader) and lone object's share by rising record". The numbers, which are shares, add up above the limit of the
 -- sheet's level
-pub record SharesExceed (s : Sheet) : Type 0 where
+pub record SharesExceed (s : Sheet) (langs : List ℕ) : Type 0 where
   pub levelled : level s ≡ 0 → ⊥
-  pub each : (i : ℕ) → i < length (figures s) → ShareOf s (figureAt (figures s) i)
-  pub all : (o : ℕ) → o < count s objects → hasShare s o ≡ true → (i : ℕ) × ((i < length (figures s)) × (recordAt (figures s) i ≡ o))
-  pub rising : (i : ℕ) → suc i < length (figures s) → recordAt (figures s) i < recordAt (figures s) (suc i)
-  pub above : limit (level s) countedLimit < total (figures s)
+  pub each : (i : ℕ) → i < length (figures s langs) → ShareOf s (figureAt (figures s langs) i)
+  pub all : (o : ℕ) → o < count s objects → hasShare s o ≡ true → (i : ℕ) × ((i < length (figures s langs)) × (recordAt (figures s langs) i ≡ o))
+  pub rising : (i : ℕ) → suc i < length (figures s langs) → recordAt (figures s langs) i < recordAt (figures s langs) (suc i)
+  pub above : limit (level s) countedLimit < total (figures s langs)

@@ -38,8 +38,8 @@ fn figures_of(s: &[u8], rule: u8, place: Place) -> Figures
     }
 }
 
-// The first figures of a verdict on a sheet; there are no more where the verdict is the sheet's own (`figures-most`,
-// proofs/Theorems.antt).
+// The first figures of a verdict on a sheet; there are no more where the verdict is the sheet's own, under whatever list of languages
+// (`figures-most`, proofs/Theorems.antt).
 #[tactic(auto, unfolding(crate::specs::Figures::figuresBy, crate::specs::Lists::firstFigures))]
 pub fn figures_by(s: &[u8], verdict: Verdict) -> Figures
     ensures { result ≡ firstFigures noFigures (figuresBy (sheetOf s.now) verdict) }

@@ -2,7 +2,7 @@
 use Prim.Native.Nat.{ℕ, ◌<◌}
 use mathlib.Core.Path.{◌≡◌, ap, subst, ◌∙◌}
 use mathlib.Core.Bool.{true}
-use mathlib.Core.List.{[], ◌∷◌}
+use mathlib.Core.List.{List, [], ◌∷◌}
 use mathlib.Core.Logic.{◌⊎◌, ⊎_elim}
 use native.Mathlib.Omega.{arith}
 use borrow.Author.Tests.{lt-leb}
@@ -24,29 +24,29 @@ use Rattle.guarantee.proofs.OpenLaws.{opens-accepted, few-objects}
 use Rattle.guarantee.proofs.RunLaws.{passes, opened-kept}
 use Rattle.guarantee.proofs.Guaranteed.{listening}
 
-module _ (s : Sheet) (accepted : verdict s ≡ Accepted) (at : (level s ≡ 1) ⊎ (level s ≡ 2)) where
-  pub accepted-opens : opens s ≡ true
-  accepted-opens = opens-accepted s accepted (λ e. ⊎_elim (λ q. omega arith) (λ q. omega arith) at)
+module _ (s : Sheet) (langs : List ℕ) (accepted : verdict s langs ≡ Accepted) (at : (level s ≡ 1) ⊎ (level s ≡ 2)) where
+  pub accepted-opens : opens s langs ≡ true
+  accepted-opens = opens-accepted s langs accepted (λ e. ⊎_elim (λ q. omega arith) (λ q. omega arith) at)
 
   module _ (p : ℕ) (there : p < count s programmes) where
-    choice-done : programmeAnswer s (opened s).state p ≡ Done
+    choice-done : programmeAnswer s langs (opened s langs).state p ≡ Done
     unfolding programmeAnswer answerBy noProgramme
     choice-done =
-        let a = accepted-sheet s accepted in
-        let few = few-objects s accepted-opens in
-        passes s a few accepted-opens (opened s).state (noProgramme s p ∷ []) (opened-kept s a few accepted-opens).good
+        let a = accepted-sheet s langs accepted in
+        let few = few-objects s langs accepted-opens in
+        passes s langs a few accepted-opens (opened s langs).state (noProgramme s p ∷ []) (opened-kept s langs a few accepted-opens).good
         ∙ rw (lt-leb (count s programmes) p there)
 
-    chosen-start : after s (programme p ∷ []) ≡ started s p
+    chosen-start : after s langs (programme p ∷ []) ≡ started s p
     unfolding after run reply chosenProgramme replyBy
-    chosen-start = ap (λ (a : Answer). (replyBy a (opened s).state (started s p)).state) choice-done
+    chosen-start = ap (λ (a : Answer). (replyBy a (opened s langs).state (started s p)).state) choice-done
 
-    chosen-last : lastChosen s (programme p ∷ []) ≡ p
+    chosen-last : lastChosen s langs (programme p ∷ []) ≡ p
     unfolding lastChosen chosen
     chosen-last = rw choice-done
 
     -- demand 3 of a programme's start
-    pub start-promises : Promises s p (started s p)
+    pub start-promises : Promises s langs p (started s p)
     start-promises =
-        subst (λ (st : State). Promises s p st) chosen-start
-        (subst (λ (q : ℕ). Promises s q (after s (programme p ∷ []))) chosen-last (listening s accepted at (programme p ∷ [])).promises)
+        subst (λ (st : State). Promises s langs p st) chosen-start
+        (subst (λ (q : ℕ). Promises s langs q (after s langs (programme p ∷ []))) chosen-last (listening s langs accepted at (programme p ∷ [])).promises)

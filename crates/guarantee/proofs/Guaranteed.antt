@@ -32,41 +32,41 @@ use Rattle.guarantee.proofs.ValueLaws as values
 use Rattle.guarantee.proofs.ListingLaws.{listing-most, listing-least}
 use Rattle.guarantee.proofs.EntryLaws.{tracks-exist, channels-once, one-sounds}
 
-module _ (s : Sheet) (accepted : verdict s ≡ Accepted) (at : (level s ≡ 1) ⊎ (level s ≡ 2)) where
-  can-open : opens s ≡ true
-  can-open = opens-accepted s accepted (λ e. ⊎_elim (λ q. omega arith) (λ q. omega arith) at)
+module _ (s : Sheet) (langs : List ℕ) (accepted : verdict s langs ≡ Accepted) (at : (level s ≡ 1) ⊎ (level s ≡ 2)) where
+  can-open : opens s langs ≡ true
+  can-open = opens-accepted s langs accepted (λ e. ⊎_elim (λ q. omega arith) (λ q. omega arith) at)
 
   a : AcceptedSheet s
-  a = accepted-sheet s accepted
+  a = accepted-sheet s langs accepted
 
   few : count s objects ≤ stateObjects
-  few = few-objects s can-open
+  few = few-objects s langs can-open
 
-  enough : (st : State) → sound s st ≡ true → (words : ℕ) → length (entries s st) ≤ words → listingAnswer s st words ≡ Done
+  enough : (st : State) → sound s st ≡ true → (words : ℕ) → length (entries s st) ≤ words → listingAnswer s langs st words ≡ Done
   unfolding listingAnswer tooFewWords answerBy
-  enough st h words l = passes s a few can-open st (tooFewWords s st words ∷ []) h ∙ rw (le-ltb words (length (entries s st)) l)
+  enough st h words l = passes s langs a few can-open st (tooFewWords s st words ∷ []) h ∙ rw (le-ltb words (length (entries s st)) l)
 
-  done-listing : (st : State) → sound s st ≡ true → (words : ℕ) → length (entries s st) ≤ words → listed s st words ≡ record { answer = Done; entries = length (entries s st) }
+  done-listing : (st : State) → sound s st ≡ true → (words : ℕ) → length (entries s st) ≤ words → listed s langs st words ≡ record { answer = Done; entries = length (entries s st) }
   unfolding listed
   done-listing st h words l = rw (enough st h words l)
 
-  done-writing : (st : State) → sound s st ≡ true → (buffer : List ℕ) → length (entries s st) ≤ length buffer → buffered s st buffer ≡ sets buffer 0 (listedTracks s st)
+  done-writing : (st : State) → sound s st ≡ true → (buffer : List ℕ) → length (entries s st) ≤ length buffer → buffered s langs st buffer ≡ sets buffer 0 (listedTracks s st)
   unfolding buffered bufferedBy
   done-writing st h buffer l = rw (enough st h (length buffer) l)
 
-  done-opening : (opened s).answer ≡ Done
+  done-opening : (opened s langs).answer ≡ Done
   unfolding opened answerBy notOpen replyBy
   done-opening = rw can-open
 
   -- of every sound state
-  promised : (st : State) → sound s st ≡ true → Promises s st.programme st
+  promised : (st : State) → sound s st ≡ true → Promises s langs st.programme st
   unfolding listingAnswer tooFewWords
   promised st h =
       record {
         listing-done = done-listing st h;
         listing-written = done-writing st h;
         at-least-one = listing-least s a few st h;
-        at-most = le_trans (listing-most s a few st h) (most-counted s can-open);
+        at-most = le_trans (listing-most s a few st h) (most-counted s langs can-open);
         tracks-exist = tracks-exist s a few st h;
         one-sounds = one-sounds s a few st h;
         channels-once = channels-once s a few st h;
@@ -76,14 +76,14 @@ module _ (s : Sheet) (accepted : verdict s ≡ Accepted) (at : (level s ≡ 1) �
         offset-in-range = λ o l. values.offset-in-range s a few st h o l;
         gain-at-start = λ o l. values.gain-at-start s a few st h o l;
         offset-at-start = λ o l. values.offset-at-start s a few st h o l;
-        never-25 = λ c. never-refused s a few can-open st h c NotAccepted (omega arith);
-        never-26 = λ c. never-refused s a few can-open st h c Unsound (omega arith);
-        listing-never-25 = λ words. never s a few can-open st (tooFewWords s st words ∷ []) h (omega arith, tt) NotAccepted (omega arith);
-        listing-never-26 = λ words. never s a few can-open st (tooFewWords s st words ∷ []) h (omega arith, tt) Unsound (omega arith);
+        never-25 = λ c. never-refused s langs a few can-open st h c NotAccepted (omega arith);
+        never-26 = λ c. never-refused s langs a few can-open st h c Unsound (omega arith);
+        listing-never-25 = λ words. never s langs a few can-open st (tooFewWords s st words ∷ []) h (omega arith, tt) NotAccepted (omega arith);
+        listing-never-26 = λ words. never s langs a few can-open st (tooFewWords s st words ∷ []) h (omega arith, tt) Unsound (omega arith);
       }
 
   -- demand 3
-  pub listening : (calls : List Call) → Listening s calls
+  pub listening : (calls : List Call) → Listening s langs calls
   listening calls =
-      let k = after-kept s a few can-open calls in
-      record { opening-done = done-opening; programme = k.at; promises = subst (λ (p : ℕ). Promises s p (after s calls)) k.at (promised (after s calls) k.good) }
+      let k = after-kept s langs a few can-open calls in
+      record { opening-done = done-opening; programme = k.at; promises = subst (λ (p : ℕ). Promises s langs p (after s langs calls)) k.at (promised (after s langs calls) k.good) }

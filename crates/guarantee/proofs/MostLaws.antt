@@ -2,6 +2,7 @@
 use Prim.Native.Nat.{ℕ, ◌≤◌}
 use mathlib.Core.Path.{◌≡◌}
 use mathlib.Core.Bool.{true, false}
+use mathlib.Core.List.{List}
 use native.Mathlib.Nat.{le_trans}
 use borrow.Author.Tests.{leb-false}
 use lib.Dec.{leb}
@@ -16,9 +17,9 @@ use Rattle.guarantee.proofs.OpenLaws.{accepted-opened, few-objects, most-counted
 use Rattle.guarantee.proofs.SoundLaws.{start-sound}
 use Rattle.guarantee.proofs.ListingLaws.{listing-most}
 
-pub start-most : (s : Sheet) (p : ℕ) → opens s ≡ true → leb (count s programmes) p ≡ false → startNumber s p ≤ mostEntries (level s)
+pub start-most : (s : Sheet) (langs : List ℕ) (p : ℕ) → opens s langs ≡ true → leb (count s programmes) p ≡ false → startNumber s p ≤ mostEntries (level s)
 unfolding startNumber
-start-most s p e f =
-    let a = accepted-opened s e in
-    let few = few-objects s e in
-    le_trans (listing-most s a few (started s p) (start-sound s a few p (leb-false _ _ f))) (most-counted s e)
+start-most s langs p e f =
+    let a = accepted-opened s langs e in
+    let few = few-objects s langs e in
+    le_trans (listing-most s a few (started s p) (start-sound s a few p (leb-false _ _ f))) (most-counted s langs e)

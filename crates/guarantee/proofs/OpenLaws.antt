@@ -3,6 +3,7 @@
 use Prim.Native.Nat.{ℕ, zero, suc, ◌≤◌}
 use mathlib.Core.Path.{◌≡◌, refl, sym}
 use mathlib.Core.Bool.{true, not, true≢false}
+use mathlib.Core.List.{List}
 use native.Mathlib.Omega.{arith}
 use native.Mathlib.Nat.{le_trans}
 use borrow.Author.Tests.{eqb-false, ne_eqb, not-true}
@@ -35,17 +36,17 @@ is-accepted Accepted e = refl
 is-accepted (Broken rule place) e = absurd (true≢false (sym e))
 
 -- a sheet accepted above level 0 opens
-pub opens-accepted : (s : Sheet) → verdict s ≡ Accepted → (level s ≡ 0 → ⊥) → opens s ≡ true
+pub opens-accepted : (s : Sheet) (langs : List ℕ) → verdict s langs ≡ Accepted → (level s ≡ 0 → ⊥) → opens s langs ≡ true
 unfolding opens
-opens-accepted s e h = rw (e, ne_eqb (level s) 0 h)
+opens-accepted s langs e h = rw (e, ne_eqb (level s) 0 h)
 
-module _ (s : Sheet) (e : opens s ≡ true) where
-  parts : (verdict s ≡ Accepted) × (level s ≡ 0 → ⊥)
+module _ (s : Sheet) (langs : List ℕ) (e : opens s langs ≡ true) where
+  parts : (verdict s langs ≡ Accepted) × (level s ≡ 0 → ⊥)
   unfolding opens
-  parts = let both = and-both (isAccepted (verdict s)) (not (eqb (level s) 0)) e in (is-accepted (verdict s) both.0, eqb-false (level s) 0 (not-true _ both.1))
+  parts = let both = and-both (isAccepted (verdict s langs)) (not (eqb (level s) 0)) e in (is-accepted (verdict s langs) both.0, eqb-false (level s) 0 (not-true _ both.1))
 
   pub accepted-opened : AcceptedSheet s
-  accepted-opened = accepted-sheet s parts.0
+  accepted-opened = accepted-sheet s langs parts.0
 
   -- a state has all objects of the sheet
   pub few-objects : count s objects ≤ stateObjects

@@ -1,6 +1,7 @@
 -- The listening guarantee, demand 3: "after every list of calls from a fresh opening" on a sheet accepted at level 1 or 2. "Demand 3 is
--- a single claim about the whole list, not one for each call." The record has
--- a field for each promise; `listening` in proofs/Guaranteed.antt makes it for every such sheet and every list of calls. Assumes nothing.
+-- a single claim about the whole list, not one for each call." The record has a field for each promise; `listening` in
+-- proofs/Guaranteed.antt makes it for every such sheet and every list of calls. Document 02, L2: "what holds after an opening holds for
+-- calls lent the same sheet and the same list": acceptance and every call are under one list of languages, `langs`. Assumes nothing.
 use Rattle.std.specs.Prelude.{ℕ, ◌+◌, ◌<◌, ◌≤◌, ◌≡◌, Bool, true, false, cond, ◌&&◌, List, [], ◌∷◌, eqb, length, get_or}
 use Rattle.std.proofs.lemmas.List.Edits.{sets}
 use Rattle.sheet.specs.Words.{Sheet}
@@ -37,11 +38,11 @@ isChannel s o n e =
     eqb e.object o && eqb (field s tracks e.track trackPack) (packOf s o) && eqb (field s tracks e.track trackOrdinal) n
 
 -- the promises about one state, at a programme
-pub record Promises (s : Sheet) (p : ℕ) (st : State) : Type 0 where
+pub record Promises (s : Sheet) (langs : List ℕ) (p : ℕ) (st : State) : Type 0 where
   -- the listing with enough space ("Enough space is a word for each entry.") is done, gives the number of entries and writes their
   -- tracks; it has 1 to 16 (28) entries, each a track of the sheet
-  pub listing-done : (words : ℕ) → length (entries s st) ≤ words → listed s st words ≡ record { answer = Done; entries = length (entries s st) }
-  pub listing-written : (buffer : List ℕ) → length (entries s st) ≤ length buffer → buffered s st buffer ≡ sets buffer 0 (listedTracks s st)
+  pub listing-done : (words : ℕ) → length (entries s st) ≤ words → listed s langs st words ≡ record { answer = Done; entries = length (entries s st) }
+  pub listing-written : (buffer : List ℕ) → length (entries s st) ≤ length buffer → buffered s langs st buffer ≡ sets buffer 0 (listedTracks s st)
   pub at-least-one : 1 ≤ length (entries s st)
   pub at-most : length (entries s st) ≤ mostEntries (level s)
   pub tracks-exist : (i : ℕ) → i < length (listedTracks s st) → get_or (listedTracks s st) i 0 < count s tracks
@@ -62,14 +63,14 @@ pub record Promises (s : Sheet) (p : ℕ) (st : State) : Type 0 where
   -- and at their start value where none is granted ("its start value is what choosing that programme gives it")
   pub gain-at-start : (o : ℕ) → o < count s objects → grants s p o Gains ≡ false → (setting st o).gain ≡ (startSetting s p o).gain
   pub offset-at-start : (o : ℕ) → o < count s objects → grants s p o Offsets ≡ false → (setting st o).offset ≡ (startSetting s p o).offset
-  -- "From an accepted opening on the same sheet 25 and 26 never come."
-  pub never-25 : (c : Call) → (reply s st c).answer ≡ Refused NotAccepted → ⊥
-  pub never-26 : (c : Call) → (reply s st c).answer ≡ Refused Unsound → ⊥
-  pub listing-never-25 : (words : ℕ) → listingAnswer s st words ≡ Refused NotAccepted → ⊥
-  pub listing-never-26 : (words : ℕ) → listingAnswer s st words ≡ Refused Unsound → ⊥
+  -- "From an accepted opening on the same sheet 25 and 26 never come.": on the same sheet under the same list
+  pub never-25 : (c : Call) → (reply s langs st c).answer ≡ Refused NotAccepted → ⊥
+  pub never-26 : (c : Call) → (reply s langs st c).answer ≡ Refused Unsound → ⊥
+  pub listing-never-25 : (words : ℕ) → listingAnswer s langs st words ≡ Refused NotAccepted → ⊥
+  pub listing-never-26 : (words : ℕ) → listingAnswer s langs st words ≡ Refused Unsound → ⊥
 
 -- the promises after a list of calls, at the programme of the last programme choice not refused, 0 if there is none
-pub record Listening (s : Sheet) (calls : List Call) : Type 0 where
-  pub opening-done : (opened s).answer ≡ Done
-  pub programme : (after s calls).programme ≡ lastChosen s calls
-  pub promises : Promises s (lastChosen s calls) (after s calls)
+pub record Listening (s : Sheet) (langs : List ℕ) (calls : List Call) : Type 0 where
+  pub opening-done : (opened s langs).answer ≡ Done
+  pub programme : (after s langs calls).programme ≡ lastChosen s langs calls
+  pub promises : Promises s langs (lastChosen s langs calls) (after s langs calls)

@@ -1,6 +1,6 @@
 -- The machine with every definition open, so that the scripts of specs/Scripts.antt compute. Assumes nothing.
 use Rattle.std.specs.Prelude.{ℕ, List, [], ◌∷◌, length}
-use Rattle.sheet.specs.Words.{Sheet, sheetOf}
+use Rattle.sheet.specs.Words.{Sheet, sheetOf, words}
 use Rattle.profile.specs.Counting.{every, concatBelow, tabulate}
 use Rattle.profile.specs.Relations.{setFor}
 use Rattle.profile.specs.Judged.{judged}
@@ -35,32 +35,32 @@ pub record Outcome : Type 0 where
   pub buffer : List ℕ  -- the lent words afterwards
 
 -- the answers of a list of calls, each of which takes the state that the last handed back
-unfoldable pub answered : Sheet → State → List Call → List ℕ
-answered s st [] = []
-answered s st (c ∷ cs) = answerNumber (reply s st c).answer ∷ answered s (reply s st c).state cs
+unfoldable pub answered : Sheet → List ℕ → State → List Call → List ℕ
+answered s langs st [] = []
+answered s langs st (c ∷ cs) = answerNumber (reply s langs st c).answer ∷ answered s langs (reply s langs st c).state cs
 
 -- the calls from a state, and then a listing into the buffer
-unfoldable pub playedFrom : Sheet → State → List Call → List ℕ → List ℕ → Outcome
-playedFrom s st calls buffer before =
-    let end = run s st calls in
+unfoldable pub playedFrom : Sheet → List ℕ → State → List Call → List ℕ → List ℕ → Outcome
+playedFrom s langs st calls buffer before =
+    let end = run s langs st calls in
     record {
       answers = before;
       state = end;
-      listing = answerNumber (listed s end (length buffer)).answer;
-      entries = (listed s end (length buffer)).entries;
-      buffer = buffered s end buffer;
+      listing = answerNumber (listed s langs end (length buffer)).answer;
+      entries = (listed s langs end (length buffer)).entries;
+      buffer = buffered s langs end buffer;
     }
 
-unfoldable pub playedOn : Sheet → Beginning → List Call → List ℕ → Outcome
-playedOn s fresh calls buffer =
-    playedFrom s (opened s).state calls buffer (answerNumber (opened s).answer ∷ answered s (opened s).state calls)
-playedOn s (handed st) calls buffer = playedFrom s st calls buffer (answered s st calls)
+unfoldable pub playedOn : Sheet → List ℕ → Beginning → List Call → List ℕ → Outcome
+playedOn s langs fresh calls buffer =
+    playedFrom s langs (opened s langs).state calls buffer (answerNumber (opened s langs).answer ∷ answered s langs (opened s langs).state calls)
+playedOn s langs (handed st) calls buffer = playedFrom s langs st calls buffer (answered s langs st calls)
 
--- on lent bytes: what opens it opens all that it rests on
-unfoldable pub played : List ℕ → Beginning → List Call → List ℕ → Outcome
+-- on lent bytes, a sheet and a list of languages: what opens it opens all that it rests on
+unfoldable pub played : List ℕ → List ℕ → Beginning → List Call → List ℕ → Outcome
 unfolding judged every concatBelow tabulate setFor restingState setting active sameGain sameOffset isResting startValue grantedMinimum
     grantedMaximum grants inWholeGroup startsActive startSetting started gainFits offsetFits soundGain soundOffset activeMembers soundActivity
     soundAt sound opens answerBy replyBy notOpen notSound notIncluded opened noProgramme programmeAnswer chosenProgramme notInGroup objectAnswer
     movedSetting moved chosenObject noRange outsideRange valueAnswer withSetting withGain withOffset gainSet offsetSet ownEntries objectEntries
     entries listedTracks tooFewWords listingAnswer listed bufferedBy buffered answerNumber reply run answered playedFrom playedOn
-played bytes beginning calls buffer = playedOn (sheetOf bytes) beginning calls buffer
+played bytes langs beginning calls buffer = playedOn (sheetOf bytes) (words langs) beginning calls buffer

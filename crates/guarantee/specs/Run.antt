@@ -1,5 +1,6 @@
 -- Lists of calls. Document 01, "The listener": "The list, perhaps empty, starts from the state that opening gave. Each call takes the
--- state that the last handed back, refused or not. All, listing too, are lent the same sheet." Assumes nothing.
+-- state that the last handed back, refused or not. All, listing too, are lent the same sheet." Document 02, L2: "what holds after an
+-- opening holds for calls lent the same sheet and the same list", which is `langs`. Assumes nothing.
 use Rattle.std.specs.Prelude.{ℕ, List, [], ◌∷◌, ℤ}
 use Rattle.sheet.specs.Words.{Sheet}
 use Rattle.values.specs.declared.Gain.{Gain}
@@ -17,20 +18,20 @@ pub data Call : Type 0 where
   offset : ℕ → ℤ → Call
 
 -- what a call hands back
-unfoldable pub reply : Sheet → State → Call → Reply
-reply s st (programme p) = chosenProgramme s st p
-reply s st (object o) = chosenObject s st o
-reply s st (gain o g) = gainSet s st o g
-reply s st (offset o z) = offsetSet s st o z
+unfoldable pub reply : Sheet → List ℕ → State → Call → Reply
+reply s langs st (programme p) = chosenProgramme s langs st p
+reply s langs st (object o) = chosenObject s langs st o
+reply s langs st (gain o g) = gainSet s langs st o g
+reply s langs st (offset o z) = offsetSet s langs st o z
 
 -- the state after a list of calls
-unfoldable pub run : Sheet → State → List Call → State
-run s st [] = st
-run s st (c ∷ cs) = run s (reply s st c).state cs
+unfoldable pub run : Sheet → List ℕ → State → List Call → State
+run s langs st [] = st
+run s langs st (c ∷ cs) = run s langs (reply s langs st c).state cs
 
 -- the state after a list of calls from a fresh opening
-unfoldable pub after : Sheet → List Call → State
-after s cs = run s (opened s).state cs
+unfoldable pub after : Sheet → List ℕ → List Call → State
+after s langs cs = run s langs (opened s langs).state cs
 
 -- a programme choice that was not refused chooses
 abbrev pub chosenBy : Answer → ℕ → ℕ → ℕ
@@ -38,13 +39,13 @@ chosenBy Done p before = p
 chosenBy (Refused r) p before = before
 
 -- "that of the last programme choice not refused", else the one before the list
-unfoldable pub chosen : Sheet → State → ℕ → List Call → ℕ
-chosen s st before [] = before
-chosen s st before (programme p ∷ cs) = chosen s (reply s st (programme p)).state (chosenBy (programmeAnswer s st p) p before) cs
-chosen s st before (object o ∷ cs) = chosen s (reply s st (object o)).state before cs
-chosen s st before (gain o g ∷ cs) = chosen s (reply s st (gain o g)).state before cs
-chosen s st before (offset o z ∷ cs) = chosen s (reply s st (offset o z)).state before cs
+unfoldable pub chosen : Sheet → List ℕ → State → ℕ → List Call → ℕ
+chosen s langs st before [] = before
+chosen s langs st before (programme p ∷ cs) = chosen s langs (reply s langs st (programme p)).state (chosenBy (programmeAnswer s langs st p) p before) cs
+chosen s langs st before (object o ∷ cs) = chosen s langs (reply s langs st (object o)).state before cs
+chosen s langs st before (gain o g ∷ cs) = chosen s langs (reply s langs st (gain o g)).state before cs
+chosen s langs st before (offset o z ∷ cs) = chosen s langs (reply s langs st (offset o z)).state before cs
 
 -- "The programme is that of the last programme choice not refused, 0 if there is none."
-unfoldable pub lastChosen : Sheet → List Call → ℕ
-lastChosen s cs = chosen s (opened s).state 0 cs
+unfoldable pub lastChosen : Sheet → List ℕ → List Call → ℕ
+lastChosen s langs cs = chosen s langs (opened s langs).state 0 cs

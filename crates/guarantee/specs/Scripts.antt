@@ -1,10 +1,11 @@
 -- Scripts: lists of calls and a listing behind them, with every answer, the whole state and the buffer's words that they come to. What is
 -- expected was worked out by hand from document 01, "The listener", and not taken from the computation. Assumes nothing.
-use Rattle.std.specs.Prelude.{ℕ, ◌-◌, ◌≡◌, refl, true, false, List, [], ◌∷◌, map, ℤ, pos, negsuc, length, set, replicate}
-use Rattle.sheet.specs.Words.{sheetOf}
+use Rattle.std.specs.Prelude.{ℕ, ◌+◌, ◌-◌, ◌≡◌, refl, true, false, List, [], ◌∷◌, ◌++◌, map, ℤ, pos, negsuc, length, set, replicate}
+use Rattle.sheet.specs.Words.{words, sheetOf}
 use Rattle.values.specs.declared.Gain.{Gain}
 use Rattle.values.specs.declared.Gain.TheVariants.{Silent, Tenths}
-use Rattle.profile.specs.Build.{build, put, bytesOf, rowEntries, rowWords, sectionWords, sectionEntries, pairs, programme as programmeRow, content, plain, object as objectRow, slider, leaf, below, speakers, frontPack, sidePack, channelTracks, gainRow}
+use Rattle.profile.specs.Build.{build, put, bytesOf, eng, rowEntries, rowWords, sectionWords, sectionEntries, pairs, programme as programmeRow, content, plain, object as objectRow, slider, leaf, below, speakers, frontPack, sidePack, channelTracks, gainRow}
+use Rattle.profile.specs.Cases.{listedEng}
 use Rattle.listener.specs.declared.Setting.{Setting}
 use Rattle.listener.specs.declared.State.{State}
 use Rattle.listener.specs.State.{stateObjects, resting}
@@ -58,8 +59,10 @@ infix 90 ◌gives◌
 abbrev ◌gives◌ : Call → ℕ → Step
 ◌gives◌ c n = record { call = c; answer = n }
 
+-- the bytes of a sheet and of the list of languages that opening and all calls are lent, with the calls and what they come to
 pub record Script : Type 0 where
   pub bytes : List ℕ
+  pub langs : List ℕ
   pub beginning : Beginning
   pub steps : List Step
   pub buffer : List ℕ
@@ -72,22 +75,28 @@ lent n = replicate n 999
 abbrev answersOf : List Step → List ℕ
 answersOf = map (λ (x : Step). x.answer)
 
--- from a fresh opening that is done; the listing has exactly enough space for the tracks
-unfoldable pub script : List ℕ → List Step → State → List ℕ → Script
-script bytes steps end tracks =
+-- from a fresh opening that is done, under a list of languages; the listing has exactly enough space for the tracks
+unfoldable pub scriptUnder : List ℕ → List ℕ → List Step → State → List ℕ → Script
+scriptUnder langs bytes steps end tracks =
     record {
       bytes = bytes;
+      langs = langs;
       beginning = fresh;
       steps = steps;
       buffer = lent (length tracks);
       outcome = record { answers = 0 ∷ answersOf steps; state = end; listing = 0; entries = length tracks; buffer = tracks };
     }
 
+-- under the list with "eng", the one language of these sheets
+unfoldable pub script : List ℕ → List Step → State → List ℕ → Script
+script bytes steps end tracks = scriptUnder listedEng bytes steps end tracks
+
 -- from a state that is handed in, which is sound
 unfoldable pub resumed : List ℕ → State → List Step → State → List ℕ → Script
 resumed bytes begin steps end tracks =
     record {
       bytes = bytes;
+      langs = listedEng;
       beginning = handed begin;
       steps = steps;
       buffer = lent (length tracks);
@@ -99,21 +108,41 @@ unfoldable pub unsound : List ℕ → List Call → State → Script
 unsound bytes calls begin =
     record {
       bytes = bytes;
+      langs = listedEng;
       beginning = handed begin;
       steps = map (λ c. c gives 26) calls;
       buffer = lent 8;
       outcome = record { answers = map (λ c. 26) calls; state = begin; listing = 26; entries = 0; buffer = lent 8 };
     }
 
--- opening is refused by 25, and so are these calls and the listing: "Refused opening gives programme 0 and 84 times inactive, 0, 0."
-unfoldable pub unopened : List ℕ → List Call → Script
-unopened bytes calls =
+-- opening under a list of languages is refused by 25, and so are these calls and the listing: "Refused opening gives programme 0 and 84
+-- times inactive, 0, 0."
+unfoldable pub unopenedUnder : List ℕ → List ℕ → List Call → Script
+unopenedUnder langs bytes calls =
     record {
       bytes = bytes;
+      langs = langs;
       beginning = fresh;
       steps = map (λ c. c gives 25) calls;
       buffer = lent 8;
       outcome = record { answers = 25 ∷ map (λ c. 25) calls; state = state 0 []; listing = 25; entries = 0; buffer = lent 8 };
+    }
+
+-- under the usual list
+unfoldable pub unopened : List ℕ → List Call → Script
+unopened bytes calls = unopenedUnder listedEng bytes calls
+
+-- from a state that is handed in under a list by which the sheet isn't accepted: these calls and the listing are refused by 25, and the
+-- state comes back
+unfoldable pub keptUnder : List ℕ → List ℕ → List Call → State → Script
+keptUnder langs bytes calls begin =
+    record {
+      bytes = bytes;
+      langs = langs;
+      beginning = handed begin;
+      steps = map (λ c. c gives 25) calls;
+      buffer = lent 8;
+      outcome = record { answers = map (λ c. 25) calls; state = begin; listing = 25; entries = 0; buffer = lent 8 };
     }
 
 -- the play's objects as programme 0 starts them: of the group the leader only is active
@@ -154,6 +183,7 @@ unfoldable pub listing : List ℕ → ℕ → ℕ → List ℕ → Script
 listing before answer entries words =
     record {
       bytes = play;
+      langs = listedEng;
       beginning = fresh;
       steps = [];
       buffer = before;
@@ -229,7 +259,7 @@ germanSteps =
     ∷ []
 
 unfoldable pub scripts : List Script
-unfolding script resumed unsound unopened listing playStart germanStart state placed playWords play brokenPlay levelZeroPlay ranges family pair twoBeds build put bytesOf rowEntries rowWords sectionWords sectionEntries pairs programmeRow content plain objectRow slider leaf below speakers frontPack sidePack channelTracks gainRow played
+unfolding script scriptUnder resumed unsound unopened unopenedUnder keptUnder listing listedEng playStart germanStart state placed playWords play brokenPlay levelZeroPlay ranges family pair twoBeds build put bytesOf rowEntries rowWords sectionWords sectionEntries pairs programmeRow content plain objectRow slider leaf below speakers frontPack sidePack channelTracks gainRow played
 scripts =
     -- The play: the empty list of calls
     script play [] playStart playTracks
@@ -260,6 +290,21 @@ scripts =
     -- 25: a sheet that breaks rule 14, and one that is accepted at level 0
     ∷ unopened brokenPlay anyCalls
     ∷ unopened levelZeroPlay anyCalls
+    -- 25 by the list of languages. The play's is not in it: an empty list, a byte alone, which is none, and another word
+    ∷ unopenedUnder [] play anyCalls
+    ∷ unopenedUnder (21 ∷ []) play anyCalls
+    ∷ unopenedUnder (bytesOf ((eng + 1) ∷ [])) play anyCalls
+    -- a list that has it and doesn't rise: twice the same word, and a lower one behind it
+    ∷ unopenedUnder (bytesOf (eng ∷ eng ∷ [])) play anyCalls
+    ∷ unopenedUnder (bytesOf (1 ∷ eng ∷ 2 ∷ [])) play anyCalls
+    -- more languages than the sheet has, and an odd last byte
+    ∷ scriptUnder (bytesOf (1 ∷ eng ∷ (eng + 1) ∷ []) ++ 0 ∷ []) play (object 3 gives 0 ∷ object 1 gives 0 ∷ []) playStart playTracks
+    -- a state that an opening under the usual list gave comes back under another list, and goes on under the usual one
+    ∷ keptUnder (bytesOf ((eng + 1) ∷ [])) play anyCalls playStart
+    ∷ keptUnder (bytesOf ((eng + 1) ∷ [])) play (programme 1 ∷ object 3 ∷ gain 1 (up 90) ∷ offset 5 (pos 0) ∷ []) playStart
+    ∷ resumed play playStart (programme 1 gives 0 ∷ []) germanStart germanTracks
+    -- 25 before 26 there too
+    ∷ keptUnder [] play anyCalls (state 0 [])
     -- 26, before all but 25. The resting state: the bed is inactive
     ∷ unsound play anyCalls (state 0 [])
     -- no such programme
@@ -316,6 +361,6 @@ scripts =
     ∷ []
 
 -- each script comes to its outcome
-pub scripts-hold : map (λ (x : Script). playedOn (sheetOf x.bytes) x.beginning (map (λ (y : Step). y.call) x.steps) x.buffer) scripts ≡ map (λ (x : Script). x.outcome) scripts
+pub scripts-hold : map (λ (x : Script). playedOn (sheetOf x.bytes) (words x.langs) x.beginning (map (λ (y : Step). y.call) x.steps) x.buffer) scripts ≡ map (λ (x : Script). x.outcome) scripts
 unfolding scripts played
 scripts-hold = refl

@@ -70,12 +70,12 @@ module _ (ws buffer : List ℕ) (room : 2 * length ws ≤ length buffer) where
   rest-stays : drop (2 * length ws) (sets buffer 0 (bytesOf ws)) ≡ drop (2 * length ws) buffer
   rest-stays = rw (← bytes-length, written) (drop-append_seam (bytesOf ws) (drop (length (bytesOf ws)) buffer))
 
-module _ (s : Sheet) (accepted : verdict s ≡ Accepted) (at : (level s ≡ 1) ⊎ (level s ≡ 2)) (p : ℕ) (there : p < count s programmes) where
-  done : (bytes : ℕ) → 2 * startNumber s p ≤ bytes → hostAnswer s p bytes ≡ Done
+module _ (s : Sheet) (langs : List ℕ) (accepted : verdict s langs ≡ Accepted) (at : (level s ≡ 1) ⊎ (level s ≡ 2)) (p : ℕ) (there : p < count s programmes) where
+  done : (bytes : ℕ) → 2 * startNumber s p ≤ bytes → hostAnswer s langs p bytes ≡ Done
   unfolding hostAnswer answerBy notOpen noProgramme tooFewBytes
-  done bytes l = rw (accepted-opens s accepted at, lt-leb (count s programmes) p there, le-ltb bytes (2 * startNumber s p) l) refl
+  done bytes l = rw (accepted-opens s langs accepted at, lt-leb (count s programmes) p there, le-ltb bytes (2 * startNumber s p) l) refl
 
-  buffered : (buffer : List ℕ) → 2 * startNumber s p ≤ length buffer → hostBuffered s p buffer ≡ sets buffer 0 (bytesOf (startTracks s p))
+  buffered : (buffer : List ℕ) → 2 * startNumber s p ≤ length buffer → hostBuffered s langs p buffer ≡ sets buffer 0 (bytesOf (startTracks s p))
   unfolding hostBuffered bufferedBy
   buffered buffer l = rw (done (length buffer) l) refl
 
@@ -83,10 +83,10 @@ module _ (s : Sheet) (accepted : verdict s ≡ Accepted) (at : (level s ≡ 1) �
   room : (buffer : List ℕ) → 2 * startNumber s p ≤ length buffer → 2 * length (startTracks s p) ≤ length buffer
   room buffer l = rw (track-number s p) l
 
-  pub host-listening : HostListening s p
+  pub host-listening : HostListening s langs p
   unfolding hostListed answerCode startNumber startTracks
   host-listening =
-      let promises = start-promises s accepted at p there in
+      let promises = start-promises s langs accepted at p there in
       let exist = promises.tracks-exist in
       let n = track-number s p in
       record {

@@ -48,31 +48,31 @@ words-most l = either (eqb l 1) _ _ hostWords (omega arith) (omega arith)
     either true x y n l m = l
     either false x y n l m = m
 
-module _ (s : Sheet) (p bytes : ℕ) where
+module _ (s : Sheet) (langs : List ℕ) (p bytes : ℕ) where
   -- the answer that is left where the sheet opens and has the programme
   abbrev room : Answer
   room = cond (ltb bytes (2 * startNumber s p)) (Refused TooFewWords) Done
 
   -- the words are always enough: the two answers differ in 32 only
   both : (P : Answer → Answer → Type 0) → ((r : Refusal) → P (Refused r) (Refused r))
-      → (startNumber s p ≤ hostWords → P Done room) → P (startAnswer s p hostWords) (hostAnswer s p bytes)
+      → (startNumber s p ≤ hostWords → P Done room) → P (startAnswer s langs p hostWords) (hostAnswer s langs p bytes)
   unfolding startAnswer hostAnswer answerBy notOpen noProgramme tooFewWords tooFewBytes startNumber
   both P refused done =
-      (elim (opens s) as (λ b. opens s ≡ b → P (startAnswer s p hostWords) (hostAnswer s p bytes)) [
-        | true ↦ λ e. (elim (leb (count s programmes) p) as (λ b. leb (count s programmes) p ≡ b → P (startAnswer s p hostWords) (hostAnswer s p bytes)) [
+      (elim (opens s langs) as (λ b. opens s langs ≡ b → P (startAnswer s langs p hostWords) (hostAnswer s langs p bytes)) [
+        | true ↦ λ e. (elim (leb (count s programmes) p) as (λ b. leb (count s programmes) p ≡ b → P (startAnswer s langs p hostWords) (hostAnswer s langs p bytes)) [
           | true ↦ λ f. rw (e, f) (refused NoProgramme)
-          | false ↦ λ f. let most : length (entries s (started s p)) ≤ hostWords = le_trans (start-most s p e f) (words-most (level s)) in rw (e, f, le-ltb hostWords (length (entries s (started s p))) most) (done most)
+          | false ↦ λ f. let most : length (entries s (started s p)) ≤ hostWords = le_trans (start-most s langs p e f) (words-most (level s)) in rw (e, f, le-ltb hostWords (length (entries s (started s p))) most) (done most)
         ]) refl
         | false ↦ λ e. rw e (refused NotAccepted)
       ]) refl
 
-  pub refused-both : (r : Refusal) → startAnswer s p hostWords ≡ Refused r → hostAnswer s p bytes ≡ Refused r
+  pub refused-both : (r : Refusal) → startAnswer s langs p hostWords ≡ Refused r → hostAnswer s langs p bytes ≡ Refused r
   refused-both r = both (λ x y. x ≡ Refused r → y ≡ Refused r) (λ q e. e) (λ most e. absurd (done-refused r Done refl e))
 
-  pub done-most : startAnswer s p hostWords ≡ Done → startNumber s p ≤ hostWords
+  pub done-most : startAnswer s langs p hostWords ≡ Done → startNumber s p ≤ hostWords
   done-most = both (λ x y. x ≡ Done → startNumber s p ≤ hostWords) (λ q e. absurd (done-refused q (Refused q) e refl)) (λ most e. most)
 
-  pub done-room : startAnswer s p hostWords ≡ Done → hostAnswer s p bytes ≡ cond (ltb bytes (2 * startNumber s p)) (Refused TooFewWords) Done
+  pub done-room : startAnswer s langs p hostWords ≡ Done → hostAnswer s langs p bytes ≡ cond (ltb bytes (2 * startNumber s p)) (Refused TooFewWords) Done
   done-room = both (λ x y. x ≡ Done → y ≡ room) (λ q e. absurd (done-refused q (Refused q) e refl)) (λ most e. refl)
 
 pub track-number : (s : Sheet) (p : ℕ) → length (startTracks s p) ≡ startNumber s p
@@ -80,50 +80,50 @@ unfolding startNumber startTracks listedTracks
 track-number s p = length-map (entries s (started s p)) (λ (e : Entry). e.track)
 
 -- what a listing into the words that is done tells
-pub record Told (s : Sheet) (p n : ℕ) (words : List ℕ) : Type 0 where
-  pub answer : startAnswer s p hostWords ≡ Done
+pub record Told (s : Sheet) (langs : List ℕ) (p n : ℕ) (words : List ℕ) : Type 0 where
+  pub answer : startAnswer s langs p hostWords ≡ Done
   pub number : n ≡ startNumber s p
   pub most : n ≤ hostWords
   pub long : length words ≡ hostWords
   pub written : take n words ≡ startTracks s p
 
-module _ (s : Sheet) (p : ℕ) (r : Listing) (words : List ℕ) (e : r ≡ startListed s p hostWords) (f : words ≡ startBuffered s p (replicate hostWords 0)) where
-  answer-told : r.answer ≡ startAnswer s p hostWords
+module _ (s : Sheet) (langs : List ℕ) (p : ℕ) (r : Listing) (words : List ℕ) (e : r ≡ startListed s langs p hostWords) (f : words ≡ startBuffered s langs p (replicate hostWords 0)) where
+  answer-told : r.answer ≡ startAnswer s langs p hostWords
   unfolding startListed
-  answer-told = told-answer r (startNumber s p) (startAnswer s p hostWords) e
+  answer-told = told-answer r (startNumber s p) (startAnswer s langs p hostWords) e
 
-  pub told : r.answer ≡ Done → Told s p r.entries words
+  pub told : r.answer ≡ Done → Told s langs p r.entries words
   unfolding startListed startBuffered
   told d =
-      let a : startAnswer s p hostWords ≡ Done = sym answer-told ∙ d in
-      let n : r.entries ≡ startNumber s p = told-number r (startNumber s p) (startAnswer s p hostWords) e a in
-      let m : startNumber s p ≤ hostWords = done-most s p 0 a in
+      let a : startAnswer s langs p hostWords ≡ Done = sym answer-told ∙ d in
+      let n : r.entries ≡ startNumber s p = told-number r (startNumber s p) (startAnswer s langs p hostWords) e a in
+      let m : startNumber s p ≤ hostWords = done-most s langs p 0 a in
       record {
         answer = a;
         number = n;
         most = omega (arith, n, m);
-        long = told-length r (startNumber s p) (startAnswer s p hostWords) e words (replicate hostWords 0) (startTracks s p) f a;
-        written = told-tracks r (startNumber s p) (startAnswer s p hostWords) e words (replicate hostWords 0) (startTracks s p) f a (track-number s p) m;
+        long = told-length r (startNumber s p) (startAnswer s langs p hostWords) e words (replicate hostWords 0) (startTracks s p) f a;
+        written = told-tracks r (startNumber s p) (startAnswer s langs p hostWords) e words (replicate hostWords 0) (startTracks s p) f a (track-number s p) m;
       }
 
   -- a refusal is handed on
   pub told-refused : (q : Refusal) (buffer : List ℕ) → r.answer ≡ Refused q
-      → (negated (refusalNumber q) ≡ hostListed s p (length buffer)) × (buffer ≡ hostBuffered s p buffer)
+      → (negated (refusalNumber q) ≡ hostListed s langs p (length buffer)) × (buffer ≡ hostBuffered s langs p buffer)
   unfolding hostListed hostBuffered answerCode bufferedBy
-  told-refused q buffer d = let a = refused-both s p (length buffer) q (sym answer-told ∙ d) in (rw a refl, rw a refl)
+  told-refused q buffer d = let a = refused-both s langs p (length buffer) q (sym answer-told ∙ d) in (rw a refl, rw a refl)
 
-module _ {s : Sheet} {p n : ℕ} {words : List ℕ} (t : Told s p n words) (buffer : List ℕ) where
-  pub few-bytes : length buffer < 2 * n → (negated (refusalNumber TooFewWords) ≡ hostListed s p (length buffer)) × (buffer ≡ hostBuffered s p buffer)
+module _ {s : Sheet} {langs : List ℕ} {p n : ℕ} {words : List ℕ} (t : Told s langs p n words) (buffer : List ℕ) where
+  pub few-bytes : length buffer < 2 * n → (negated (refusalNumber TooFewWords) ≡ hostListed s langs p (length buffer)) × (buffer ≡ hostBuffered s langs p buffer)
   unfolding hostListed hostBuffered answerCode bufferedBy
   few-bytes l =
       let h : ltb (length buffer) (2 * startNumber s p) ≡ true = rw (← t.number) (lt-ltb _ _ l) in
-      (rw (done-room s p (length buffer) t.answer, h) refl, rw (done-room s p (length buffer) t.answer, h) refl)
+      (rw (done-room s langs p (length buffer) t.answer, h) refl, rw (done-room s langs p (length buffer) t.answer, h) refl)
 
-  pub enough-bytes : 2 * n ≤ length buffer → (pos n ≡ hostListed s p (length buffer)) × (sets buffer 0 (bytesOf (take n words)) ≡ hostBuffered s p buffer)
+  pub enough-bytes : 2 * n ≤ length buffer → (pos n ≡ hostListed s langs p (length buffer)) × (sets buffer 0 (bytesOf (take n words)) ≡ hostBuffered s langs p buffer)
   unfolding hostListed hostBuffered answerCode bufferedBy
   enough-bytes l =
       let h : ltb (length buffer) (2 * startNumber s p) ≡ false = rw (← t.number) (le-ltb _ _ l) in
-      (rw (done-room s p (length buffer) t.answer, h) (ap pos t.number), rw (done-room s p (length buffer) t.answer, h) (ap (λ (x : List ℕ). sets buffer 0 (bytesOf x)) t.written))
+      (rw (done-room s langs p (length buffer) t.answer, h) (ap pos t.number), rw (done-room s langs p (length buffer) t.answer, h) (ap (λ (x : List ℕ). sets buffer 0 (bytesOf x)) t.written))
 
 -- a refusal's number is small, and no nought
 pub number-small : (q : Refusal) → (1 ≤ refusalNumber q) × (refusalNumber q ≤ 32)

@@ -16,18 +16,18 @@ use Rattle.host.specs.HostListing.{hostListed, hostBuffered}
 unfoldable pub trackOf : List ℕ → ℕ → ℕ
 trackOf bytes i = 256 * get_or bytes (2 * i) 0 + get_or bytes (2 * i + 1) 0
 
-pub record HostListening (s : Sheet) (p : ℕ) : Type 0 where
+pub record HostListening (s : Sheet) (langs : List ℕ) (p : ℕ) : Type 0 where
   -- with enough bytes, two for each entry, the number of entries is given: 1 to 16 (28)
-  pub number-given : (bytes : ℕ) → 2 * startNumber s p ≤ bytes → hostListed s p bytes ≡ pos (startNumber s p)
+  pub number-given : (bytes : ℕ) → 2 * startNumber s p ≤ bytes → hostListed s langs p bytes ≡ pos (startNumber s p)
   pub at-least-one : 1 ≤ startNumber s p
   pub at-most : startNumber s p ≤ mostEntries (level s)
   -- the tracks written are those of the programme's start, in the listing's order, each a track of the sheet; later bytes stay
   pub tracks-written : (buffer : List ℕ) → 2 * startNumber s p ≤ length buffer
-      → (i : ℕ) → i < startNumber s p → trackOf (hostBuffered s p buffer) i ≡ get_or (startTracks s p) i 0
+      → (i : ℕ) → i < startNumber s p → trackOf (hostBuffered s langs p buffer) i ≡ get_or (startTracks s p) i 0
   pub tracks-exist : (buffer : List ℕ) → 2 * startNumber s p ≤ length buffer
-      → (i : ℕ) → i < startNumber s p → trackOf (hostBuffered s p buffer) i < count s tracks
+      → (i : ℕ) → i < startNumber s p → trackOf (hostBuffered s langs p buffer) i < count s tracks
   pub later-stay : (buffer : List ℕ) → 2 * startNumber s p ≤ length buffer
-      → drop (2 * startNumber s p) (hostBuffered s p buffer) ≡ drop (2 * startNumber s p) buffer
+      → drop (2 * startNumber s p) (hostBuffered s langs p buffer) ≡ drop (2 * startNumber s p) buffer
   -- exactly one member of each wholly included group sounds
   pub one-sounds : (l : ℕ) → l < count s objects → leader s l ≡ true → whollyIncluded s p l ≡ true
       → howMany (λ i. sounds s (started s p) (member s l i)) (members s l) ≡ 1

@@ -1,6 +1,7 @@
 -- The listing of a programme's start on bytes. Document 01, "What the guarantees have to say": "That listing takes sheet, programme
 -- number and buffer, refuses by 25, 27, 32, and writes each track as two bytes, high first. It gives the number of entries, or the
--- refusal's number negated; 32 here means fewer than two bytes per entry." Assumes nothing.
+-- refusal's number negated; 32 here means fewer than two bytes per entry." Document 02, L2: "every call lent a sheet is lent it too (host
+-- calls right after the sheet)": the list of languages, `langs`. Assumes nothing.
 use Rattle.std.specs.Prelude.{ℕ, zero, suc, ◌*◌, ◌/◌, ◌%◌, List, [], ◌∷◌, ltb, ℤ, pos, negsuc, length, get_or}
 use Rattle.sheet.specs.Words.{Sheet}
 use Rattle.profile.specs.Counting.{concatBelow}
@@ -25,8 +26,8 @@ unfoldable pub tooFewBytes : Sheet → ℕ → ℕ → Ground
 tooFewBytes s p bytes = record { refusal = TooFewWords; holds = ltb bytes (2 * startNumber s p) }
 
 -- "refuses by 25, 27, 32"
-unfoldable pub hostAnswer : Sheet → ℕ → ℕ → Answer
-hostAnswer s p bytes = answerBy (notOpen s ∷ noProgramme s p ∷ tooFewBytes s p bytes ∷ [])
+unfoldable pub hostAnswer : Sheet → List ℕ → ℕ → ℕ → Answer
+hostAnswer s langs p bytes = answerBy (notOpen s langs ∷ noProgramme s p ∷ tooFewBytes s p bytes ∷ [])
 
 -- a number negated
 unfoldable pub negated : ℕ → ℤ
@@ -38,9 +39,9 @@ unfoldable pub answerCode : ℕ → Answer → ℤ
 answerCode n Done = pos n
 answerCode n (Refused r) = negated (refusalNumber r)
 
-unfoldable pub hostListed : Sheet → ℕ → ℕ → ℤ
-hostListed s p bytes = answerCode (startNumber s p) (hostAnswer s p bytes)
+unfoldable pub hostListed : Sheet → List ℕ → ℕ → ℕ → ℤ
+hostListed s langs p bytes = answerCode (startNumber s p) (hostAnswer s langs p bytes)
 
 -- the buffer's bytes afterwards: later ones stay, and a refusal writes nothing
-unfoldable pub hostBuffered : Sheet → ℕ → List ℕ → List ℕ
-hostBuffered s p buffer = bufferedBy buffer (bytesOf (startTracks s p)) (hostAnswer s p (length buffer))
+unfoldable pub hostBuffered : Sheet → List ℕ → ℕ → List ℕ → List ℕ
+hostBuffered s langs p buffer = bufferedBy buffer (bytesOf (startTracks s p)) (hostAnswer s langs p (length buffer))

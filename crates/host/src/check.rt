@@ -6,10 +6,11 @@ ghost use Rattle.profile.specs.Verdict.{verdictCode};
 use checker::search::check;
 use profile::places::verdict_code;
 
-// 0 where the sheet is accepted, else 1,000,000 times the rule plus 100,000 times the section plus the record: any length, any bytes.
+// 0 where the sheet is accepted under the lent list of languages, else 1,000,000 times the rule plus 100,000 times the section plus the
+// record: any lengths, any bytes.
 #[unsafe(no_mangle)]
-pub extern "C" fn sheet_check(sheet: &[u8]) -> u32
-    ensures { result ≡ verdictCode (checked sheet.now) }
+pub extern "C" fn sheet_check(sheet: &[u8], langs: &[u8]) -> u32
+    ensures { result ≡ verdictCode (checked sheet.now langs.now) }
 {
-    verdict_code(check(sheet))
+    verdict_code(check(sheet, langs))
 }

@@ -3,7 +3,7 @@ ghost use Rattle.std.specs.Prelude.{◌%◌, ◌*◌, ◌/◌, ◌≤◌, length
 ghost use Rattle.std.proofs.lemmas.List.Edits.{sets};
 ghost use Rattle.host.specs.HostListing.{bytesOf, hostBuffered, hostListed, negated};
 ghost use Rattle.listener.specs.State.{refusalNumber};
-ghost use Rattle.sheet.specs.Words.{sheetOf};
+ghost use Rattle.sheet.specs.Words.{sheetOf, words};
 
 use listener::refusals::refusal_number;
 use listener::writing::list_start;
@@ -46,13 +46,18 @@ fn write_words(words: &[u16], buffer: &mut [u8])
     }
 }
 
-// The number of tracks, or 25, 27 or 32 negated: any length, any bytes, any number.
+// The number of tracks, or 25, 27 or 32 negated: any lengths, any bytes, any number.
 #[unsafe(no_mangle)]
-pub extern "C" fn sheet_start_listing(sheet: &[u8], programme: u32, buffer: &mut [u8]) -> i32
-    ensures { (result ≡ hostListed (sheetOf sheet.now) programme (length buffer.old)) × (buffer.new ≡ hostBuffered (sheetOf sheet.now) programme buffer.old) }
+pub extern "C" fn sheet_start_listing(
+    sheet: &[u8],
+    langs: &[u8],
+    programme: u32,
+    buffer: &mut [u8],
+) -> i32
+    ensures { (result ≡ hostListed (sheetOf sheet.now) (words langs.now) programme (length buffer.old)) × (buffer.new ≡ hostBuffered (sheetOf sheet.now) (words langs.now) programme buffer.old) }
 {
     let mut words: [u16; MOST_ENTRIES] = [0; MOST_ENTRIES];
-    let listing = list_start(sheet, programme, &mut words);
+    let listing = list_start(sheet, langs, programme, &mut words);
     let answer = listing.answer;
     match answer {
         Answer::Done => {

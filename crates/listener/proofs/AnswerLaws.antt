@@ -2,6 +2,7 @@
 use Prim.Native.Nat.{ℕ}
 use mathlib.Core.Path.{◌≡◌, refl, sym, ap, ◌∙◌}
 use mathlib.Core.Bool.{Bool, true, false, cond, not, ◌&&◌, true≢false}
+use mathlib.Core.List.{List}
 use lib.Dec.{ltb}
 use lib.ListN.{set}
 use Rattle.sheet.specs.Words.{Sheet}
@@ -26,9 +27,9 @@ next Done rest = rest
 next (Refused r) rest = Refused r
 
 -- 25 and 26, asked first
-pub when-first : (s : Sheet) (st : State) (rest a : Answer) → whenSound s st Done ≡ a → whenSound s st rest ≡ next a rest
+pub when-first : (s : Sheet) (langs : List ℕ) (st : State) (rest a : Answer) → whenSound s langs st Done ≡ a → whenSound s langs st rest ≡ next a rest
 unfolding whenSound
-when-first s st rest a e = by (opens s) (sound s st) ∙ ap (λ (x : Answer). next x rest) e
+when-first s langs st rest a e = by (opens s langs) (sound s st) ∙ ap (λ (x : Answer). next x rest) e
   where
     by : (a b : Bool) → cond (not a) (Refused NotAccepted) (cond (not b) (Refused Unsound) rest) ≡ next (cond (not a) (Refused NotAccepted) (cond (not b) (Refused Unsound) Done)) rest
     by false b = refl
@@ -36,26 +37,26 @@ when-first s st rest a e = by (opens s) (sound s st) ∙ ap (λ (x : Answer). ne
     by true true = refl
 
 -- a programme choice by its answer
-pub programme-reply : (s : Sheet) (st : State) (p : ℕ) (a : Answer) → whenSound s st (numberAnswer s p) ≡ a → chosenProgramme s st p ≡ replyBy a st (started s p)
+pub programme-reply : (s : Sheet) (langs : List ℕ) (st : State) (p : ℕ) (a : Answer) → whenSound s langs st (numberAnswer s p) ≡ a → chosenProgramme s langs st p ≡ replyBy a st (started s p)
 unfolding chosenProgramme programmeAnswer noProgramme numberAnswer answerBy notOpen notSound whenSound
-programme-reply s st p a e = ap (λ (b : Answer). replyBy b st (started s p)) e
+programme-reply s langs st p a e = ap (λ (b : Answer). replyBy b st (started s p)) e
 
 -- an object choice by its answer
-pub object-reply : (s : Sheet) (st : State) (o : ℕ) (a : Answer) → whenSound s st (groupAnswer s st.programme o) ≡ a → chosenObject s st o ≡ replyBy a st (moved s st o)
+pub object-reply : (s : Sheet) (langs : List ℕ) (st : State) (o : ℕ) (a : Answer) → whenSound s langs st (groupAnswer s st.programme o) ≡ a → chosenObject s langs st o ≡ replyBy a st (moved s st o)
 unfolding chosenObject objectAnswer notInGroup groupAnswer answerBy notOpen notSound notIncluded whenSound
-object-reply s st o a e = ap (λ (b : Answer). replyBy b st (moved s st o)) e
+object-reply s langs st o a e = ap (λ (b : Answer). replyBy b st (moved s st o)) e
 
 -- the answer to a gain or offset call by what is found on the way
-module _ (s : Sheet) (st : State) (o : ℕ) (t : Sort) (fits : Bool) (a : Answer) where
-  pub value-sound : opens s ≡ true → sound s st ≡ true → a ≡ rangeAnswer (includes s st.programme o) (grants s st.programme o t) fits → a ≡ valueAnswer s st o t fits
+module _ (s : Sheet) (langs : List ℕ) (st : State) (o : ℕ) (t : Sort) (fits : Bool) (a : Answer) where
+  pub value-sound : opens s langs ≡ true → sound s st ≡ true → a ≡ rangeAnswer (includes s st.programme o) (grants s st.programme o t) fits → a ≡ valueAnswer s langs st o t fits
   unfolding valueAnswer noRange outsideRange rangeAnswer answerBy notOpen notSound notIncluded
   value-sound k g e = e ∙ rw (k, g) refl
 
-  pub value-unsound : opens s ≡ true → sound s st ≡ false → a ≡ Refused Unsound → a ≡ valueAnswer s st o t fits
+  pub value-unsound : opens s langs ≡ true → sound s st ≡ false → a ≡ Refused Unsound → a ≡ valueAnswer s langs st o t fits
   unfolding valueAnswer answerBy notOpen notSound
   value-unsound k g e = e ∙ rw (k, g) refl
 
-  pub value-shut : opens s ≡ false → a ≡ Refused NotAccepted → a ≡ valueAnswer s st o t fits
+  pub value-shut : opens s langs ≡ false → a ≡ Refused NotAccepted → a ≡ valueAnswer s langs st o t fits
   unfolding valueAnswer answerBy notOpen
   value-shut k e = e ∙ rw k refl
 

@@ -87,29 +87,29 @@ pub entries-number : (s : Sheet) (st : State) → length (entries s st) ≡ stat
 unfolding listedTracks
 entries-number s st = sym (length-map (entries s st) track) ∙ ap length (listed-tracks s st) ∙ state-number s st
 
-module _ (s : Sheet) (st : State) (buffer : List ℕ) where
+module _ (s : Sheet) (langs : List ℕ) (st : State) (buffer : List ℕ) where
   -- what an answer gives
-  listed-by : (a : Answer) → listingAnswer s st (length buffer) ≡ a → (listedBy (length (entries s st)) a ≡ listed s st (length buffer)) × (bufferedBy buffer (listedTracks s st) a ≡ buffered s st buffer)
+  listed-by : (a : Answer) → listingAnswer s langs st (length buffer) ≡ a → (listedBy (length (entries s st)) a ≡ listed s langs st (length buffer)) × (bufferedBy buffer (listedTracks s st) a ≡ buffered s langs st buffer)
   unfolding listed buffered
   listed-by a e = (rw e, rw e)
 
   -- the answer in the steps of the code
-  answer-steps : (a : Answer) → whenSound s st Done ≡ a → listingAnswer s st (length buffer) ≡ next a (cond (ltb (length buffer) (stateNumber s st)) (Refused TooFewWords) Done)
+  answer-steps : (a : Answer) → whenSound s langs st Done ≡ a → listingAnswer s langs st (length buffer) ≡ next a (cond (ltb (length buffer) (stateNumber s st)) (Refused TooFewWords) Done)
   unfolding listingAnswer answerBy notOpen notSound tooFewWords whenSound
-  answer-steps a e = rw (← entries-number s st) (when-first s st (cond (ltb (length buffer) (length (entries s st))) (Refused TooFewWords) Done) a e)
+  answer-steps a e = rw (← entries-number s st) (when-first s langs st (cond (ltb (length buffer) (length (entries s st))) (Refused TooFewWords) Done) a e)
 
   -- 25 or 26
-  pub stop-listed : (r : Refusal) → whenSound s st Done ≡ Refused r → (listedBy 0 (Refused r) ≡ listed s st (length buffer)) × (buffer ≡ buffered s st buffer)
+  pub stop-listed : (r : Refusal) → whenSound s langs st Done ≡ Refused r → (listedBy 0 (Refused r) ≡ listed s langs st (length buffer)) × (buffer ≡ buffered s langs st buffer)
   unfolding bufferedBy
   stop-listed r e = listed-by (Refused r) (answer-steps (Refused r) e)
 
   -- too few words
-  pub few-listed : whenSound s st Done ≡ Done → length buffer < stateNumber s st → (listedBy 0 (Refused TooFewWords) ≡ listed s st (length buffer)) × (buffer ≡ buffered s st buffer)
+  pub few-listed : whenSound s langs st Done ≡ Done → length buffer < stateNumber s st → (listedBy 0 (Refused TooFewWords) ≡ listed s langs st (length buffer)) × (buffer ≡ buffered s langs st buffer)
   unfolding bufferedBy
   few-listed e l = listed-by (Refused TooFewWords) (answer-steps Done e ∙ rw (lt-ltb _ _ l) refl)
 
   -- enough words
-  pub done-listed : whenSound s st Done ≡ Done → stateNumber s st ≤ length buffer
-      → (◌≡◌ (record { answer = Done; entries = stateNumber s st }) (listed s st (length buffer))) × (sets buffer 0 (stateTracks s st) ≡ buffered s st buffer)
+  pub done-listed : whenSound s langs st Done ≡ Done → stateNumber s st ≤ length buffer
+      → (◌≡◌ (record { answer = Done; entries = stateNumber s st }) (listed s langs st (length buffer))) × (sets buffer 0 (stateTracks s st) ≡ buffered s langs st buffer)
   unfolding bufferedBy
   done-listed e l = rw (← entries-number s st, ← listed-tracks s st) (listed-by Done (answer-steps Done e ∙ rw (le-ltb _ _ l) refl))

@@ -1,4 +1,6 @@
--- Opening and the four calls. Document 01, "The listener", and its refusals 25 to 31 "in its checking order". Assumes nothing.
+-- Opening and the four calls. Document 01, "The listener", and its refusals 25 to 31 "in its checking order". Document 02, L2:
+-- "Acceptance is now relative to that list, every call lent a sheet is lent it too". `langs` is the list of languages; what doesn't ask
+-- for acceptance says nothing of it. Assumes nothing.
 use Rattle.std.specs.Prelude.{ℕ, Bool, true, false, cond, not, ◌&&◌, List, [], ◌∷◌, eqb, leb, ltb, ℤ, set}
 use Rattle.sheet.specs.Words.{Sheet}
 use Rattle.sheet.specs.Layout.{level, count}
@@ -28,9 +30,9 @@ abbrev pub isAccepted : Verdict → Bool
 isAccepted Accepted = true
 isAccepted (Broken rule place) = false
 
--- "25. The sheet isn't accepted, or is level 0."
-unfoldable pub opens : Sheet → Bool
-opens s = isAccepted (verdict s) && not (eqb (level s) 0)
+-- "25. The sheet isn't accepted, or is level 0." Accepted under the list that is lent
+unfoldable pub opens : Sheet → List ℕ → Bool
+opens s langs = isAccepted (verdict s langs) && not (eqb (level s) 0)
 
 -- a ground for refusal: the refusal, and whether it holds
 pub record Ground : Type 0 where
@@ -48,8 +50,8 @@ replyBy Done given made = record { answer = Done; state = made }
 replyBy (Refused r) given made = record { answer = Refused r; state = given }
 
 -- "25. The sheet isn't accepted, or is level 0." "26. The state isn't sound for the sheet."
-unfoldable pub notOpen : Sheet → Ground
-notOpen s = record { refusal = NotAccepted; holds = not (opens s) }
+unfoldable pub notOpen : Sheet → List ℕ → Ground
+notOpen s langs = record { refusal = NotAccepted; holds = not (opens s langs) }
 
 unfoldable pub notSound : Sheet → State → Ground
 notSound s st = record { refusal = Unsound; holds = not (sound s st) }
@@ -59,27 +61,27 @@ unfoldable pub notIncluded : Sheet → State → ℕ → Ground
 notIncluded s st o = record { refusal = NotIncluded; holds = not (includes s st.programme o) }
 
 -- "opening chooses 0"; "Opening can meet 25 only"
-unfoldable pub opened : Sheet → Reply
-opened s = replyBy (answerBy (notOpen s ∷ [])) restingState (started s 0)
+unfoldable pub opened : Sheet → List ℕ → Reply
+opened s langs = replyBy (answerBy (notOpen s langs ∷ [])) restingState (started s 0)
 
 -- "27. No such programme."
 unfoldable pub noProgramme : Sheet → ℕ → Ground
 noProgramme s p = record { refusal = NoProgramme; holds = leb (count s programmes) p }
 
 -- "a programme choice 25 to 27"
-unfoldable pub programmeAnswer : Sheet → State → ℕ → Answer
-programmeAnswer s st p = answerBy (notOpen s ∷ notSound s st ∷ noProgramme s p ∷ [])
+unfoldable pub programmeAnswer : Sheet → List ℕ → State → ℕ → Answer
+programmeAnswer s langs st p = answerBy (notOpen s langs ∷ notSound s st ∷ noProgramme s p ∷ [])
 
-unfoldable pub chosenProgramme : Sheet → State → ℕ → Reply
-chosenProgramme s st p = replyBy (programmeAnswer s st p) st (started s p)
+unfoldable pub chosenProgramme : Sheet → List ℕ → State → ℕ → Reply
+chosenProgramme s langs st p = replyBy (programmeAnswer s langs st p) st (started s p)
 
 -- "29. The object isn't in a wholly included group."
 unfoldable pub notInGroup : Sheet → State → ℕ → Ground
 notInGroup s st o = record { refusal = NotInGroup; holds = not (inWholeGroup s st.programme o) }
 
 -- "an object choice 25, 26, 28, 29"
-unfoldable pub objectAnswer : Sheet → State → ℕ → Answer
-objectAnswer s st o = answerBy (notOpen s ∷ notSound s st ∷ notIncluded s st o ∷ notInGroup s st o ∷ [])
+unfoldable pub objectAnswer : Sheet → List ℕ → State → ℕ → Answer
+objectAnswer s langs st o = answerBy (notOpen s langs ∷ notSound s st ∷ notIncluded s st o ∷ notInGroup s st o ∷ [])
 
 -- "Choosing an object makes it active and the rest of its group inactive."
 unfoldable pub movedSetting : Sheet → State → ℕ → ℕ → Setting
@@ -91,8 +93,8 @@ movedSetting s st o q =
 unfoldable pub moved : Sheet → State → ℕ → State
 moved s st o = record { programme = st.programme; objects = tabulate (movedSetting s st o) stateObjects }
 
-unfoldable pub chosenObject : Sheet → State → ℕ → Reply
-chosenObject s st o = replyBy (objectAnswer s st o) st (moved s st o)
+unfoldable pub chosenObject : Sheet → List ℕ → State → ℕ → Reply
+chosenObject s langs st o = replyBy (objectAnswer s langs st o) st (moved s st o)
 
 -- "30. No effective range of that sort."
 unfoldable pub noRange : Sheet → State → ℕ → Sort → Ground
@@ -103,8 +105,8 @@ unfoldable pub outsideRange : Bool → Ground
 outsideRange fits = record { refusal = Outside; holds = not fits }
 
 -- "a gain or offset call 25, 26, 28, 30, 31"
-unfoldable pub valueAnswer : Sheet → State → ℕ → Sort → Bool → Answer
-valueAnswer s st o t fits = answerBy (notOpen s ∷ notSound s st ∷ notIncluded s st o ∷ noRange s st o t ∷ outsideRange fits ∷ [])
+unfoldable pub valueAnswer : Sheet → List ℕ → State → ℕ → Sort → Bool → Answer
+valueAnswer s langs st o t fits = answerBy (notOpen s langs ∷ notSound s st ∷ notIncluded s st o ∷ noRange s st o t ∷ outsideRange fits ∷ [])
 
 -- "A gain or offset call stores the value in that object, active or not"
 unfoldable pub withSetting : State → ℕ → Setting → State
@@ -116,8 +118,8 @@ withGain st o g = withSetting st o (record { active = (setting st o).active; gai
 unfoldable pub withOffset : State → ℕ → ℤ → State
 withOffset st o z = withSetting st o (record { active = (setting st o).active; gain = (setting st o).gain; offset = z })
 
-unfoldable pub gainSet : Sheet → State → ℕ → Gain → Reply
-gainSet s st o g = replyBy (valueAnswer s st o Gains (gainFits s st.programme o g)) st (withGain st o g)
+unfoldable pub gainSet : Sheet → List ℕ → State → ℕ → Gain → Reply
+gainSet s langs st o g = replyBy (valueAnswer s langs st o Gains (gainFits s st.programme o g)) st (withGain st o g)
 
-unfoldable pub offsetSet : Sheet → State → ℕ → ℤ → Reply
-offsetSet s st o z = replyBy (valueAnswer s st o Offsets (offsetFits s st.programme o z)) st (withOffset st o z)
+unfoldable pub offsetSet : Sheet → List ℕ → State → ℕ → ℤ → Reply
+offsetSet s langs st o z = replyBy (valueAnswer s langs st o Offsets (offsetFits s st.programme o z)) st (withOffset st o z)

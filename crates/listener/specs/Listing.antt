@@ -51,8 +51,8 @@ unfoldable pub tooFewWords : Sheet → State → ℕ → Ground
 tooFewWords s st words = record { refusal = TooFewWords; holds = ltb words (length (entries s st)) }
 
 -- "listing 25, 26, 32"
-unfoldable pub listingAnswer : Sheet → State → ℕ → Answer
-listingAnswer s st words = answerBy (notOpen s ∷ notSound s st ∷ tooFewWords s st words ∷ [])
+unfoldable pub listingAnswer : Sheet → List ℕ → State → ℕ → Answer
+listingAnswer s langs st words = answerBy (notOpen s langs ∷ notSound s st ∷ tooFewWords s st words ∷ [])
 
 -- the number of entries, none where it is refused
 abbrev pub listedBy : ℕ → Answer → Listing
@@ -60,8 +60,8 @@ listedBy n Done = record { answer = Done; entries = n }
 listedBy n (Refused r) = record { answer = Refused r; entries = 0 }
 
 -- what listing into so many words gives
-unfoldable pub listed : Sheet → State → ℕ → Listing
-listed s st words = listedBy (length (entries s st)) (listingAnswer s st words)
+unfoldable pub listed : Sheet → List ℕ → State → ℕ → Listing
+listed s langs st words = listedBy (length (entries s st)) (listingAnswer s langs st words)
 
 -- "later words stay", a refused listing writes nothing
 unfoldable pub bufferedBy : List ℕ → List ℕ → Answer → List ℕ
@@ -69,5 +69,5 @@ bufferedBy buffer written Done = sets buffer 0 written
 bufferedBy buffer written (Refused r) = buffer
 
 -- the buffer's words afterwards
-unfoldable pub buffered : Sheet → State → List ℕ → List ℕ
-buffered s st buffer = bufferedBy buffer (listedTracks s st) (listingAnswer s st (length buffer))
+unfoldable pub buffered : Sheet → List ℕ → State → List ℕ → List ℕ
+buffered s langs st buffer = bufferedBy buffer (listedTracks s st) (listingAnswer s langs st (length buffer))

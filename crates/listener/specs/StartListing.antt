@@ -18,13 +18,13 @@ unfoldable pub startNumber : Sheet → ℕ → ℕ
 startNumber s p = length (entries s (started s p))
 
 -- "refuses by 25, 27, 32"
-unfoldable pub startAnswer : Sheet → ℕ → ℕ → Answer
-startAnswer s p words = answerBy (notOpen s ∷ noProgramme s p ∷ tooFewWords s (started s p) words ∷ [])
+unfoldable pub startAnswer : Sheet → List ℕ → ℕ → ℕ → Answer
+startAnswer s langs p words = answerBy (notOpen s langs ∷ noProgramme s p ∷ tooFewWords s (started s p) words ∷ [])
 
 -- what it gives for so many words
-unfoldable pub startListed : Sheet → ℕ → ℕ → Listing
-startListed s p words = listedBy (startNumber s p) (startAnswer s p words)
+unfoldable pub startListed : Sheet → List ℕ → ℕ → ℕ → Listing
+startListed s langs p words = listedBy (startNumber s p) (startAnswer s langs p words)
 
 -- the buffer's words afterwards
-unfoldable pub startBuffered : Sheet → ℕ → List ℕ → List ℕ
-startBuffered s p buffer = bufferedBy buffer (startTracks s p) (startAnswer s p (length buffer))
+unfoldable pub startBuffered : Sheet → List ℕ → ℕ → List ℕ → List ℕ
+startBuffered s langs p buffer = bufferedBy buffer (startTracks s p) (startAnswer s langs p (length buffer))

@@ -7,7 +7,7 @@ ghost use Rattle.listener.specs.State.{restingState};
 ghost use Rattle.listener.specs.steps.Answers.{groupAnswer, isDone, numberAnswer, rangeAnswer, whenSound};
 ghost use Rattle.listener.specs.steps.Settings.{movedFrom};
 ghost use Rattle.profile.specs.Relations.{includes};
-ghost use Rattle.sheet.specs.Words.{sheetOf};
+ghost use Rattle.sheet.specs.Words.{sheetOf, words};
 ghost use Rattle.tables.specs.steps.Right.{Leaders};
 ghost use Rattle.values.specs.declared.Sort.TheVariants.{Gains, Offsets};
 
@@ -26,11 +26,11 @@ use sheet::layout::{count, level};
 use tables::reads::leader_by;
 use values::{Gain, Sort};
 
-// Whether the sheet is accepted and not of level 0.
-pub fn opens(s: &[u8]) -> bool
-    ensures { result ≡ opens (sheetOf s.now) }
+// Whether the sheet is accepted under the lent list of languages, and not of level 0.
+pub fn opens(s: &[u8], langs: &[u8]) -> bool
+    ensures { result ≡ opens (sheetOf s.now) (words langs.now) }
 {
-    let verdict = check(s);
+    let verdict = check(s, langs);
     match verdict {
         Verdict::Accepted => level(s) != 0,
         Verdict::Broken(_, _) => false,
@@ -49,10 +49,10 @@ fn resting_state() -> State
 }
 
 // "opening chooses 0"; it can meet 25 only.
-pub fn open(s: &[u8]) -> Reply
-    ensures { result ≡ opened (sheetOf s.now) }
+pub fn open(s: &[u8], langs: &[u8]) -> Reply
+    ensures { result ≡ opened (sheetOf s.now) (words langs.now) }
 {
-    if opens(s) {
+    if opens(s, langs) {
         Reply {
             answer: Answer::Done,
             state: started(s, 0),
@@ -66,10 +66,10 @@ pub fn open(s: &[u8]) -> Reply
 }
 
 // 25 and 26, then whatever else the call can meet.
-pub fn when_sound(s: &[u8], state: State, rest: Answer) -> Answer
-    ensures { result ≡ whenSound (sheetOf s.now) state rest }
+pub fn when_sound(s: &[u8], langs: &[u8], state: State, rest: Answer) -> Answer
+    ensures { result ≡ whenSound (sheetOf s.now) (words langs.now) state rest }
 {
-    if opens(s) {
+    if opens(s, langs) {
         if sound(s, state) {
             rest
         } else {
@@ -150,11 +150,11 @@ fn is_done(answer: Answer) -> bool
 }
 
 // An object choice: 28 and 29 are asked only after 25 and 26.
-fn object_answer(s: &[u8], state: State, o: u16) -> Answer
-    ensures { result ≡ whenSound (sheetOf s.now) state (groupAnswer (sheetOf s.now) state.programme o) }
+fn object_answer(s: &[u8], langs: &[u8], state: State, o: u16) -> Answer
+    ensures { result ≡ whenSound (sheetOf s.now) (words langs.now) state (groupAnswer (sheetOf s.now) state.programme o) }
 {
     let p = state.programme;
-    let first = when_sound(s, state, Answer::Done);
+    let first = when_sound(s, langs, state, Answer::Done);
     match first {
         Answer::Done => group_answer(s, p, o),
         Answer::Refused(refusal) => Answer::Refused(refusal),
@@ -198,10 +198,10 @@ fn moved(s: &[u8], state: State, o: u16) -> State
 
 impl State {
     // Starts a programme.
-    pub fn choose_programme(self, s: &[u8], p: u16) -> Reply
-        ensures { result ≡ chosenProgramme (sheetOf s.now) self p }
+    pub fn choose_programme(self, s: &[u8], langs: &[u8], p: u16) -> Reply
+        ensures { result ≡ chosenProgramme (sheetOf s.now) (words langs.now) self p }
     {
-        let answer = when_sound(s, self, number_answer(s, p));
+        let answer = when_sound(s, langs, self, number_answer(s, p));
         match answer {
             Answer::Done => Reply {
                 answer: Answer::Done,
@@ -215,10 +215,10 @@ impl State {
     }
 
     // Makes an object the active one of its group.
-    pub fn choose_object(self, s: &[u8], o: u16) -> Reply
-        ensures { result ≡ chosenObject (sheetOf s.now) self o }
+    pub fn choose_object(self, s: &[u8], langs: &[u8], o: u16) -> Reply
+        ensures { result ≡ chosenObject (sheetOf s.now) (words langs.now) self o }
     {
-        let answer = object_answer(s, self, o);
+        let answer = object_answer(s, langs, self, o);
         match answer {
             Answer::Done => Reply {
                 answer: Answer::Done,
@@ -232,11 +232,11 @@ impl State {
     }
 
     // Stores a gain in an object, active or not.
-    pub fn set_gain(mut self, s: &[u8], o: u16, gain: Gain) -> Reply
-        ensures { result ≡ gainSet (sheetOf s.now) self o gain }
+    pub fn set_gain(mut self, s: &[u8], langs: &[u8], o: u16, gain: Gain) -> Reply
+        ensures { result ≡ gainSet (sheetOf s.now) (words langs.now) self o gain }
     {
         let p = self.programme;
-        let answer = if opens(s) {
+        let answer = if opens(s, langs) {
             if sound(s, self) {
                 gain_answer(s, p, o, gain)
             } else {
@@ -261,11 +261,11 @@ impl State {
     }
 
     // Stores an offset in an object, active or not.
-    pub fn set_offset(mut self, s: &[u8], o: u16, offset: i16) -> Reply
-        ensures { result ≡ offsetSet (sheetOf s.now) self o offset }
+    pub fn set_offset(mut self, s: &[u8], langs: &[u8], o: u16, offset: i16) -> Reply
+        ensures { result ≡ offsetSet (sheetOf s.now) (words langs.now) self o offset }
     {
         let p = self.programme;
-        let answer = if opens(s) {
+        let answer = if opens(s, langs) {
             if sound(s, self) {
                 offset_answer(s, p, o, offset)
             } else {

@@ -5,7 +5,7 @@ ghost use Rattle.listener.specs.Listing.{buffered, listed, listedBy};
 ghost use Rattle.listener.specs.StartListing.{startBuffered, startListed};
 ghost use Rattle.listener.specs.declared.Answer.TheVariants.{Refused};
 ghost use Rattle.listener.specs.steps.Tracks.{childTracks, objectNumber, objectTracks, ownTracks, stateNumber, stateTracks};
-ghost use Rattle.sheet.specs.Words.{sheetOf};
+ghost use Rattle.sheet.specs.Words.{sheetOf, words};
 
 use crate::calls::{opens, when_sound};
 use crate::programme::started;
@@ -108,10 +108,10 @@ fn write_state(s: &[u8], state: State, buffer: &mut [u16]) -> usize
 
 impl State {
     // Writes the tracks of the active objects and gives how many; a refused listing writes nothing.
-    pub fn list(self, s: &[u8], buffer: &mut [u16]) -> Listing
-        ensures { (result ≡ listed (sheetOf s.now) self (length buffer.old)) × (buffer.new ≡ buffered (sheetOf s.now) self buffer.old) }
+    pub fn list(self, s: &[u8], langs: &[u8], buffer: &mut [u16]) -> Listing
+        ensures { (result ≡ listed (sheetOf s.now) (words langs.now) self (length buffer.old)) × (buffer.new ≡ buffered (sheetOf s.now) (words langs.now) self buffer.old) }
     {
-        let first = when_sound(s, self, Answer::Done);
+        let first = when_sound(s, langs, self, Answer::Done);
         match first {
             Answer::Done => {
                 let n = state_number(s, self);
@@ -141,10 +141,10 @@ fn refused(refusal: Refusal) -> Listing
 }
 
 // The listing of a programme's start, without a state: 25, 27 and 32, in this order.
-pub fn list_start(s: &[u8], p: u32, buffer: &mut [u16]) -> Listing
-    ensures { (result ≡ startListed (sheetOf s.now) p (length buffer.old)) × (buffer.new ≡ startBuffered (sheetOf s.now) p buffer.old) }
+pub fn list_start(s: &[u8], langs: &[u8], p: u32, buffer: &mut [u16]) -> Listing
+    ensures { (result ≡ startListed (sheetOf s.now) (words langs.now) p (length buffer.old)) × (buffer.new ≡ startBuffered (sheetOf s.now) (words langs.now) p buffer.old) }
 {
-    if !opens(s) {
+    if !opens(s, langs) {
         return refused(Refusal::NotAccepted);
     }
     if count(s, PROGRAMMES) as u32 <= p {

@@ -1,18 +1,19 @@
-// The proved listener run on stored scripts. Arguments come in pairs, a sheet and a script of data/; for each pair stand a line with the
-// script's name, the opening's answer, and an answer to each line of the script.
+// The proved listener run on stored scripts. Arguments come in triples, a list of languages, a sheet and a script of data/; for each triple
+// stand a line with the script's name, the opening's answer, and an answer to each line of the script.
 #![tactic(auto)]
 
 mod scripts;
 mod steps;
 
+use console::Lent;
 use scripts::answer_script;
 use std::env::Env;
 use std::fs::Files;
 use text::output::write_output;
-use text::reading::{arg_count, read_argument, refuse_argument, write_argument};
+use text::reading::{LANGS_ROOM, arg_count, read_argument, refuse_argument, write_argument};
 
-// Runs the script that an argument names on a sheet.
-fn run_script<R: Env + Files + Print + Eprint>(rt: &R, sheet: &[u8], i: usize) {
+// Runs the script that an argument names, on a sheet under a list of languages.
+fn run_script<R: Env + Files + Print + Eprint>(rt: &R, lent: Lent, i: usize) {
     let mut script = [0u8; 65537];
     let input = read_argument(rt, i, &mut script);
     if input.failed.is_some() {
@@ -26,27 +27,39 @@ fn run_script<R: Env + Files + Print + Eprint>(rt: &R, sheet: &[u8], i: usize) {
     write_output(rt, b"script ");
     write_argument(rt, i);
     write_output(rt, b"\n");
-    answer_script(rt, sheet, &script[..n]);
+    answer_script(rt, lent, &script[..n]);
 }
 
-// Runs the script that argument j names on the sheet that argument i names.
-fn run_pair<R: Env + Files + Print + Eprint>(rt: &R, i: usize, j: usize) {
+// Runs the script that argument j names on the sheet that argument i names, under a list of languages.
+fn run_sheet<R: Env + Files + Print + Eprint>(rt: &R, langs: &[u8], i: usize, j: usize) {
     let mut buffer = io::large_buffer();
     let input = read_argument(rt, i, &mut buffer);
     if input.failed.is_some() {
         return;
     }
     let n = input.count;
-    run_script(rt, &buffer[..n], j);
+    let sheet = &buffer[..n];
+    run_script(rt, Lent { sheet, langs }, j);
+}
+
+// The same, under the list that argument h names.
+fn run_triple<R: Env + Files + Print + Eprint>(rt: &R, h: usize, i: usize, j: usize) {
+    let mut langs = [0u8; LANGS_ROOM];
+    let input = read_argument(rt, h, &mut langs);
+    if input.failed.is_some() {
+        return;
+    }
+    let n = input.count;
+    run_sheet(rt, &langs[..n], i, j);
 }
 
 fn main(rt: HostRuntime) {
     let count = arg_count(&rt);
-    if count % 2 == 0 {
-        let _ = eprintln!(rt; "usage: listentest SHEET SCRIPT ..");
+    if count % 3 != 1 {
+        let _ = eprintln!(rt; "usage: listentest LANGS SHEET SCRIPT ..");
         return;
     }
-    for k in 0..count / 2 {
-        run_pair(&rt, 2 * k + 1, 2 * k + 2);
+    for k in 0..count / 3 {
+        run_triple(&rt, 3 * k + 1, 3 * k + 2, 3 * k + 3);
     }
 }

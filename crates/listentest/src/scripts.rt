@@ -1,5 +1,6 @@
 // A script's steps, each answered with a line.
-use crate::steps::{Step, step_of};
+use crate::steps::{Step, WordList, step_of};
+use console::Lent;
 use console::answers::put_words;
 use console::bench::{ANSWER_ROOM, Answered, obey, opened};
 use listener::refusals::refusal_number;
@@ -34,17 +35,17 @@ fn put_words_of(answer: &mut [u8], listing: Listing, words: &[u16]) -> usize {
 }
 
 // Lists into lent words, and writes the answer with all of them.
-fn list_words(sheet: &[u8], state: State, words: &mut [u16], answer: &mut [u8]) -> usize {
-    let listing = state.list(sheet, words);
+fn list_words(lent: Lent, state: State, words: &mut [u16], answer: &mut [u8]) -> usize {
+    let listing = state.list(lent.sheet, lent.langs, words);
     put_words_of(answer, listing, words)
 }
 
 // Lists into the first n words of a buffer of 64.
-fn list_into(sheet: &[u8], state: State, n: usize, answer: &mut [u8]) -> usize {
+fn list_into(lent: Lent, state: State, n: usize, answer: &mut [u8]) -> usize {
     let mut buffer = [65535u16; 64];
     let words: &mut [u16] = &mut buffer;
     if n <= words.len() {
-        list_words(sheet, state, &mut words[..n], answer)
+        list_words(lent, state, &mut words[..n], answer)
     } else {
         put_text(answer, 0, b"?\n")
     }
@@ -75,17 +76,26 @@ fn put_object(state: State, o: u16, x: Setting, answer: &mut [u8]) -> Answered {
     }
 }
 
+// As in `lent 3`; the state stays.
+fn put_lent(state: State, list: WordList, answer: &mut [u8]) -> Answered {
+    let mut count = put_text(answer, 0, b"lent ");
+    count = put_number(answer, count, (list.count / 2) as u64);
+    count = put_text(answer, count, b"\n");
+    Answered { state, count }
+}
+
 // Answers a step, and gives the state after it.
-fn take(sheet: &[u8], state: State, step: Step, answer: &mut [u8; ANSWER_ROOM]) -> Answered {
+fn take(lent: Lent, state: State, step: Step, answer: &mut [u8; ANSWER_ROOM]) -> Answered {
     match step {
-        Step::Bench(command) => obey(sheet, state, command, answer),
-        Step::Open => opened(sheet, answer),
+        Step::Bench(command) => obey(lent, state, command, answer),
+        Step::Open => opened(lent, answer),
         Step::List(n) => {
-            let count = list_into(sheet, state, n as usize, answer);
+            let count = list_into(lent, state, n as usize, answer);
             Answered { state, count }
         }
         Step::PutProgramme(p) => put_programme(state, p, answer),
         Step::PutObject(o, x) => put_object(state, o, x, answer),
+        Step::Lend(list) => put_lent(state, list, answer),
     }
 }
 
@@ -96,31 +106,50 @@ fn written<R: Print + Eprint>(rt: &R, answered: Answered, answer: &[u8]) -> Stat
 }
 
 // Opens the sheet.
-fn begin<R: Print + Eprint>(rt: &R, sheet: &[u8], answer: &mut [u8; ANSWER_ROOM]) -> State {
-    let answered = opened(sheet, answer);
+fn begin<R: Print + Eprint>(rt: &R, lent: Lent, answer: &mut [u8; ANSWER_ROOM]) -> State {
+    let answered = opened(lent, answer);
     written(rt, answered, answer)
 }
 
-// Answers a line of the script.
-fn answer_line<R: Print + Eprint>(
+// The list of the script's own that holds after a step: the last that it lent, if it lent one.
+fn list_after(list: Option<WordList>, step: Step) -> Option<WordList> {
+    match step {
+        Step::Lend(words) => Some(words),
+        _ => list,
+    }
+}
+
+// Answers a step under the script's own list, or else under the one that the opening was lent.
+fn answer_step<R: Print + Eprint>(
     rt: &R,
-    sheet: &[u8],
+    lent: Lent,
+    list: Option<WordList>,
     state: State,
-    line: &[u8],
+    step: Step,
     answer: &mut [u8; ANSWER_ROOM],
 ) -> State {
-    let answered = take(sheet, state, step_of(said(line)), answer);
+    let answered = match list {
+        None => take(lent, state, step, answer),
+        Some(words) => {
+            let sheet = lent.sheet;
+            let langs = part(&words.bytes, 0, words.count);
+            take(Lent { sheet, langs }, state, step, answer)
+        }
+    };
     written(rt, answered, answer)
 }
 
 // Opens the sheet, then answers each line of the script; what follows its last newline is a line too, unless it is empty.
-pub fn answer_script<R: Print + Eprint>(rt: &R, sheet: &[u8], script: &[u8]) {
+pub fn answer_script<R: Print + Eprint>(rt: &R, lent: Lent, script: &[u8]) {
     let mut answer = [0u8; ANSWER_ROOM];
-    let mut state = begin(rt, sheet, &mut answer);
+    let mut state = begin(rt, lent, &mut answer);
+    let mut list = None;
     let mut at = 0;
     while at < script.len() {
         let end = line_end(script, at);
-        state = answer_line(rt, sheet, state, part(script, at, end), &mut answer);
+        let step = step_of(said(part(script, at, end)));
+        list = list_after(list, step);
+        state = answer_step(rt, lent, list, state, step, &mut answer);
         at = end + 1;
     }
 }

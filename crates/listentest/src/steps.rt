@@ -1,9 +1,18 @@
 // The lines of a script: those of the listening bench, and steps that only a test takes:
 //     open | list N | put programme N | put object I active V W      (or inactive)
+//     lend W W W ..
+// `lend` lends another list of languages to all that follows in the script: 0 to 64 words.
 use console::commands::{Command, command_of};
 use listener::Setting;
 use text::lines::{field, field_count, same};
 use text::numbers::{GainValue, Number, Tenths, gain_value_of, number_of, tenths_of};
+
+// A list of words as bytes, high byte first, and how many bytes it has.
+#[derive(Clone, Copy)]
+pub struct WordList {
+    pub bytes: [u8; 128],
+    pub count: usize,
+}
 
 #[derive(Clone, Copy)]
 pub enum Step {
@@ -13,6 +22,7 @@ pub enum Step {
     List(u16),
     PutProgramme(u16),
     PutObject(u16, Setting),
+    Lend(WordList),
 }
 
 // The step that a line says.
@@ -20,6 +30,9 @@ pub fn step_of(line: &[u8]) -> Step {
     let n = field_count(line);
     if same(field(line, 0), b"put") {
         return put_step(line, n);
+    }
+    if same(field(line, 0), b"lend") {
+        return lend_step(line, n);
     }
     if n == 1 {
         if same(field(line, 0), b"open") {
@@ -40,6 +53,26 @@ fn list_step(n: Number) -> Step {
         Number::Nothing => Step::Bench(Command::Unknown),
         Number::Of(k) => Step::List(k),
     }
+}
+
+// `lend W W W ..`.
+fn lend_step(line: &[u8], n: usize) -> Step {
+    if n > 65 {
+        return Step::Bench(Command::Unknown);
+    }
+    let mut bytes = [0u8; 128];
+    let mut k: u8 = 0;
+    while (k as usize) + 1 < n {
+        let Number::Of(w) = number_of(field(line, k + 1)) else {
+            return Step::Bench(Command::Unknown);
+        };
+        let at = 2 * (k as usize);
+        bytes[at] = (w / 256) as u8;
+        bytes[at + 1] = (w % 256) as u8;
+        k += 1;
+    }
+    let count = 2 * (k as usize);
+    Step::Lend(WordList { bytes, count })
 }
 
 // `put programme N`, or `put object I active V W`.

@@ -4,11 +4,11 @@ ghost use Rattle.profile.specs.Counting.{any, twoOf};
 ghost use Rattle.lists.specs.steps.Entries.{badChildAt, entryAt, lackingAt, noLanguageAt, outOfOrderAt, sameAt};
 ghost use Rattle.sheet.specs.Words.{sheetOf};
 
+use languages::list::Languages;
 use relations::objects::has_objects_pack;
 use sheet::fields::{TRACK_ORDINAL, TRACK_PACK, TRACKS};
 use sheet::layout::{count, field};
 use sheet::words::word;
-use values::language::language;
 
 // Whether a list or span ends beyond a section of so many records.
 pub fn beyond(count: u16, first: u16, n: u16) -> bool
@@ -37,14 +37,14 @@ pub fn any_lacking(s: &[u8], base: u16, first: u16, n: u16, many: u16) -> bool
     found
 }
 
-// Whether some entry is no language.
-pub fn any_no_language(s: &[u8], base: u16, first: u16, n: u16) -> bool
-    ensures { result ≡ any (noLanguageAt (sheetOf s.now) base first) n }
+// Whether some entry is no good language.
+pub fn any_no_language(s: &[u8], langs: &Languages, base: u16, first: u16, n: u16) -> bool
+    ensures { result ≡ any (noLanguageAt (sheetOf s.now) langs.now base first) n }
 {
     let mut found = false;
     let mut i: u16 = 0;
     while i < n {
-        found = found | !language(entry_at(s, base, first, i));
+        found = found | !langs.good(entry_at(s, base, first, i));
         i += 1;
     }
     found
@@ -77,15 +77,15 @@ pub fn any_twice(s: &[u8], base: u16, first: u16, n: u16) -> bool
     found
 }
 
-// Whether the entries are languages and each is above the one before; then none comes twice.
-pub fn labels_rise(s: &[u8], base: u16, first: u16, n: u16) -> bool
-    ensures { result ≡ true → (any (noLanguageAt (sheetOf s.now) base first) n ≡ false) × (twoOf (sameAt (sheetOf s.now) base first) n ≡ false) }
+// Whether the entries are good languages and each is above the one before; then none comes twice.
+pub fn labels_rise(s: &[u8], langs: &Languages, base: u16, first: u16, n: u16) -> bool
+    ensures { result ≡ true → (any (noLanguageAt (sheetOf s.now) langs.now base first) n ≡ false) × (twoOf (sameAt (sheetOf s.now) base first) n ≡ false) }
 {
     let mut last: u16 = 0;
     let mut i: u16 = 0;
     while i < n {
         let x = entry_at(s, base, first, i);
-        if (x <= last) | !language(x) {
+        if (x <= last) | !langs.good(x) {
             return false;
         }
         last = x;

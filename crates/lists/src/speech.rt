@@ -5,6 +5,7 @@ ghost use Rattle.sheet.specs.Words.{sheetOf};
 
 use crate::entries::{any_lacking, any_no_language, any_twice, beyond, labels_rise};
 use crate::words::{ends_before, number_at, record_at, word_at};
+use languages::list::Languages;
 use profile::limits::{LABELS_LIMIT, PROGRAMME_CONTENTS_LIMIT, PROGRAMME_SETS_LIMIT, exceeds};
 use sheet::fields::{
     CONTENT_LABELS, CONTENT_LANGUAGE, CONTENT_LIST, CONTENT_LOUDNESS, CONTENT_OBJECT, CONTENTS,
@@ -12,37 +13,37 @@ use sheet::fields::{
     SET_LIST, VALUE_SETS,
 };
 use sheet::layout::{count, offset};
-use values::language::{language, loudness};
+use values::language::loudness;
 
 // A list of so many labels is compared by pairs; a longer one is left to the search.
 const LONGEST: u16 = 16;
 
 // The language and the loudness of a content without labels.
-fn unlabelled_breaks(s: &[u8], lang: u16, first: u16, loud: u16) -> bool
-    ensures { result ≡ speechBroken (sheetOf s.now) lang first 0 loud }
+fn unlabelled_breaks(s: &[u8], langs: &Languages, lang: u16, first: u16, loud: u16) -> bool
+    ensures { result ≡ speechBroken (sheetOf s.now) langs.now lang first 0 loud }
 {
-    beyond(count(s, REFERENCES), first, 0) | (!language(lang) | !loudness(loud))
+    beyond(count(s, REFERENCES), first, 0) | (!langs.good(lang) | !loudness(loud))
 }
 
 // The language, the labels and the loudness of a programme or content.
-fn labelled_breaks(s: &[u8], lang: u16, first: u16, n: u16, loud: u16) -> bool
-    ensures { result ≡ speechBroken (sheetOf s.now) lang first n loud }
+fn labelled_breaks(s: &[u8], langs: &Languages, lang: u16, first: u16, n: u16, loud: u16) -> bool
+    ensures { result ≡ speechBroken (sheetOf s.now) langs.now lang first n loud }
 {
     let base = offset(s, REFERENCES);
-    if labels_rise(s, base, first, n) {
+    if labels_rise(s, langs, base, first, n) {
         return beyond(count(s, REFERENCES), first, n)
-            | (!language(lang) | !loudness(loud))
+            | (!langs.good(lang) | !loudness(loud))
             | exceeds(s, LABELS_LIMIT, n as u64);
     }
     beyond(count(s, REFERENCES), first, n)
-        | (!language(lang) | any_no_language(s, base, first, n) | !loudness(loud))
+        | (!langs.good(lang) | any_no_language(s, langs, base, first, n) | !loudness(loud))
         | exceeds(s, LABELS_LIMIT, n as u64)
         | any_twice(s, base, first, n)
 }
 
 // Whether a content may break one of rules 4, 5, 6, 8 and 9.
-pub fn content_breaks(s: &[u8], k: u16) -> bool
-    ensures { result ≡ false → contentBroken (sheetOf s.now) k ≡ false }
+pub fn content_breaks(s: &[u8], langs: &Languages, k: u16) -> bool
+    ensures { result ≡ false → contentBroken (sheetOf s.now) langs.now k ≡ false }
 {
     let at = record_at(s, CONTENTS, k);
     if ends_before(s, CONTENTS, at) {
@@ -59,9 +60,9 @@ pub fn content_breaks(s: &[u8], k: u16) -> bool
     let first = word_at(s, at, CONTENT_LABELS);
     let loud = word_at(s, at, CONTENT_LOUDNESS);
     if n == 0 {
-        return unlabelled_breaks(s, lang, first, loud);
+        return unlabelled_breaks(s, langs, lang, first, loud);
     }
-    labelled_breaks(s, lang, first, n, loud)
+    labelled_breaks(s, langs, lang, first, n, loud)
 }
 
 // The content list and the set list of a programme.
@@ -79,8 +80,8 @@ fn programme_lists_break(s: &[u8], first: u16, n: u16, from: u16, sets: u16) -> 
 }
 
 // Whether a programme may break one of rules 4, 5, 6, 8 and 9.
-pub fn programme_breaks(s: &[u8], k: u16) -> bool
-    ensures { result ≡ false → programmeBroken (sheetOf s.now) k ≡ false }
+pub fn programme_breaks(s: &[u8], langs: &Languages, k: u16) -> bool
+    ensures { result ≡ false → programmeBroken (sheetOf s.now) langs.now k ≡ false }
 {
     let at = record_at(s, PROGRAMMES, k);
     if ends_before(s, PROGRAMMES, at) {
@@ -92,6 +93,7 @@ pub fn programme_breaks(s: &[u8], k: u16) -> bool
     }
     labelled_breaks(
         s,
+        langs,
         word_at(s, at, PROGRAMME_LANGUAGE),
         word_at(s, at, PROGRAMME_LABELS),
         n,

@@ -1,6 +1,7 @@
 -- An accepted sheet has what acceptance grants: each fact from the rule that grants it. Assumes nothing.
 use Prim.Native.Nat.{ℕ, ◌<◌, ◌≤◌}
 use mathlib.Core.Path.{◌≡◌, refl, sym, ap, ◌∙◌}
+use mathlib.Core.List.{List}
 use mathlib.Core.Bool.{Bool, true, false, true≢false, not, ◌&&◌, ◌||◌}
 use mathlib.Core.Logic.{◌⊎◌, inl, inr, ⊎_elim}
 use native.Mathlib.Omega.{arith}
@@ -41,11 +42,11 @@ stays : (t : Sort) (w lo hi : ℕ) → leaves t w lo hi ≡ false → Within t l
 unfolding leaves
 stays t w lo hi e present = not-false _ (and-second (not (isAbsent lo)) (not (inRange t lo w hi)) e (ap not present))
 
-module _ (s : Sheet) (accepted : verdict s ≡ Accepted) where
-  unbroken : (rule section k : ℕ) → k < subjects s rule section → breaks s rule section k ≡ false
+module _ (s : Sheet) (langs : List ℕ) (accepted : verdict s langs ≡ Accepted) where
+  unbroken : (rule section k : ℕ) → k < subjects s rule section → breaks s langs rule section k ≡ false
   unbroken rule section k l =
-      (elim (breaks s rule section k) as (λ t. breaks s rule section k ≡ t → breaks s rule section k ≡ false) [
-        | true ↦ λ e. absurd (accepted-none s accepted rule section k (record { subject = l; broken = e }))
+      (elim (breaks s langs rule section k) as (λ t. breaks s langs rule section k ≡ t → breaks s langs rule section k ≡ false) [
+        | true ↦ λ e. absurd (accepted-none s langs accepted rule section k (record { subject = l; broken = e }))
         | false ↦ λ e. e
       ]) refl
 
@@ -266,39 +267,39 @@ module _ (s : Sheet) (accepted : verdict s ≡ Accepted) where
       (set-stays v t l)).0
 
 -- an accepted sheet has all that acceptance grants
-pub accepted-sheet : (s : Sheet) → verdict s ≡ Accepted → AcceptedSheet s
+pub accepted-sheet : (s : Sheet) (langs : List ℕ) → verdict s langs ≡ Accepted → AcceptedSheet s
 unfolding outside rule2 badObjectWords badSetWords objectLeaves setLeaves
-accepted-sheet s a =
+accepted-sheet s langs a =
     record {
-      some-programme = ltb-false _ _ (or-none (ltb (count s programmes) 1) (exceeds s programmesLimit (count s programmes)) (rule7-programmes s a)).0;
+      some-programme = ltb-false _ _ (or-none (ltb (count s programmes) 1) (exceeds s programmesLimit (count s programmes)) (rule7-programmes s langs a)).0;
       some-content = λ p l. ltb-false _ _ (or-none (ltb (number s programmes p contentList) 1) (exceeds s programmeContentsLimit (number s programmes p contentList))
-          (or-none-3 (ltb (number s programmes p contentList) 1 || exceeds s programmeContentsLimit (number s programmes p contentList)) (exceeds s programmeSetsLimit (number s programmes p setList)) (exceeds s labelsLimit (number s programmes p programmeLabels)) (rule8-programme s a p l)).0).0;
-      content-index = λ p i l m. in-section s a contents programmes p contentList i (or-none (listLacks s contents programmes p contentList) (listLacks s valueSets programmes p setList) (rule5-programme s a p l)).0 m;
-      set-index = λ p i l m. unfold namedSet in in-section s a valueSets programmes p setList i (or-none (listLacks s contents programmes p contentList) (listLacks s valueSets programmes p setList) (rule5-programme s a p l)).1 m;
-      object-index = λ c l. leb-false _ _ (unfold lacks in rule5-content s a c l);
-      track-index = λ o i l m. unfold trackAt in in-section s a tracks objects o trackList i (object-lists s a o l).0 m;
-      child-index = λ o i l m. in-section s a objects objects o childList i (object-lists s a o l).1 m;
-      complement-index = λ o i l m. in-section s a objects objects o complementList i (object-lists s a o l).2 m;
-      named-once = λ o l. eqb-true _ _ (not-false _ (rule11-object s a o l));
-      one-span = λ v l. eqb-true _ _ (not-false _ (rule11-set s a v l));
-      pack-or-children = λ o l. (object-parts s a o l).0;
-      child-pack = λ o i l m. child-has-pack s a o i l m;
-      track-number = λ o l. eqb-true _ _ (not-false _ (track-parts s a o l).0);
-      track-pack = λ o i l m. eqb-true _ _ (not-false _ (any-none (otherPack s a o) (number s objects o trackList) (track-parts s a o l).1 i m));
-      channel-once = λ o n l m. eqb-true _ _ (not-false _ (any-none (notOnce s a o) (channels s o) (track-parts s a o l).2 n m));
-      some-channel = λ o l h. channel-there s a o l h;
-      leader-top = λ o l h. leader-is-top s a o l h;
-      complement-top = λ o i l m. not-false _ (complement-good s a o i l m).0;
-      complement-follows = λ o i l m. (complement-good s a o i l m).1;
-      complement-once = λ o i l m. ltb-false _ _ (complement-good s a o i l m).2;
-      object-value = λ o t l. (legal-words t _ _ _ (object-words s a o t l)).0;
-      object-range = λ o t l. legal-range t _ _ _ (object-words s a o t l);
-      object-within = λ o t l. stays t _ _ _ (object-stays s a o t l);
-      set-value = λ v t l. (legal-words t _ _ _ (set-words s a v t l)).0;
-      set-range = λ v t l. legal-range t _ _ _ (set-words s a v t l);
-      set-within = λ v t l. stays t _ _ _ (set-effective s a v t l);
-      group-included = λ p l m n h. group-part s a p l m n h;
-      level-most = ltb-false _ _ (or-none (not (eqb (edition s) 1)) (ltb 2 (level s)) (rule2-header s a)).1;
-      objects-most = λ h. not-exceeded s a objectsLimit (count s objects) (or-none (ltb (count s objects) 1) (exceeds s objectsLimit (count s objects)) (rule7-objects s a)).1 h;
-      counted-most = λ h. not-exceeded s a countedLimit (countedTracks s) (rule24-header s a) h;
+          (or-none-3 (ltb (number s programmes p contentList) 1 || exceeds s programmeContentsLimit (number s programmes p contentList)) (exceeds s programmeSetsLimit (number s programmes p setList)) (exceeds s labelsLimit (number s programmes p programmeLabels)) (rule8-programme s langs a p l)).0).0;
+      content-index = λ p i l m. in-section s langs a contents programmes p contentList i (or-none (listLacks s contents programmes p contentList) (listLacks s valueSets programmes p setList) (rule5-programme s langs a p l)).0 m;
+      set-index = λ p i l m. unfold namedSet in in-section s langs a valueSets programmes p setList i (or-none (listLacks s contents programmes p contentList) (listLacks s valueSets programmes p setList) (rule5-programme s langs a p l)).1 m;
+      object-index = λ c l. leb-false _ _ (unfold lacks in rule5-content s langs a c l);
+      track-index = λ o i l m. unfold trackAt in in-section s langs a tracks objects o trackList i (object-lists s langs a o l).0 m;
+      child-index = λ o i l m. in-section s langs a objects objects o childList i (object-lists s langs a o l).1 m;
+      complement-index = λ o i l m. in-section s langs a objects objects o complementList i (object-lists s langs a o l).2 m;
+      named-once = λ o l. eqb-true _ _ (not-false _ (rule11-object s langs a o l));
+      one-span = λ v l. eqb-true _ _ (not-false _ (rule11-set s langs a v l));
+      pack-or-children = λ o l. (object-parts s langs a o l).0;
+      child-pack = λ o i l m. child-has-pack s langs a o i l m;
+      track-number = λ o l. eqb-true _ _ (not-false _ (track-parts s langs a o l).0);
+      track-pack = λ o i l m. eqb-true _ _ (not-false _ (any-none (otherPack s langs a o) (number s objects o trackList) (track-parts s langs a o l).1 i m));
+      channel-once = λ o n l m. eqb-true _ _ (not-false _ (any-none (notOnce s langs a o) (channels s o) (track-parts s langs a o l).2 n m));
+      some-channel = λ o l h. channel-there s langs a o l h;
+      leader-top = λ o l h. leader-is-top s langs a o l h;
+      complement-top = λ o i l m. not-false _ (complement-good s langs a o i l m).0;
+      complement-follows = λ o i l m. (complement-good s langs a o i l m).1;
+      complement-once = λ o i l m. ltb-false _ _ (complement-good s langs a o i l m).2;
+      object-value = λ o t l. (legal-words t _ _ _ (object-words s langs a o t l)).0;
+      object-range = λ o t l. legal-range t _ _ _ (object-words s langs a o t l);
+      object-within = λ o t l. stays t _ _ _ (object-stays s langs a o t l);
+      set-value = λ v t l. (legal-words t _ _ _ (set-words s langs a v t l)).0;
+      set-range = λ v t l. legal-range t _ _ _ (set-words s langs a v t l);
+      set-within = λ v t l. stays t _ _ _ (set-effective s langs a v t l);
+      group-included = λ p l m n h. group-part s langs a p l m n h;
+      level-most = ltb-false _ _ (or-none (not (eqb (edition s) 1)) (ltb 2 (level s)) (rule2-header s langs a)).1;
+      objects-most = λ h. not-exceeded s langs a objectsLimit (count s objects) (or-none (ltb (count s objects) 1) (exceeds s objectsLimit (count s objects)) (rule7-objects s langs a)).1 h;
+      counted-most = λ h. not-exceeded s langs a countedLimit (countedTracks s) (rule24-header s langs a) h;
     }

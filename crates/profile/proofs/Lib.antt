@@ -5,5 +5,7 @@ mod LimitLaws
 pub mod ListLaws
 mod PlaceLaws
 pub mod SumLaws
+pub mod RisingLaws
 pub mod VerdictLaws
+pub mod HeaderLaws
 pub mod AcceptedLaws

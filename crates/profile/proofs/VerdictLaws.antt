@@ -4,7 +4,7 @@ use Prim.Native.Nat.{ℕ, zero, suc, ◌<◌, ◌≤◌}
 use mathlib.Core.Path.{◌≡◌, refl, sym, ap, ◌∙◌}
 use mathlib.Core.Bool.{Bool, true, false, true≢false, ◌&&◌}
 use mathlib.Core.Logic.{⊎_elim}
-use mathlib.Core.List.{[], ◌∷◌}
+use mathlib.Core.List.{List, [], ◌∷◌}
 use native.Mathlib.Omega.{arith}
 use lib.Dec.{eqb, ltb, leb}
 use lib.ListN.{length, get_or, get_or-eq_default}
@@ -22,26 +22,26 @@ use Rattle.profile.proofs.CountingLaws.{any-none, found, nothing, finds, finds-n
 use Rattle.profile.proofs.BoolLaws.{and-both}
 use Rattle.profile.proofs.ListLaws.{every-at}
 
-module _ (s : Sheet) where
+module _ (s : Sheet) (langs : List ℕ) where
   -- a section below the one found has nothing that breaks the rule
-  lower-section : (rule section k : ℕ) → section < brokenSection s rule → k < subjects s rule section → breaks s rule section k ≡ false
+  lower-section : (rule section k : ℕ) → section < brokenSection s langs rule → k < subjects s rule section → breaks s langs rule section k ≡ false
   unfolding brokenSection sectionBroken brokenRecord
-  lower-section rule section k l m = nothing (breaks s rule section) (subjects s rule section) (lowest-before (sectionBroken s rule) sectionCount section l) k m
+  lower-section rule section k l m = nothing (breaks s langs rule section) (subjects s rule section) (lowest-before (sectionBroken s langs rule) sectionCount section l) k m
 
   -- a record below the one found does not break the rule
-  lower-record : (rule section k : ℕ) → k < brokenRecord s rule section → breaks s rule section k ≡ false
+  lower-record : (rule section k : ℕ) → k < brokenRecord s langs rule section → breaks s langs rule section k ≡ false
   unfolding brokenRecord
-  lower-record rule section k l = lowest-before (breaks s rule section) (subjects s rule section) k l
+  lower-record rule section k l = lowest-before (breaks s langs rule section) (subjects s rule section) k l
 
   -- a rule at a lower position than the one found is not broken
-  lower-rule : (i : ℕ) → i < brokenPosition s → ruleBroken s (numberAt i) ≡ false
+  lower-rule : (i : ℕ) → i < brokenPosition s langs → ruleBroken s langs (numberAt i) ≡ false
   unfolding brokenPosition
-  lower-rule i l = lowest-before (λ j. ruleBroken s (numberAt j)) ruleCount i l
+  lower-rule i l = lowest-before (λ j. ruleBroken s langs (numberAt j)) ruleCount i l
 
   -- the search over the rules has found nothing
-  no-rule : ltb (brokenPosition s) ruleCount ≡ false → (i : ℕ) → i < ruleCount → ruleBroken s (numberAt i) ≡ false
+  no-rule : ltb (brokenPosition s langs) ruleCount ≡ false → (i : ℕ) → i < ruleCount → ruleBroken s langs (numberAt i) ≡ false
   unfolding brokenPosition
-  no-rule e i l = nothing (λ j. ruleBroken s (numberAt j)) ruleCount e i l
+  no-rule e i l = nothing (λ j. ruleBroken s langs (numberAt j)) ruleCount e i l
 
 -- what holds and does not hold
 clash : {b : Bool} → b ≡ true → b ≡ false → ⊥
@@ -99,11 +99,11 @@ module _ (s : Sheet) (rule section k : ℕ) (l : k < subjects s rule section) wh
       ]) refl
 
 -- where something breaks the rule, the search over sections finds it
-broken-somewhere : (s : Sheet) (rule section k : ℕ) → BrokenAt s rule section k → ruleBroken s rule ≡ true
+broken-somewhere : (s : Sheet) (langs : List ℕ) (rule section k : ℕ) → BrokenAt s langs rule section k → ruleBroken s langs rule ≡ true
 unfolding ruleBroken brokenSection
-broken-somewhere s rule section k b =
-    finds (sectionBroken s rule) sectionCount section (known-section s rule section k b.subject)
-    (unfold sectionBroken brokenRecord in finds (breaks s rule section) (subjects s rule section) k b.subject b.broken)
+broken-somewhere s langs rule section k b =
+    finds (sectionBroken s langs rule) sectionCount section (known-section s rule section k b.subject)
+    (unfold sectionBroken brokenRecord in finds (breaks s langs rule section) (subjects s rule section) k b.subject b.broken)
 
 header-subjects : (s : Sheet) (rule : ℕ) → subjects s rule 0 ≤ 1
 unfolding subjects subjectKind
@@ -114,118 +114,118 @@ header-subjects s rule = few _ (row-short rule).1
     few (suc zero) h = omega arith
     few (suc (suc n)) h = absurd (omega arith)
 
-module _ (s : Sheet) (e : ltb (brokenPosition s) ruleCount ≡ true) where
+module _ (s : Sheet) (langs : List ℕ) (e : ltb (brokenPosition s langs) ruleCount ≡ true) where
   abbrev rule : ℕ
-  rule = numberAt (brokenPosition s)
+  rule = numberAt (brokenPosition s langs)
 
   abbrev section : ℕ
-  section = brokenSection s rule
+  section = brokenSection s langs rule
 
   abbrev k : ℕ
-  k = brokenRecord s rule section
+  k = brokenRecord s langs rule section
 
-  rule-found : ruleBroken s rule ≡ true
+  rule-found : ruleBroken s langs rule ≡ true
   unfolding brokenPosition
-  rule-found = found (λ j. ruleBroken s (numberAt j)) ruleCount e
+  rule-found = found (λ j. ruleBroken s langs (numberAt j)) ruleCount e
 
-  section-found : sectionBroken s rule section ≡ true
+  section-found : sectionBroken s langs rule section ≡ true
   unfolding ruleBroken brokenSection
-  section-found = found (sectionBroken s rule) sectionCount rule-found
+  section-found = found (sectionBroken s langs rule) sectionCount rule-found
 
-  record-found : breaks s rule section k ≡ true
+  record-found : breaks s langs rule section k ≡ true
   unfolding sectionBroken brokenRecord
-  record-found = found (breaks s rule section) (subjects s rule section) section-found
+  record-found = found (breaks s langs rule section) (subjects s rule section) section-found
 
-  found-here : BrokenAt s rule section k
+  found-here : BrokenAt s langs rule section k
   unfolding sectionBroken
   found-here = record { subject = ltb-true k (subjects s rule section) section-found; broken = record-found }
 
-  nothing-earlier : (rule' section' k' : ℕ) → Earlier rule' section' k' rule section k → BrokenAt s rule' section' k' → ⊥
+  nothing-earlier : (rule' section' k' : ℕ) → Earlier rule' section' k' rule section k → BrokenAt s langs rule' section' k' → ⊥
   nothing-earlier rule' section' k' earlier b =
       ⊎_elim
       (λ l.
-      let h : position rule' < brokenPosition s = omega (arith, l, position-number (brokenPosition s) (ltb-true (brokenPosition s) ruleCount e)) in
+      let h : position rule' < brokenPosition s langs = omega (arith, l, position-number (brokenPosition s langs) (ltb-true (brokenPosition s langs) ruleCount e)) in
       let q : numberAt (position rule') ≡ rule' = number-position rule' (known-rule s rule' section' k' b.subject) in
-      clash (broken-somewhere s rule' section' k' b) (rw q at (lower-rule s (position rule') h)))
+      clash (broken-somewhere s langs rule' section' k' b) (rw q at (lower-rule s langs (position rule') h)))
       (λ same.
       ⊎_elim
-      (λ l. clash b.broken (lower-section s rule' section' k' (rw (sym same.0) at l) b.subject))
-      (λ both. clash b.broken (lower-record s rule' section' k' (rw (sym both.0, sym same.0) at both.1)))
+      (λ l. clash b.broken (lower-section s langs rule' section' k' (rw (sym same.0) at l) b.subject))
+      (λ both. clash b.broken (lower-record s langs rule' section' k' (rw (sym both.0, sym same.0) at both.1)))
       same.1)
       earlier
 
   -- what the three searches find is the first broken place
-  first-found : FirstBroken s rule section k
+  first-found : FirstBroken s langs rule section k
   first-found = record { here = found-here; nothing-earlier = nothing-earlier }
 
 -- the verdict by what the search over the rules gives
-verdict-found : (s : Sheet) → ltb (brokenPosition s) ruleCount ≡ true → verdict s ≡ brokenAt s (numberAt (brokenPosition s))
+verdict-found : (s : Sheet) (langs : List ℕ) → ltb (brokenPosition s langs) ruleCount ≡ true → verdict s langs ≡ brokenAt s langs (numberAt (brokenPosition s langs))
 unfolding verdict
-verdict-found s e = rw e
+verdict-found s langs e = rw e
 
-verdict-nothing : (s : Sheet) → ltb (brokenPosition s) ruleCount ≡ false → verdict s ≡ Accepted
+verdict-nothing : (s : Sheet) (langs : List ℕ) → ltb (brokenPosition s langs) ruleCount ≡ false → verdict s langs ≡ Accepted
 unfolding verdict
-verdict-nothing s e = rw e
+verdict-nothing s langs e = rw e
 
 -- a verdict is not both
 accepted≢broken : (v : Verdict) (rule : ℕ) (place : Place) → v ≡ Accepted → v ≡ Broken rule place → ⊥
 accepted≢broken v rule place e f = let z : ◌≡◌ {A = ℕ} 0 1 = cc in omega arith
 
 -- a rule that no record breaks
-pub rule-kept : (s : Sheet) (rule : ℕ) → any (λ section. any (breaks s rule section) (subjects s rule section)) sectionCount ≡ false → ruleBroken s rule ≡ false
+pub rule-kept : (s : Sheet) (langs : List ℕ) (rule : ℕ) → any (λ section. any (breaks s langs rule section) (subjects s rule section)) sectionCount ≡ false → ruleBroken s langs rule ≡ false
 unfolding ruleBroken brokenSection
-rule-kept s rule e =
-    finds-none (sectionBroken s rule) sectionCount
+rule-kept s langs rule e =
+    finds-none (sectionBroken s langs rule) sectionCount
     (λ section l.
-    let each = any-none (λ j. any (breaks s rule j) (subjects s rule j)) sectionCount e section l in
-    unfold sectionBroken brokenRecord in finds-none (breaks s rule section) (subjects s rule section) (any-none (breaks s rule section) (subjects s rule section) each))
+    let each = any-none (λ j. any (breaks s langs rule j) (subjects s rule j)) sectionCount e section l in
+    unfold sectionBroken brokenRecord in finds-none (breaks s langs rule section) (subjects s rule section) (any-none (breaks s langs rule section) (subjects s rule section) each))
 
 -- no rule of the list is broken: accepted
-pub kept-accepted : (s : Sheet) → any (λ i. ruleBroken s (numberAt i)) ruleCount ≡ false → verdict s ≡ Accepted
-kept-accepted s kept = verdict-nothing s (unfold brokenPosition in finds-none (λ i. ruleBroken s (numberAt i)) ruleCount (any-none (λ i. ruleBroken s (numberAt i)) ruleCount kept))
+pub kept-accepted : (s : Sheet) (langs : List ℕ) → any (λ i. ruleBroken s langs (numberAt i)) ruleCount ≡ false → verdict s langs ≡ Accepted
+kept-accepted s langs kept = verdict-nothing s langs (unfold brokenPosition in finds-none (λ i. ruleBroken s langs (numberAt i)) ruleCount (any-none (λ i. ruleBroken s langs (numberAt i)) ruleCount kept))
 
 -- accepted: no rule is broken at any place
-pub accepted-none : (s : Sheet) → verdict s ≡ Accepted → (rule section k : ℕ) → BrokenAt s rule section k → ⊥
+pub accepted-none : (s : Sheet) (langs : List ℕ) → verdict s langs ≡ Accepted → (rule section k : ℕ) → BrokenAt s langs rule section k → ⊥
 unfolding brokenAt
-accepted-none s e rule section k b =
-    (elim (ltb (brokenPosition s) ruleCount) as (λ t. ltb (brokenPosition s) ruleCount ≡ t → ⊥) [
-      | true ↦ λ f. accepted≢broken (verdict s) _ _ e (verdict-found s f)
+accepted-none s langs e rule section k b =
+    (elim (ltb (brokenPosition s langs) ruleCount) as (λ t. ltb (brokenPosition s langs) ruleCount ≡ t → ⊥) [
+      | true ↦ λ f. accepted≢broken (verdict s langs) _ _ e (verdict-found s langs f)
       | false ↦ λ f.
           let h = known-rule s rule section k b.subject in
-          clash (broken-somewhere s rule section k b) (rw (number-position rule h) at (no-rule s f (position rule) h))
+          clash (broken-somewhere s langs rule section k b) (rw (number-position rule h) at (no-rule s langs f (position rule) h))
     ]) refl
 
 -- no rule is broken at any place: accepted
-pub none-accepted : (s : Sheet) → ((rule section k : ℕ) → BrokenAt s rule section k → ⊥) → verdict s ≡ Accepted
-none-accepted s none =
-    (elim (ltb (brokenPosition s) ruleCount) as (λ t. ltb (brokenPosition s) ruleCount ≡ t → verdict s ≡ Accepted) [
-      | true ↦ λ f. absurd (none _ _ _ (found-here s f))
-      | false ↦ λ f. verdict-nothing s f
+pub none-accepted : (s : Sheet) (langs : List ℕ) → ((rule section k : ℕ) → BrokenAt s langs rule section k → ⊥) → verdict s langs ≡ Accepted
+none-accepted s langs none =
+    (elim (ltb (brokenPosition s langs) ruleCount) as (λ t. ltb (brokenPosition s langs) ruleCount ≡ t → verdict s langs ≡ Accepted) [
+      | true ↦ λ f. absurd (none _ _ _ (found-here s langs f))
+      | false ↦ λ f. verdict-nothing s langs f
     ]) refl
 
 -- the place found has the section and the record that were found
-found-place : (s : Sheet) (e : ltb (brokenPosition s) ruleCount ≡ true)
-    → (sectionOf (placeAt (section s e) (k s e)) ≡ section s e) × (recordOf (placeAt (section s e) (k s e)) ≡ k s e)
-found-place s e =
-    let l = (found-here s e).subject in
-    place-back (section s e) (k s e) (known-section s (rule s e) (section s e) (k s e) l)
+found-place : (s : Sheet) (langs : List ℕ) (e : ltb (brokenPosition s langs) ruleCount ≡ true)
+    → (sectionOf (placeAt (section s langs e) (k s langs e)) ≡ section s langs e) × (recordOf (placeAt (section s langs e) (k s langs e)) ≡ k s langs e)
+found-place s langs e =
+    let l = (found-here s langs e).subject in
+    place-back (section s langs e) (k s langs e) (known-section s (rule s langs e) (section s langs e) (k s langs e) l)
     (λ z.
-    let few : subjects s (rule s e) (section s e) ≤ 1 = rw z (header-subjects s (rule s e)) in
+    let few : subjects s (rule s langs e) (section s langs e) ≤ 1 = rw z (header-subjects s (rule s langs e)) in
     omega (arith, few, l))
 
 -- so where it is the place of a verdict
-found-verdict : (s : Sheet) (rule : ℕ) (place : Place) (f : ltb (brokenPosition s) ruleCount ≡ true) → brokenAt s (numberAt (brokenPosition s)) ≡ Broken rule place
-    → FirstBroken s rule (sectionOf place) (recordOf place)
+found-verdict : (s : Sheet) (langs : List ℕ) (rule : ℕ) (place : Place) (f : ltb (brokenPosition s langs) ruleCount ≡ true) → brokenAt s langs (numberAt (brokenPosition s langs)) ≡ Broken rule place
+    → FirstBroken s langs rule (sectionOf place) (recordOf place)
 unfolding brokenAt
-found-verdict s rule place f h =
-    let q : numberAt (brokenPosition s) ≡ rule = cc in
-    let p : placeAt (section s f) (k s f) ≡ place = cc in
-    rw (← q, ← p, (found-place s f).0, (found-place s f).1) (first-found s f)
+found-verdict s langs rule place f h =
+    let q : numberAt (brokenPosition s langs) ≡ rule = cc in
+    let p : placeAt (section s langs f) (k s langs f) ≡ place = cc in
+    rw (← q, ← p, (found-place s langs f).0, (found-place s langs f).1) (first-found s langs f)
 
 -- broken: that rule is broken at that place, and nothing earlier is
-pub broken-first : (s : Sheet) (rule : ℕ) (place : Place) → verdict s ≡ Broken rule place → FirstBroken s rule (sectionOf place) (recordOf place)
-broken-first s rule place e =
-    (elim (ltb (brokenPosition s) ruleCount) as (λ t. ltb (brokenPosition s) ruleCount ≡ t → FirstBroken s rule (sectionOf place) (recordOf place)) [
-      | true ↦ λ f. found-verdict s rule place f (sym (verdict-found s f) ∙ e)
-      | false ↦ λ f. absurd (accepted≢broken (verdict s) rule place (verdict-nothing s f) e)
+pub broken-first : (s : Sheet) (langs : List ℕ) (rule : ℕ) (place : Place) → verdict s langs ≡ Broken rule place → FirstBroken s langs rule (sectionOf place) (recordOf place)
+broken-first s langs rule place e =
+    (elim (ltb (brokenPosition s langs) ruleCount) as (λ t. ltb (brokenPosition s langs) ruleCount ≡ t → FirstBroken s langs rule (sectionOf place) (recordOf place)) [
+      | true ↦ λ f. found-verdict s langs rule place f (sym (verdict-found s langs f) ∙ e)
+      | false ↦ λ f. absurd (accepted≢broken (verdict s langs) rule place (verdict-nothing s langs f) e)
     ]) refl

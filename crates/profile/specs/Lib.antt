@@ -1,4 +1,5 @@
 pub mod Counting
+pub mod Languages
 pub mod Limits
 pub mod Relations
 pub mod Rules
@@ -9,3 +10,4 @@ pub mod Judged
 pub mod Build
 pub mod Cases
 pub mod RuleCases
+pub mod LanguageCases

@@ -1,7 +1,7 @@
 -- A second table of cases: for each rule at least one sheet that breaks it first, beside accepted neighbours. They tell apart the
 -- readings of docs/DECISIONS.md that are named at them. Assumes nothing.
 use Rattle.std.specs.Prelude.{ℕ, ◌+◌, ◌≡◌, refl, List, [], ◌∷◌, ◌++◌, map, take, set, replicate}
-use Rattle.sheet.specs.Words.{sheetOf}
+use Rattle.sheet.specs.Words.{words, sheetOf}
 use Rattle.sheet.specs.Fields.{programmes, contents, objects, packs, tracks, references, contentList, setList, programmeLabels, objectGainMinimum, packChannels, packKind, trackPack}
 use Rattle.profile.specs.declared.Place.TheVariants.{Header, Programme, Content, Object, Pack, Track, ValueSet}
 use Rattle.profile.specs.declared.Verdict.{Verdict}
@@ -12,13 +12,20 @@ use Rattle.profile.specs.Build.{Row, Parts, build, put, bytesOf, absent, eng, pr
 use Rattle.profile.specs.Build.Part.{word, list}
 use Rattle.profile.specs.Cases.{Case, sheetA}
 
--- a sheet of parts and its verdict
-unfoldable pub case : Parts → Verdict → Case
-case p v = record { bytes = bytesOf (build p); answer = v }
+-- the list that this table lends: "eng" and the four words after it, of which some sheets have labels
+unfoldable pub engFive : List ℕ
+unfolding bytesOf below
+engFive = bytesOf (map (λ n. eng + n) (below 5))
 
--- A with one word changed, and its verdict
+-- bytes, a sheet of parts, A with one word changed, each with its verdict
+unfoldable pub caseOf : List ℕ → Verdict → Case
+caseOf bytes v = record { bytes = bytes; langs = engFive; answer = v }
+
+unfoldable pub case : Parts → Verdict → Case
+case p v = caseOf (bytesOf (build p)) v
+
 unfoldable pub caseA : ℕ → ℕ → ℕ → ℕ → Verdict → Case
-caseA section k at w v = record { bytes = bytesOf (put section k at w sheetA); answer = v }
+caseA section k at w v = caseOf (bytesOf (put section k at w sheetA)) v
 
 -- one content for each object of a list, one programme for each list of contents, no sets named
 unfoldable pub sheet : List (List ℕ) → List ℕ → List Row → List Row → List Row → List Row → Parts
@@ -75,20 +82,20 @@ abbrev silentSet : Row
 silentSet = gainRow absent 0 absent absent
 
 unfoldable pub ruleCases : List Case
-unfolding case caseA sheet single scene narrators beds labelled sheetA build put bytesOf programme content object slider leaf parent below speakers frontPack sidePack channelTracks gainRow plain rowEntries rowWords sectionWords sectionEntries pairs judged
+unfolding engFive caseOf case caseA sheet single scene narrators beds labelled sheetA build put bytesOf programme content object slider leaf parent below speakers frontPack sidePack channelTracks gainRow plain rowEntries rowWords sectionWords sectionEntries pairs judged
 ruleCases =
     -- 1
-    record { bytes = bytesOf (take 15 sheetA); answer = Broken 1 Header }
-    ∷ record { bytes = replicate 65536 0; answer = Broken 1 Header }
+    caseOf (bytesOf (take 15 sheetA)) (Broken 1 Header)
+    ∷ caseOf (replicate 65536 0) (Broken 1 Header)
     -- 2
-    ∷ record { bytes = bytesOf (set sheetA 0 2); answer = Broken 2 Header }
+    ∷ caseOf (bytesOf (set sheetA 0 2)) (Broken 2 Header)
     -- 3: a gap behind section 1; sums are exact, 16 + 8 * 8193 is not 24
-    ∷ record { bytes = bytesOf (set sheetA 5 25); answer = Broken 3 (Content 0) }
-    ∷ record { bytes = bytesOf (set sheetA 2 8193); answer = Broken 3 (Content 0) }
+    ∷ caseOf (bytesOf (set sheetA 5 25)) (Broken 3 (Content 0))
+    ∷ caseOf (bytesOf (set sheetA 2 8193)) (Broken 3 (Content 0))
     -- 4: an empty list may begin at the end of its section and no further; sums are exact here too
     ∷ caseA programmes 0 setList 2 Accepted
     ∷ caseA programmes 0 setList 3 (Broken 4 (Programme 0))
-    ∷ record { bytes = bytesOf (put programmes 0 programmeLabels 65535 (put programmes 0 (programmeLabels + 1) 2 sheetA)); answer = Broken 4 (Programme 0) }
+    ∷ caseOf (bytesOf (put programmes 0 programmeLabels 65535 (put programmes 0 (programmeLabels + 1) 2 sheetA))) (Broken 4 (Programme 0))
     -- 5: the place of a bad entry is the record that has the list; 65535 is a pack that section 4 lacks
     ∷ caseA references 0 0 1 (Broken 5 (Programme 0))
     ∷ caseA tracks 0 trackPack 65535 (Broken 5 (Track 0))
@@ -100,7 +107,7 @@ ruleCases =
     -- 7: the minimums hold at level 0
     ∷ case (record { level = 0; programmes = []; contents = []; objects = []; packs = []; tracks = []; sets = [] }) (Broken 7 (Programme 0))
     -- 8: a programme has a content, at level 0 too, where labels have no maximum
-    ∷ record { bytes = bytesOf (set (put programmes 0 (contentList + 1) 0 sheetA) 1 0); answer = Broken 8 (Programme 0) }
+    ∷ caseOf (bytesOf (set (put programmes 0 (contentList + 1) 0 sheetA) 1 0)) (Broken 8 (Programme 0))
     ∷ case (labelled 1 (map (λ n. eng + n) (below 5)) []) (Broken 8 (Programme 0))
     ∷ case (labelled 0 (map (λ n. eng + n) (below 5)) []) Accepted
     -- 9: any programme precedes any content
@@ -108,7 +115,7 @@ ruleCases =
     ∷ case (labelled 1 (eng ∷ eng ∷ []) (eng ∷ eng ∷ [])) (Broken 9 (Programme 0))
     -- 10
     ∷ caseA packs 0 packChannels 13 (Broken 10 (Pack 0))
-    ∷ record { bytes = bytesOf (put packs 0 packKind 3 (put packs 0 packChannels 2 sheetA)); answer = Broken 10 (Pack 0) }
+    ∷ caseOf (bytesOf (put packs 0 packKind 3 (put packs 0 packChannels 2 sheetA))) (Broken 10 (Pack 0))
     -- 11: twice in one list is twice; any object precedes any set
     ∷ case (scene (parent (1 ∷ 1 ∷ []) ∷ leaf 0 (0 ∷ []) ∷ []) []) (Broken 11 (Object 1))
     ∷ case (scene (leaf 0 (0 ∷ []) ∷ []) (silentSet ∷ [])) (Broken 11 (ValueSet 0))
@@ -163,6 +170,6 @@ ruleCases =
     ∷ []
 
 -- each of them has that verdict
-pub rule-cases-hold : map (λ (c : Case). verdict (sheetOf c.bytes)) ruleCases ≡ map (λ (c : Case). c.answer) ruleCases
+pub rule-cases-hold : map (λ (c : Case). verdict (sheetOf c.bytes) (words c.langs)) ruleCases ≡ map (λ (c : Case). c.answer) ruleCases
 unfolding ruleCases judged
 rule-cases-hold = refl

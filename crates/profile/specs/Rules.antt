@@ -1,17 +1,23 @@
--- Document 01, "Broken rules, in checking order": rules 1 to 24, each under its sentence. `ruleN s section k` says that record k of
--- the section breaks rule N; where the header or a section is the subject, k is 0 and is not read. What a rule says of a sheet that
--- breaks an earlier one does not matter. Assumes nothing.
-use Rattle.std.specs.Prelude.{ℕ, ◌+◌, ◌-◌, ◌%◌, Bool, not, ◌&&◌, ◌||◌, eqb, leb, ltb}
+-- Document 01, "Broken rules, in checking order": rules 1 to 24, each under its sentence, and document 02's rule 33. `ruleN s section k`
+-- says that record k of the section breaks rule N; where the header or a section is the subject, k is 0 and is not read. Rules 33 and 6
+-- ask the list of languages that is lent beside the sheet, `langs`. What a rule says of a sheet that breaks an earlier one does not
+-- matter. Assumes nothing.
+use Rattle.std.specs.Prelude.{ℕ, ◌+◌, ◌-◌, ◌%◌, Bool, not, ◌&&◌, ◌||◌, List, eqb, leb, ltb}
 use Rattle.sheet.specs.Words.{Sheet, wordCount}
 use Rattle.sheet.specs.Layout.{edition, level, count, offset, end, field, first, number, entry}
 use Rattle.sheet.specs.Fields.{programmes, contents, objects, packs, tracks, references, valueSets, programmeLanguage, contentList, setList, programmeLabels, programmeLoudness, contentLanguage, contentObject, contentLabels, contentLoudness, trackList, childList, complementList, interact, setSpan, packKind, packChannels, packFront, trackPack, trackOrdinal, setGain, setOwn}
 use Rattle.values.specs.declared.Sort.{Sort}
 use Rattle.values.specs.declared.Sort.TheVariants.{Gains, Offsets}
-use Rattle.values.specs.Language.{language, loudness}
+use Rattle.values.specs.Language.{loudness}
 use Rattle.values.specs.Values.{isAbsent, isValue, isMinimum, isMaximum, inRange}
 use Rattle.profile.specs.Counting.{any, howMany, sum, twoOf}
+use Rattle.profile.specs.Languages.{goodLanguage, isRising}
 use Rattle.profile.specs.Limits.{exceeds, programmesLimit, contentsLimit, objectsLimit, packsLimit, tracksLimit, programmeContentsLimit, programmeSetsLimit, labelsLimit, childrenLimit, complementsLimit, spanLimit, channelsLimit, groupsLimit, unitsLimit, countedLimit}
 use Rattle.profile.specs.Relations.{lists, times, packOf, hasPack, hasChildren, hasObjectsPack, hasFrontPack, top, kind, leader, member, members, leaderOf, includes, included, whollyIncluded, hasSet, owner, namedSet, namesSet, objectValue, objectMinimum, objectMaximum, setValue, setMinimum, setMaximum, ownValue, effectiveValue, effectiveMinimum, effectiveMaximum, countedTracks, groups, units, namings, channels, trackAt}
+
+-- Document 02, L2: "33, tested before rule 1 with the header as its place, the lent list isn't strictly rising"
+unfoldable pub rule33 : Sheet → List ℕ → ℕ → ℕ → Bool
+rule33 s langs section k = not (isRising langs)
 
 -- "1. The header: the sheet is under 32 bytes, over 65,534 bytes or odd."
 unfoldable pub rule1 : Sheet → ℕ → ℕ → Bool
@@ -52,15 +58,16 @@ rule5 s section k =
     && (hasPack s k && lacks s packs (packOf s k) || listLacks s tracks section k trackList || listLacks s objects section k childList || listLacks s objects section k complementList)
     || eqb section tracks && lacks s packs (field s tracks k trackPack)
 
--- "6. A record has a word, or a label, outside the values above, half a pair, or own 0 with a range word present."
+-- "6. A record has a word, or a label, outside the values above, half a pair, or own 0 with a range word present." Document 02, L2: "a code
+-- of three letters is good if listed, or from qaa to qtz (second letter a to t). Rule 6 refuses the others."
 -- A label outside
-unfoldable pub badLabel : Sheet → ℕ → ℕ → ℕ → Bool
-badLabel s section k at = any (λ i. not (language (entry s section k at i))) (number s section k at)
+unfoldable pub badLabel : Sheet → List ℕ → ℕ → ℕ → ℕ → Bool
+badLabel s langs section k at = any (λ i. not (goodLanguage langs (entry s section k at i))) (number s section k at)
 
 -- language, labels and loudness of a programme or content
-unfoldable pub badSpeech : Sheet → ℕ → ℕ → ℕ → ℕ → ℕ → Bool
-badSpeech s section k languageAt labelsAt loudnessAt =
-    not (language (field s section k languageAt)) || badLabel s section k labelsAt || not (loudness (field s section k loudnessAt))
+unfoldable pub badSpeech : Sheet → List ℕ → ℕ → ℕ → ℕ → ℕ → ℕ → Bool
+badSpeech s langs section k languageAt labelsAt loudnessAt =
+    not (goodLanguage langs (field s section k languageAt)) || badLabel s langs section k labelsAt || not (loudness (field s section k loudnessAt))
 
 -- a value and its range, of one sort: words outside, or half a pair ("a minimum and its maximum are both there or both absent"); each
 -- word may be absent ("Nothing else may be absent but the pack.")
@@ -97,10 +104,10 @@ badSet s v =
     || badSetWords s v Offsets
     || eqb (field s valueSets v setOwn) 0 && (setRange s v Gains || setRange s v Offsets)
 
-unfoldable pub rule6 : Sheet → ℕ → ℕ → Bool
-rule6 s section k =
-    eqb section programmes && badSpeech s section k programmeLanguage programmeLabels programmeLoudness
-    || eqb section contents && badSpeech s section k contentLanguage contentLabels contentLoudness
+unfoldable pub rule6 : Sheet → List ℕ → ℕ → ℕ → Bool
+rule6 s langs section k =
+    eqb section programmes && badSpeech s langs section k programmeLanguage programmeLabels programmeLoudness
+    || eqb section contents && badSpeech s langs section k contentLanguage contentLabels contentLoudness
     || eqb section objects && badObject s k
     || eqb section packs && badPack s k
     || eqb section valueSets && badSet s k

@@ -1,6 +1,7 @@
 -- Document 01, "Broken rules, in checking order": "The verdict is acceptance, or a rule together with a place, a section and a record.
 -- The place is the subject of the sentence; within one rule the lowest section, then the lowest record; a section or the header as
--- subject gives record 0." Assumes nothing.
+-- subject gives record 0." Document 02, L2: "Acceptance is now relative to that list", the list of languages lent beside the sheet, which is
+-- `langs` here. Assumes nothing.
 use Rattle.std.specs.Prelude.{ℕ, ◌+◌, ◌*◌, Bool, false, cond, List, [], ◌∷◌, eqb, ltb, get_or, length}
 use Rattle.sheet.specs.Words.{Sheet}
 use Rattle.sheet.specs.Layout.{count}
@@ -9,7 +10,7 @@ use Rattle.profile.specs.declared.Place.TheVariants.{Header, Programme, Content,
 use Rattle.profile.specs.declared.Verdict.{Verdict}
 use Rattle.profile.specs.declared.Verdict.TheVariants.{Accepted, Broken}
 use Rattle.profile.specs.Counting.{lowest, lowestFrom}
-use Rattle.profile.specs.Rules.{rule1, rule2, rule3, rule4, rule5, rule6, rule7, rule8, rule9, rule10, rule11, rule12, rule13, rule14, rule15, rule16, rule17, rule18, rule19, rule20, rule21, rule22, rule23, rule24}
+use Rattle.profile.specs.Rules.{rule1, rule2, rule3, rule4, rule5, rule6, rule7, rule8, rule9, rule10, rule11, rule12, rule13, rule14, rule15, rule16, rule17, rule18, rule19, rule20, rule21, rule22, rule23, rule24, rule33}
 
 -- the number that document 01 gives a place's section
 abbrev pub sectionOf : Place → ℕ
@@ -42,25 +43,30 @@ placeAt section k =
 abbrev pub sectionCount : ℕ
 sectionCount = 8
 
--- A rule of document 01: its number; for each section from 0 on 0 where it has no subject of the rule, 1 where the header or the section
--- itself is one, 2 where each of its records is; and whether a record of a section breaks the rule
+-- A rule: its number; for each section from 0 on 0 where it has no subject of the rule, 1 where the header or the section itself is one, 2
+-- where each of its records is; and whether a record of a section breaks the rule
 pub record Rule : Type 0 where
   pub number : ℕ
   pub subjectKinds : List ℕ
-  pub test : Sheet → ℕ → ℕ → Bool
+  pub test : Sheet → List ℕ → ℕ → ℕ → Bool
+
+-- a rule that asks the lent list, and one of the sheet alone
+abbrev listRow : ℕ → List ℕ → (Sheet → List ℕ → ℕ → ℕ → Bool) → Rule
+listRow number subjectKinds test = record { number = number; subjectKinds = subjectKinds; test = test }
 
 abbrev row : ℕ → List ℕ → (Sheet → ℕ → ℕ → Bool) → Rule
-row number subjectKinds test = record { number = number; subjectKinds = subjectKinds; test = test }
+row number subjectKinds test = listRow number subjectKinds (λ s langs. test s)
 
 -- "Broken rules, in checking order": the order is that of this list, whatever the numbers are. "The place is the subject of the sentence"
 unfoldable pub rules : List Rule
 rules =
-    row 1 (1 ∷ 0 ∷ 0 ∷ 0 ∷ 0 ∷ 0 ∷ 0 ∷ 0 ∷ []) rule1  -- the header
+    listRow 33 (1 ∷ 0 ∷ 0 ∷ 0 ∷ 0 ∷ 0 ∷ 0 ∷ 0 ∷ []) rule33  -- the header
+    ∷ row 1 (1 ∷ 0 ∷ 0 ∷ 0 ∷ 0 ∷ 0 ∷ 0 ∷ 0 ∷ []) rule1  -- the header
     ∷ row 2 (1 ∷ 0 ∷ 0 ∷ 0 ∷ 0 ∷ 0 ∷ 0 ∷ 0 ∷ []) rule2  -- the header
     ∷ row 3 (0 ∷ 1 ∷ 1 ∷ 1 ∷ 1 ∷ 1 ∷ 1 ∷ 1 ∷ []) rule3  -- a section
     ∷ row 4 (0 ∷ 2 ∷ 2 ∷ 2 ∷ 0 ∷ 0 ∷ 0 ∷ 0 ∷ []) rule4  -- a record with lists or a span
     ∷ row 5 (0 ∷ 2 ∷ 2 ∷ 2 ∷ 0 ∷ 2 ∷ 0 ∷ 0 ∷ []) rule5  -- a record that names an index, or has a list that does
-    ∷ row 6 (0 ∷ 2 ∷ 2 ∷ 2 ∷ 2 ∷ 0 ∷ 0 ∷ 2 ∷ []) rule6  -- a record with words that have values
+    ∷ listRow 6 (0 ∷ 2 ∷ 2 ∷ 2 ∷ 2 ∷ 0 ∷ 0 ∷ 2 ∷ []) rule6  -- a record with words that have values
     ∷ row 7 (0 ∷ 1 ∷ 1 ∷ 1 ∷ 1 ∷ 1 ∷ 0 ∷ 0 ∷ []) rule7  -- a section
     ∷ row 8 (0 ∷ 2 ∷ 2 ∷ 2 ∷ 0 ∷ 0 ∷ 0 ∷ 0 ∷ []) rule8  -- a record with lists or a span
     ∷ row 9 (0 ∷ 2 ∷ 2 ∷ 0 ∷ 0 ∷ 0 ∷ 0 ∷ 0 ∷ []) rule9  -- a programme or content
@@ -98,9 +104,9 @@ unfoldable pub position : ℕ → ℕ
 position n = lowest (λ i. eqb (numberAt i) n) ruleCount
 
 -- that record of that section breaks the rule of that number (what opens this opens the look-up)
-unfoldable pub breaks : Sheet → ℕ → ℕ → ℕ → Bool
+unfoldable pub breaks : Sheet → List ℕ → ℕ → ℕ → ℕ → Bool
 unfolding rules ruleCount ruleAt numberAt position lowest lowestFrom
-breaks s n = (ruleAt (position n)).test s
+breaks s langs n = (ruleAt (position n)).test s langs
 
 -- which subjects of it a section has
 unfoldable pub subjectKind : ℕ → ℕ → ℕ
@@ -112,32 +118,32 @@ unfoldable pub subjects : Sheet → ℕ → ℕ → ℕ
 subjects s rule section = get_or (0 ∷ 1 ∷ count s section ∷ []) (subjectKind rule section) 0
 
 -- the lowest record of a section that breaks a rule, or the number of subjects
-unfoldable pub brokenRecord : Sheet → ℕ → ℕ → ℕ
-brokenRecord s rule section = lowest (breaks s rule section) (subjects s rule section)
+unfoldable pub brokenRecord : Sheet → List ℕ → ℕ → ℕ → ℕ
+brokenRecord s langs rule section = lowest (breaks s langs rule section) (subjects s rule section)
 
 -- the section has a record that breaks the rule
-unfoldable pub sectionBroken : Sheet → ℕ → ℕ → Bool
-sectionBroken s rule section = ltb (brokenRecord s rule section) (subjects s rule section)
+unfoldable pub sectionBroken : Sheet → List ℕ → ℕ → ℕ → Bool
+sectionBroken s langs rule section = ltb (brokenRecord s langs rule section) (subjects s rule section)
 
 -- the lowest section with such a record, or 8
-unfoldable pub brokenSection : Sheet → ℕ → ℕ
-brokenSection s rule = lowest (sectionBroken s rule) sectionCount
+unfoldable pub brokenSection : Sheet → List ℕ → ℕ → ℕ
+brokenSection s langs rule = lowest (sectionBroken s langs rule) sectionCount
 
 -- the rule is broken somewhere
-unfoldable pub ruleBroken : Sheet → ℕ → Bool
-ruleBroken s rule = ltb (brokenSection s rule) sectionCount
+unfoldable pub ruleBroken : Sheet → List ℕ → ℕ → Bool
+ruleBroken s langs rule = ltb (brokenSection s langs rule) sectionCount
 
 -- the position of the first broken rule, or the number of rules
-unfoldable pub brokenPosition : Sheet → ℕ
-brokenPosition s = lowest (λ i. ruleBroken s (numberAt i)) ruleCount
+unfoldable pub brokenPosition : Sheet → List ℕ → ℕ
+brokenPosition s langs = lowest (λ i. ruleBroken s langs (numberAt i)) ruleCount
 
 -- the rule with its place
-unfoldable pub brokenAt : Sheet → ℕ → Verdict
-brokenAt s rule = Broken rule (placeAt (brokenSection s rule) (brokenRecord s rule (brokenSection s rule)))
+unfoldable pub brokenAt : Sheet → List ℕ → ℕ → Verdict
+brokenAt s langs rule = Broken rule (placeAt (brokenSection s langs rule) (brokenRecord s langs rule (brokenSection s langs rule)))
 
 -- the first broken rule with its place, or acceptance
-unfoldable pub verdict : Sheet → Verdict
-verdict s = cond (ltb (brokenPosition s) ruleCount) (brokenAt s (numberAt (brokenPosition s))) Accepted
+unfoldable pub verdict : Sheet → List ℕ → Verdict
+verdict s langs = cond (ltb (brokenPosition s langs) ruleCount) (brokenAt s langs (numberAt (brokenPosition s langs))) Accepted
 
 -- "Check gives 0, or 1,000,000 times the rule plus 100,000 times the section plus the record."
 abbrev pub verdictCode : Verdict → ℕ

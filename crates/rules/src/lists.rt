@@ -2,8 +2,7 @@
 ghost use Rattle.std.specs.Prelude.{◌≡◌};
 ghost use Rattle.profile.specs.Rules.{beyond, listLacks, rule4, rule5, rule9};
 ghost use Rattle.rules.specs.steps.Loops.{firstTarget, secondTarget};
-ghost use Rattle.runs.specs.declared.ReferenceTest.TheVariants.{Lacks};
-ghost use Rattle.runs.specs.steps.Runs.{NextRight, RepeatRight};
+ghost use Rattle.runs.specs.steps.Runs.{LacksRight, RepeatRight};
 ghost use Rattle.sheet.specs.Words.{sheetOf};
 
 use crate::repeats::repeats_by;
@@ -45,7 +44,7 @@ pub fn rule4(s: &[u8], section: u8, k: u16) -> bool
 
 // An entry of the list at a position of a record names an index that the target section lacks, by the table where it has the list.
 fn list_lacks_by(s: &[u8], next: &[u16], target: u8, section: u8, k: u16, at: u8) -> bool
-    ensures { NextRight (sheetOf s.now) (Lacks target) next.now → result ≡ listLacks (sheetOf s.now) target section k at }
+    ensures { LacksRight (sheetOf s.now) target next.now → result ≡ listLacks (sheetOf s.now) target section k at }
 {
     let looked = look_up(s, next, section, k, at);
     if looked.known {
@@ -79,7 +78,7 @@ pub fn second_target(section: u8) -> u8
 
 // It is lent a table for each of the two sections that the lists name records of.
 pub fn rule5(s: &[u8], first: &[u16], second: &[u16], section: u8, k: u16) -> bool
-    ensures { NextRight (sheetOf s.now) (Lacks (firstTarget section)) first.now → NextRight (sheetOf s.now) (Lacks (secondTarget section)) second.now → result ≡ rule5 (sheetOf s.now) section k }
+    ensures { LacksRight (sheetOf s.now) (firstTarget section) first.now → LacksRight (sheetOf s.now) (secondTarget section) second.now → result ≡ rule5 (sheetOf s.now) section k }
 {
     match section {
         1 => list_lacks_by(s, first, CONTENTS, PROGRAMMES, k, CONTENT_LIST)

@@ -1,10 +1,10 @@
 // Rule 6: words and labels outside their values.
 ghost use Rattle.std.specs.Prelude.{◌≡◌};
 ghost use Rattle.profile.specs.Rules.{badLabel, badObject, badObjectWords, badPack, badSet, badSetWords, badSpeech, badWords, objectRange, rule6, setRange};
-ghost use Rattle.runs.specs.declared.ReferenceTest.TheVariants.{NoLanguage};
-ghost use Rattle.runs.specs.steps.Runs.{NextRight};
+ghost use Rattle.runs.specs.steps.Runs.{LanguagesRight};
 ghost use Rattle.sheet.specs.Words.{sheetOf};
 
+use languages::list::Languages;
 use relations::labels::bad_label;
 use relations::sets::{
     object_maximum, object_minimum, object_value, set_maximum, set_minimum, set_value,
@@ -17,27 +17,36 @@ use sheet::fields::{
 };
 use sheet::layout::field;
 use values::Sort;
-use values::language::{language, loudness};
+use values::language::loudness;
 use values::values::{is_absent, is_maximum, is_minimum, is_value};
 
 // A label outside, by the table where it has the list.
-fn bad_label_by(s: &[u8], next: &[u16], section: u8, k: u16, at: u8) -> bool
-    ensures { NextRight (sheetOf s.now) NoLanguage next.now → result ≡ badLabel (sheetOf s.now) section k at }
+fn bad_label_by(s: &[u8], langs: &Languages, next: &[u16], section: u8, k: u16, at: u8) -> bool
+    ensures { LanguagesRight (sheetOf s.now) langs.now next.now → result ≡ badLabel (sheetOf s.now) langs.now section k at }
 {
     let looked = look_up(s, next, section, k, at);
     if looked.known {
         looked.found
     } else {
-        bad_label(s, section, k, at)
+        bad_label(s, langs, section, k, at)
     }
 }
 
 // Language, labels and loudness of a programme or content.
-fn bad_speech(s: &[u8], next: &[u16], section: u8, k: u16, lang: u8, labels: u8, loud: u8) -> bool
-    ensures { NextRight (sheetOf s.now) NoLanguage next.now → result ≡ badSpeech (sheetOf s.now) section k lang labels loud }
+fn bad_speech(
+    s: &[u8],
+    langs: &Languages,
+    next: &[u16],
+    section: u8,
+    k: u16,
+    lang: u8,
+    labels: u8,
+    loud: u8,
+) -> bool
+    ensures { LanguagesRight (sheetOf s.now) langs.now next.now → result ≡ badSpeech (sheetOf s.now) langs.now section k lang labels loud }
 {
-    !language(field(s, section, k, lang))
-        | bad_label_by(s, next, section, k, labels)
+    !langs.good(field(s, section, k, lang))
+        | bad_label_by(s, langs, next, section, k, labels)
         | !loudness(field(s, section, k, loud))
 }
 
@@ -116,12 +125,13 @@ fn bad_set(s: &[u8], v: u16) -> bool
         | (own == 0) & (set_range(s, v, Sort::Gains) | set_range(s, v, Sort::Offsets))
 }
 
-pub fn rule6(s: &[u8], next: &[u16], section: u8, k: u16) -> bool
-    ensures { NextRight (sheetOf s.now) NoLanguage next.now → result ≡ rule6 (sheetOf s.now) section k }
+pub fn rule6(s: &[u8], langs: &Languages, next: &[u16], section: u8, k: u16) -> bool
+    ensures { LanguagesRight (sheetOf s.now) langs.now next.now → result ≡ rule6 (sheetOf s.now) langs.now section k }
 {
     match section {
         1 => bad_speech(
             s,
+            langs,
             next,
             PROGRAMMES,
             k,
@@ -131,6 +141,7 @@ pub fn rule6(s: &[u8], next: &[u16], section: u8, k: u16) -> bool
         ),
         2 => bad_speech(
             s,
+            langs,
             next,
             CONTENTS,
             k,

@@ -5,12 +5,12 @@ ghost use Rattle.sheet.specs.Words.{sheetOf};
 ghost use Rattle.tables.specs.steps.Marks.{Standing};
 
 use crate::{ReferenceKey, ReferenceTest};
+use languages::list::Languages;
 use relations::objects::lacks;
 use sheet::fields::{PACK_CHANNELS, PACKS, REFERENCES, TRACK_ORDINAL, TRACK_PACK, TRACKS};
 use sheet::layout::{count, field, reference};
 use tables::Mark;
 use tables::marks::mark_at;
-use values::language::language;
 
 // Whether the second of two tracks is of another pack, or has an ordinal past its pack's channels.
 fn stray(s: &[u8], e: u16, f: u16) -> bool
@@ -22,13 +22,13 @@ fn stray(s: &[u8], e: u16, f: u16) -> bool
 }
 
 // Whether a reference passes the test.
-fn reference_test(s: &[u8], test: ReferenceTest, y: u16) -> bool
-    ensures { result ≡ referenceTest (sheetOf s.now) test y }
+fn reference_test(s: &[u8], langs: &Languages, test: ReferenceTest, y: u16) -> bool
+    ensures { result ≡ referenceTest (sheetOf s.now) langs.now test y }
 {
     let e = reference(s, y as u32);
     match test {
         ReferenceTest::Lacks(section) => lacks(s, section, e),
-        ReferenceTest::NoLanguage => !language(e),
+        ReferenceTest::NoLanguage => !langs.good(e),
         ReferenceTest::Stray => stray(s, e, reference(s, y as u32 + 1)),
     }
 }
@@ -52,14 +52,14 @@ fn here_or(test: bool, x: u16, next: u16) -> u16
 }
 
 // Writes for each reference the least index from it on that passes the test; a number past the last where there is none.
-pub fn fill_next(s: &[u8], test: ReferenceTest, table: &mut [u16])
-    ensures { (length table.new ≡ length table.old) × NextRight (sheetOf s.now) test table.new }
+pub fn fill_next(s: &[u8], langs: &Languages, test: ReferenceTest, table: &mut [u16])
+    ensures { (length table.new ≡ length table.old) × NextRight (sheetOf s.now) langs.now test table.new }
 {
     let mut x: u16 = count(s, REFERENCES);
     let mut next: u16 = x;
     while 0 < x {
         let y = x - 1;
-        next = here_or(reference_test(s, test, y), y, next);
+        next = here_or(reference_test(s, langs, test, y), y, next);
         mark_at(table, y as u32, Mark::Store(next));
         x = y;
     }

@@ -10,7 +10,7 @@ pub mod reads;
 pub enum ReferenceTest {
     // that section has no record of its number
     Lacks(u8),
-    // it is no language
+    // it is no good language
     NoLanguage,
     // the track that the reference after it names is of another pack, or has an ordinal past its pack's channels
     Stray,

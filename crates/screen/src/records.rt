@@ -11,6 +11,7 @@ ghost use Rattle.sheet.specs.Words.{sheetOf};
 ghost use Rattle.tables.specs.steps.Right.{Complemented, Listed, Named, Tops};
 
 use crate::objects::object_breaks;
+use languages::list::Languages;
 use lists::speech::{content_breaks, programme_breaks};
 use lists::words::{ends_before, record_at, word_at};
 use profile::limits::{CHANNELS_LIMIT, exceeds};
@@ -43,13 +44,13 @@ pub fn header_breaks(s: &[u8]) -> bool
 }
 
 // Whether no programme breaks a rule that needs no table.
-fn programmes_keep(s: &[u8]) -> bool
-    ensures { result ≡ true → any (programmeBroken (sheetOf s.now)) (count (sheetOf s.now) programmes) ≡ false }
+fn programmes_keep(s: &[u8], langs: &Languages) -> bool
+    ensures { result ≡ true → any (programmeBroken (sheetOf s.now) langs.now) (count (sheetOf s.now) programmes) ≡ false }
 {
     let n = count(s, PROGRAMMES);
     let mut k: u16 = 0;
     while k < n {
-        if programme_breaks(s, k) {
+        if programme_breaks(s, langs, k) {
             return false;
         }
         k += 1;
@@ -70,13 +71,13 @@ fn unlisted(listed: &[u16], k: u16) -> bool
 }
 
 // Whether no content breaks one, and each is in a content list.
-fn contents_keep(s: &[u8], listed: &[u16]) -> bool
-    ensures { result ≡ true → Listed (sheetOf s.now) listed.now → any (λ k. contentBroken (sheetOf s.now) k || rule12 (sheetOf s.now) contents k) (count (sheetOf s.now) contents) ≡ false }
+fn contents_keep(s: &[u8], langs: &Languages, listed: &[u16]) -> bool
+    ensures { result ≡ true → Listed (sheetOf s.now) listed.now → any (λ k. contentBroken (sheetOf s.now) langs.now k || rule12 (sheetOf s.now) contents k) (count (sheetOf s.now) contents) ≡ false }
 {
     let n = count(s, CONTENTS);
     let mut k: u16 = 0;
     while k < n {
-        if content_breaks(s, k) | unlisted(listed, k) {
+        if content_breaks(s, langs, k) | unlisted(listed, k) {
             return false;
         }
         k += 1;
@@ -150,17 +151,18 @@ fn tracks_keep(s: &[u8]) -> bool
 // objects.
 pub fn records_pass(
     s: &[u8],
+    langs: &Languages,
     named: &[u16],
     listed: &[u16],
     tops: &[u16],
     complements: &[u16],
 ) -> bool
-    ensures { result ≡ true → RecordsTabled (sheetOf s.now) named.now listed.now tops.now complements.now → RecordsKept (sheetOf s.now) }
+    ensures { result ≡ true → RecordsTabled (sheetOf s.now) named.now listed.now tops.now complements.now → RecordsKept (sheetOf s.now) langs.now }
 {
-    if !programmes_keep(s) {
+    if !programmes_keep(s, langs) {
         return false;
     }
-    if !contents_keep(s, listed) {
+    if !contents_keep(s, langs, listed) {
         return false;
     }
     if !objects_keep(s, named, tops, complements) {

@@ -9,6 +9,7 @@ ghost use Rattle.tables.specs.steps.Right.{Spanned};
 use crate::records::{header_breaks, records_pass};
 use crate::totals::totals_break;
 use grouping::programmes::programmes_pass;
+use languages::list::Languages;
 use sheet::fields::{CONTENTS, OBJECTS, PROGRAMMES, VALUE_SETS};
 use sheet::layout::count;
 use tables::entry_counts::fewer_entries;
@@ -67,15 +68,16 @@ fn fill_tables(
 // Whether the records keep rules 4 to 20, each value set is in one span, and the sheet keeps rules 23 and 24.
 fn records_and_totals_pass(
     s: &[u8],
+    langs: &Languages,
     named: &[u16],
     spanned: &[u16],
     listed: &[u16],
     tops: &[u16],
     complements: &[u16],
 ) -> bool
-    ensures { result ≡ true → RecordsTabled (sheetOf s.now) named.now listed.now tops.now complements.now → Spanned (sheetOf s.now) spanned.now → RecordsAndTotalsKept (sheetOf s.now) }
+    ensures { result ≡ true → RecordsTabled (sheetOf s.now) named.now listed.now tops.now complements.now → Spanned (sheetOf s.now) spanned.now → RecordsAndTotalsKept (sheetOf s.now) langs.now }
 {
-    if !records_pass(s, named, listed, tops, complements) {
+    if !records_pass(s, langs, named, listed, tops, complements) {
         return false;
     }
     if !all_once(spanned, count(s, VALUE_SETS)) {
@@ -87,6 +89,7 @@ fn records_and_totals_pass(
 // With tables of noughts. Those of the objects serve the programmes as well, once the records are tested.
 fn screened(
     s: &[u8],
+    langs: &Languages,
     named: &mut [u16],
     spanned: &mut [u16],
     listed: &mut [u16],
@@ -95,21 +98,24 @@ fn screened(
     owners: &mut [u16],
 ) -> bool
     requires { Noughts named.old spanned.old listed.old tops.old complements.old owners.old }
-    ensures { result ≡ true → verdict (sheetOf s.now) ≡ Accepted }
+    ensures { result ≡ true → verdict (sheetOf s.now) langs.now ≡ Accepted }
 {
+    if !langs.rises() {
+        return false;
+    }
     if !header_passes(s) {
         return false;
     }
     fill_tables(s, named, spanned, listed, tops, complements, owners);
-    if !records_and_totals_pass(s, named, spanned, listed, tops, complements) {
+    if !records_and_totals_pass(s, langs, named, spanned, listed, tops, complements) {
         return false;
     }
     programmes_pass(s, owners, named, tops, complements)
 }
 
 // A sheet under 1,024 bytes has at most 30 objects, 99 contents and 70 value sets.
-pub fn small_passes(s: &[u8]) -> bool
-    ensures { result ≡ true → verdict (sheetOf s.now) ≡ Accepted }
+pub fn small_passes(s: &[u8], langs: &Languages) -> bool
+    ensures { result ≡ true → verdict (sheetOf s.now) langs.now ≡ Accepted }
 {
     let mut named: [u16; 32] = [0; 32];
     let mut spanned: [u16; 72] = [0; 72];
@@ -119,6 +125,7 @@ pub fn small_passes(s: &[u8]) -> bool
     let mut owners: [u16; 72] = [0; 72];
     screened(
         s,
+        langs,
         &mut named,
         &mut spanned,
         &mut listed,
@@ -129,8 +136,8 @@ pub fn small_passes(s: &[u8]) -> bool
 }
 
 // One under 16,384 bytes has at most 511 objects, 1,635 contents and 1,168 value sets.
-fn middling_passes(s: &[u8]) -> bool
-    ensures { result ≡ true → verdict (sheetOf s.now) ≡ Accepted }
+fn middling_passes(s: &[u8], langs: &Languages) -> bool
+    ensures { result ≡ true → verdict (sheetOf s.now) langs.now ≡ Accepted }
 {
     let mut named: [u16; 512] = [0; 512];
     let mut spanned: [u16; 1168] = [0; 1168];
@@ -140,6 +147,7 @@ fn middling_passes(s: &[u8]) -> bool
     let mut owners: [u16; 1168] = [0; 1168];
     screened(
         s,
+        langs,
         &mut named,
         &mut spanned,
         &mut listed,
@@ -150,8 +158,8 @@ fn middling_passes(s: &[u8]) -> bool
 }
 
 // No sheet has more than 2,046 objects, 6,550 contents or 4,678 value sets.
-fn large_passes(s: &[u8]) -> bool
-    ensures { result ≡ true → verdict (sheetOf s.now) ≡ Accepted }
+fn large_passes(s: &[u8], langs: &Languages) -> bool
+    ensures { result ≡ true → verdict (sheetOf s.now) langs.now ≡ Accepted }
 {
     let mut named: [u16; 2048] = [0; 2048];
     let mut spanned: [u16; 4680] = [0; 4680];
@@ -161,6 +169,7 @@ fn large_passes(s: &[u8]) -> bool
     let mut owners: [u16; 4680] = [0; 4680];
     screened(
         s,
+        langs,
         &mut named,
         &mut spanned,
         &mut listed,
@@ -172,12 +181,12 @@ fn large_passes(s: &[u8]) -> bool
 
 // Whether the sheet can be seen to be accepted, with these tables: 1 for a sheet under 16,384 bytes, 2 for any. With another number it is
 // not screened.
-pub fn passes(s: &[u8], tables: u8) -> bool
-    ensures { result ≡ true → verdict (sheetOf s.now) ≡ Accepted }
+pub fn passes(s: &[u8], langs: &Languages, tables: u8) -> bool
+    ensures { result ≡ true → verdict (sheetOf s.now) langs.now ≡ Accepted }
 {
     match tables {
-        1 => middling_passes(s),
-        2 => large_passes(s),
+        1 => middling_passes(s, langs),
+        2 => large_passes(s, langs),
         _ => false,
     }
 }

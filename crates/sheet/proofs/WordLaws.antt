@@ -34,3 +34,11 @@ unfolding words
 how-many [] = refl
 how-many (a ∷ []) = refl
 how-many (a ∷ b ∷ s) = omega (arith, how-many s)
+
+-- the words of bytes are of 16 bits
+pub words-fit : (bytes : List ℕ) → ((i : ℕ) → get_or bytes i 0 < 256) → (i : ℕ) → get_or (words bytes) i 0 < 65536
+unfolding words
+words-fit [] h i = omega arith
+words-fit (a ∷ []) h i = omega arith
+words-fit (a ∷ b ∷ more) h zero = omega (arith, h 0, h 1)
+words-fit (a ∷ b ∷ more) h (suc i) = words-fit more (λ j. h (suc (suc j))) i

@@ -1,17 +1,23 @@
-// Reads a sheet from standard input and prints its verdict, and the figures that a refusal by rule 18, 20 or 24 is told with: lines like
-// `section 3 record 0 figure -600`.
+// Reads a sheet from standard input, and a list of languages from the file `langs` of the folder that it runs in, and prints the verdict, and
+// the figures that a refusal by rule 18, 20 or 24 is told with: lines like `section 3 record 0 figure -600`.
 #![tactic(auto)]
 
 use figurelines::{FIGURES_ROOM, figures_text};
 use std::io::Input;
 use text::output::{say_failure, write_output};
-use text::reading::{arg_count, read_input};
+use text::reading::{LANGS_ROOM, arg_count, read_input, read_langs};
 
-// The buffer is longer than any sheet, so an input that fills it breaks rule 1, whatever follows, and has no figures (`cut-figures`,
-// crates/figurelines/proofs/LongInput.antt). An argument, or a read that fails, gives no verdict: standard error says why.
+// The sheet's buffer is longer than any sheet, so an input that fills it breaks rule 1, whatever follows; and a list that fills its buffer
+// can't rise, and breaks rule 33; neither has figures (`cut-figures`, `cut-figures-langs`, crates/figurelines/proofs/LongInput.antt). No file
+// `langs` is an empty list. An argument, or a read that fails, gives no verdict: standard error says why.
 fn main(rt: HostRuntime) {
     if arg_count(&rt) > 1 {
         let _ = eprintln!(rt; "usage: sheetfigures <FILE");
+        return;
+    }
+    let mut langs = [0u8; LANGS_ROOM];
+    let list = read_langs(&rt, &mut langs);
+    if list.failed.is_some() {
         return;
     }
     let mut sheet = io::large_buffer();
@@ -20,8 +26,7 @@ fn main(rt: HostRuntime) {
         say_failure(&rt, "standard input", error);
         return;
     }
-    let n = input.count;
     let mut text = [0u8; FIGURES_ROOM];
-    let length = figures_text(&sheet[..n], &mut text);
+    let length = figures_text(&sheet[..input.count], &langs[..list.count], &mut text);
     write_output(&rt, &text[..length]);
 }

@@ -1,7 +1,7 @@
 // Reading a whole input, with an error told from the end, and the files that arguments name.
 ghost use Rattle.io.specs.Counts.{IsPrefixLen};
 ghost use Rattle.std.specs.Io.KnownBytes.{Consumes, IsAtEnd};
-ghost use Rattle.std.specs.Prelude.{◌<◌, IsNone, length, take};
+ghost use Rattle.std.specs.Prelude.{◌<◌, ◌≡◌, IsNone, length, take};
 
 use crate::lines::same;
 use crate::output::say_failure;
@@ -10,6 +10,9 @@ use std::fmt::Display;
 use std::fs::Files;
 use std::io::{Error, ErrorKind, Read};
 use std::{fs, str};
+
+// A list of more words can't rise, so that so many bytes decide (`cut-langs`, crates/verdicts/proofs/LongInput.antt): 65,537 words.
+pub const LANGS_ROOM: usize = 131074;
 
 // What reading gave: so many bytes at the start of the buffer, and why it stopped there, if a read failed.
 #[derive(Clone, Copy)]
@@ -80,26 +83,26 @@ pub fn refuse_argument<R: Env + Eprint, D: Display + Drop>(rt: &R, i: usize, why
     }
 }
 
-// Reads the file of this name. Where that fails, standard error says why.
-fn read_file<R: Files + Eprint>(rt: &R, name: &str, buffer: &mut [u8]) -> Input
+// Nothing is read: standard error says why.
+fn unread<R: Eprint>(rt: &R, what: &str, error: Error) -> Input
+    ensures { result.count ≡ 0 }
+{
+    say_failure(rt, what, error);
+    Input {
+        count: 0,
+        failed: Some(error),
+    }
+}
+
+// Reads an opened file. Where that fails, standard error says why.
+fn read_opened<R: Eprint, F: Read>(rt: &R, name: &str, file: &mut F, buffer: &mut [u8]) -> Input
     ensures { IsPrefixLen result.count buffer.new }
 {
-    match fs::open(rt, name) {
-        Ok(mut file) => {
-            let input = read_input(&mut file, buffer);
-            if let Some(error) = input.failed {
-                say_failure(rt, name, error);
-            }
-            input
-        }
-        Err(error) => {
-            say_failure(rt, name, error);
-            Input {
-                count: 0,
-                failed: Some(error),
-            }
-        }
+    let input = read_input(file, buffer);
+    if let Some(error) = input.failed {
+        say_failure(rt, name, error);
     }
+    input
 }
 
 // Reads the file that an argument names. Where that fails, standard error says why.
@@ -108,14 +111,27 @@ pub fn read_argument<R: Env + Files + Eprint>(rt: &R, i: usize, buffer: &mut [u8
 {
     let mut room = io::buffer();
     match argument_text(rt, i, &mut room) {
-        Ok(name) => read_file(rt, name, buffer),
-        Err(error) => {
-            say_failure(rt, "argument", error);
-            Input {
-                count: 0,
-                failed: Some(error),
-            }
-        }
+        Ok(name) => match fs::open(rt, name) {
+            Ok(mut file) => read_opened(rt, name, &mut file, buffer),
+            Err(error) => unread(rt, name, error),
+        },
+        Err(error) => unread(rt, "argument", error),
+    }
+}
+
+// Reads the file `langs` of the folder that the program runs in; where there is none, the list is empty. Where reading fails, standard
+// error says why.
+pub fn read_langs<R: Files + Eprint>(rt: &R, buffer: &mut [u8]) -> Input
+    ensures { IsPrefixLen result.count buffer.new }
+{
+    let name = "langs";
+    match fs::open(rt, name) {
+        Ok(mut file) => read_opened(rt, name, &mut file, buffer),
+        Err(error) if error.kind() == ErrorKind::NotFound => Input {
+            count: 0,
+            failed: None,
+        },
+        Err(error) => unread(rt, name, error),
     }
 }
 

@@ -1,11 +1,11 @@
--- A language is three letters: "1024 times the first letter plus 32 times the second plus the third". Assumes nothing.
+-- A code of three letters: "1024 times the first letter plus 32 times the second plus the third". Assumes nothing.
 use mathlib.Core.Path.{◌≡◌}
 use mathlib.Core.Bool.{true, ◌&&◌}
 use Prim.Native.Nat.{ℕ, ◌+◌, ◌*◌, ◌/◌, ◌%◌, ◌≤◌}
 use native.Mathlib.Omega.{arith}
 use borrow.Author.Tests.{leb-true}
 use lib.Dec.{leb}
-use Rattle.values.specs.Language.{letter, language}
+use Rattle.values.specs.Language.{letter, threeLetters}
 use Rattle.values.proofs.Both.{both}
 
 -- "a = 1 to z = 26"
@@ -13,10 +13,10 @@ letter-range : (n : ℕ) → letter n ≡ true → (1 ≤ n) × (n ≤ 26)
 unfolding letter
 letter-range n h = let b = both (leb 1 n) (leb n 26) h in (leb-true 1 n b.0, leb-true n 26 b.1)
 
--- any three letters are a language
-pub letters-language : (a b c : ℕ) → letter a ≡ true → letter b ≡ true → letter c ≡ true → language (1024 * a + 32 * b + c) ≡ true
-unfolding language
-letters-language a b c f g h =
+-- any three letters make a code
+pub letters-code : (a b c : ℕ) → letter a ≡ true → letter b ≡ true → letter c ≡ true → threeLetters (1024 * a + 32 * b + c) ≡ true
+unfolding threeLetters
+letters-code a b c f g h =
     let i = letter-range a f in
     let j = letter-range b g in
     let k = letter-range c h in
@@ -25,11 +25,11 @@ letters-language a b c f g h =
     let r : (1024 * a + 32 * b + c) % 32 ≡ c = omega arith in
     simp (p, q, r, f, g, h)
 
--- every language is three letters
-pub language-letters : (w : ℕ) → language w ≡ true
+-- every code is three letters
+pub code-letters : (w : ℕ) → threeLetters w ≡ true
     → (a : ℕ) × (b : ℕ) × (c : ℕ) × (letter a ≡ true) × (letter b ≡ true) × (letter c ≡ true) × (w ≡ 1024 * a + 32 * b + c)
-unfolding language
-language-letters w h =
+unfolding threeLetters
+code-letters w h =
     let s = both (letter (w / 1024) && letter (w / 32 % 32)) (letter (w % 32)) h in
     let t = both (letter (w / 1024)) (letter (w / 32 % 32)) s.0 in
     (w / 1024, w / 32 % 32, w % 32, t.0, t.1, s.1, omega arith)

@@ -1,6 +1,6 @@
-// Languages and loudness.
+// Codes of three letters, and loudness.
 ghost use Rattle.std.specs.Prelude.{◌≡◌};
-ghost use Rattle.values.specs.Language.{letter, language, loudness};
+ghost use Rattle.values.specs.Language.{letter, threeLetters, loudness};
 
 // "a = 1 to z = 26"
 pub fn letter(n: u16) -> bool
@@ -9,9 +9,9 @@ pub fn letter(n: u16) -> bool
     (1 <= n) & (n <= 26)
 }
 
-// "1024 times the first letter plus 32 times the second plus the third [..]. Any three letters are accepted."
-pub fn language(w: u16) -> bool
-    ensures { result ≡ language w }
+// "1024 times the first letter plus 32 times the second plus the third".
+pub fn three_letters(w: u16) -> bool
+    ensures { result ≡ threeLetters w }
 {
     letter(w / 1024) & letter(w / 32 % 32) & letter(w % 32)
 }

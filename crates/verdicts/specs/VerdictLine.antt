@@ -16,12 +16,13 @@ verdictLine (Broken rule place) =
 
 -- some of them, computed
 pub verdict-lines :
-    map verdictLine (Accepted ∷ Broken 14 (place.Object 0) ∷ Broken 1 place.Header ∷ Broken 6 (place.ValueSet 4677) ∷ Broken 4 (place.Reference 10) ∷ [])
+    map verdictLine (Accepted ∷ Broken 14 (place.Object 0) ∷ Broken 1 place.Header ∷ Broken 6 (place.ValueSet 4677) ∷ Broken 4 (place.Reference 10) ∷ Broken 33 place.Header ∷ [])
     ≡ ascii "accepted\n"
     ∷ ascii "rule 14 section 3 record 0\n"
     ∷ ascii "rule 1 section 0 record 0\n"
     ∷ ascii "rule 6 section 7 record 4677\n"
     ∷ ascii "rule 4 section 6 record 10\n"
+    ∷ ascii "rule 33 section 0 record 0\n"
     ∷ []
 unfolding verdictLine join decimal spelled
 verdict-lines = refl

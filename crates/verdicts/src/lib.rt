@@ -1,4 +1,5 @@
-// A verdict as a line of text, for every program that prints one: `verdict_line` is the line of the verdict on lent bytes.
+// A verdict as a line of text, for every program that prints one: `verdict_line` is the line of the verdict on lent bytes, a sheet and the
+// list of languages beside it.
 #![tactic(auto)]
 
 ghost use Rattle.std.specs.Prelude.{◌≡◌};
@@ -32,9 +33,9 @@ pub fn put_verdict(line: &mut [u8], verdict: Verdict) -> usize
     }
 }
 
-// Writes the line of a sheet's verdict into a lent buffer, and gives its length.
-pub fn verdict_line(sheet: &[u8], line: &mut [u8; VERDICT_ROOM]) -> usize
-    ensures { TextFilled line.old (verdictLine (checked sheet.now)) result line.new }
+// Writes the line of a sheet's verdict under a list of languages into a lent buffer, and gives its length.
+pub fn verdict_line(sheet: &[u8], langs: &[u8], line: &mut [u8; VERDICT_ROOM]) -> usize
+    ensures { TextFilled line.old (verdictLine (checked sheet.now langs.now)) result line.new }
 {
-    put_verdict(line, check(sheet))
+    put_verdict(line, check(sheet, langs))
 }

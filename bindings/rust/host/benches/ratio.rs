@@ -2,10 +2,13 @@
 //! of the plain second one, and their ratios; and how the times grow with the sheet.
 //!
 //!     cargo bench --bench ratio                       both tables, all sheets
-//!     cargo bench --bench ratio -- honest             the four honest sheets
+//!     cargo bench --bench ratio -- honest             the honest sheets
+//!     cargo bench --bench ratio -- list               the sheets with an empty list or one of all words
 //!     cargo bench --bench ratio -- hostile            the hostile sheets, or those with any other text in their names
 //!     cargo bench --bench ratio -- growth             the growth of every family
 //!     cargo bench --bench ratio -- growth honest      the growth of the families with this text in their names
+//!
+//! The honest sheets are lent examples/langs, where their names don't say another list.
 //!
 //! All are timed in one process on one buffer, in turn, and the least time of each counts: other
 //! programs on the machine only ever add. Nothing is cleared between calls, so the buffer is warm.
@@ -20,6 +23,8 @@ use std::path::Path;
 use std::time::Duration;
 use std::{env, fs, io};
 
+use sheet::build::Plan;
+use sheet::generate::languages::lists;
 use sheet::generate::{honest, hostile, Generated};
 use sheet::second;
 
@@ -46,16 +51,17 @@ fn main() -> io::Result<()> {
 /// Prints a row for each sheet with the text in its name.
 fn print_table(text: &str) -> io::Result<()> {
     println!("least time per sheet, warm; a checker is given {LIMIT:?} for a sheet");
-    let heads = ["bytes", "verdict", "proved", "fast", "plain", "to fast", "to plain"];
-    print_row("sheet", heads.map(String::from));
-    for Generated { name, sheet, .. } in sheets()? {
+    let heads = ["bytes", "words", "verdict", "proved", "fast", "plain", "to fast", "to plain"];
+    print_row("sheet, and words of its list", heads.map(String::from));
+    for Generated { name, sheet, langs, .. } in sheets()? {
         if !name.contains(text) {
             continue;
         }
-        let Times { proved, fast, plain } = least_times(&sheet, TURNS, true)?;
+        let Times { proved, fast, plain } = least_times(&sheet, &langs, TURNS, true)?;
         let cells = [
             sheet.len().to_string(),
-            verdict(&sheet),
+            (langs.len() / 2).to_string(),
+            verdict(&sheet, &langs),
             shown(proved),
             shown(fast),
             shown(plain),
@@ -67,28 +73,57 @@ fn print_table(text: &str) -> io::Result<()> {
     Ok(())
 }
 
-fn print_row(name: &str, [bytes, verdict, times @ ..]: [String; 7]) {
+fn print_row(name: &str, [bytes, words, verdict, times @ ..]: [String; 8]) {
     let times = times.map(|time| format!(" {time:>11}")).concat();
-    println!("{name:<50}{bytes:>7}{verdict:>10}{times}");
+    println!("{name:<60}{bytes:>7}{words:>7}{verdict:>10}{times}");
 }
 
-fn verdict(sheet: &[u8]) -> String {
-    match second::check(sheet) {
+fn verdict(sheet: &[u8], langs: &[u8]) -> String {
+    match second::check(sheet, langs) {
         second::Verdict::Accepted => "accepted".to_string(),
         second::Verdict::Broken { rule, .. } => format!("rule {rule}"),
     }
 }
 
-/// The sheets by name: the examples, large honest sheets, and hostile ones.
+/// The sheets by name: the examples, large honest sheets, both with other lists, and hostile ones.
 fn sheets() -> io::Result<Vec<Generated>> {
     let mut sheets = vec![example("a.sheet")?, example("play.sheet")?];
     sheets.extend(honest::sheets());
-    sheets.extend(hostile::sheets());
+    let with_all_words: Vec<Generated> = sheets.iter().map(beside_all_words).collect();
+    sheets.extend(beside_empty_lists());
+    sheets.extend(with_all_words);
+    let hostile = hostile::sheets();
+    let of_languages = hostile.iter().filter(|hostile| hostile.name.contains("languages, all"));
+    sheets.extend(of_languages.map(beside_all_words));
+    sheets.extend(hostile);
     Ok(sheets)
 }
 
 fn example(file: &str) -> io::Result<Generated> {
     let folder = Path::new(env!("CARGO_MANIFEST_DIR")).join("../../../examples");
-    let sheet = fs::read(folder.join(file))?;
-    Ok(Generated { name: format!("honest examples/{file}"), sheet, expected: None })
+    let [sheet, langs] = [file, "langs"].map(|file| fs::read(folder.join(file)));
+    let (name, expected) = (format!("honest examples/{file}"), None);
+    Ok(Generated { name, sheet: sheet?, langs: langs?, expected })
+}
+
+/// The same sheet with the longest list that rises strictly.
+fn beside_all_words(generated: &Generated) -> Generated {
+    let name = format!("{}, list of all words", generated.name);
+    Generated { name, langs: lists::all_words(), ..generated.clone() }
+}
+
+/// Honest sheets whose languages are all from qaa to qtz, which need no list.
+fn beside_empty_lists() -> Vec<Generated> {
+    let plans = [
+        ("sheet A", Plan::sheet_a()),
+        ("full sheet of level 2", honest::full()),
+        ("largest sheet of level 0", honest::largest()),
+    ];
+    let local = |(name, plan)| Generated {
+        name: format!("honest {name} in qaa to qtz, empty list"),
+        sheet: honest::in_local_languages(plan).bytes(),
+        langs: Vec::new(),
+        expected: None,
+    };
+    plans.into_iter().map(local).collect()
 }

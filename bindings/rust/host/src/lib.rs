@@ -13,71 +13,101 @@ pub use verdict::Verdict;
 
 extern "C" {
     /// 0, or 1,000,000 times the rule plus 100,000 times the section plus the record.
-    fn sheet_check(sheet: *const u8, sheet_len: usize) -> u32;
+    fn sheet_check(sheet: *const u8, sheet_len: usize, langs: *const u8, langs_len: usize) -> u32;
 
     /// The number of entries, or the refusal's number negated.
     fn sheet_start_listing(
         sheet: *const u8,
         sheet_len: usize,
+        langs: *const u8,
+        langs_len: usize,
         programme: u32,
         buffer: *mut u8,
         buffer_len: usize,
     ) -> i32;
 }
 
-/// The verdict on a sheet: any length, any bytes.
+/// The verdict on a sheet with the list of language words that is lent beside it: any lengths, any
+/// bytes.
+///
+/// The list has two bytes for each word, high first, strictly rising; an odd last byte is ignored.
+/// A word is 1024 times the first letter of a code plus 32 times the second plus the third, a = 1
+/// to z = 26. Codes from qaa to qtz are good without being listed. A list that isn't strictly
+/// rising is rule 33, whatever the sheet.
 ///
 /// ```
 /// use host::{check, Verdict};
 ///
-/// let no_bytes = Verdict::Broken { rule: 1, section: 0, record: 0 };
-/// assert_eq!(check(&[]), no_bytes);
+/// let broken = |rule| Verdict::Broken { rule, section: 0, record: 0 };
+/// let eng = [21, 199];
+/// assert_eq!(check(&[], &eng), broken(1));
+/// assert_eq!(check(&[], &[21, 199, 21, 199]), broken(33));
+///
+/// let play = include_bytes!("../../../../examples/play.sheet");
+/// let langs = include_bytes!("../../../../examples/langs");
+/// assert_eq!(check(play, langs), Verdict::Accepted);
+/// assert_eq!(check(play, &eng), Verdict::Broken { rule: 6, section: 1, record: 0 });
 /// ```
 ///
 /// # Panics
 ///
 /// If the linked archive gives a number that is no verdict, so isn't the proved one.
-pub fn check(sheet: &[u8]) -> Verdict {
-    // SAFETY: the call reads the bytes of the slice, writes nothing and keeps nothing; it
-    // follows the pointer only below `sheet_len`.
-    let code = unsafe { sheet_check(sheet.as_ptr(), sheet.len()) };
+pub fn check(sheet: &[u8], langs: &[u8]) -> Verdict {
+    // SAFETY: the call reads the bytes of the slices, writes nothing and keeps nothing; it
+    // follows each pointer only below its length.
+    let code = unsafe { sheet_check(sheet.as_ptr(), sheet.len(), langs.as_ptr(), langs.len()) };
     Verdict::of_code(code).unwrap_or_else(|| panic!("sheet_check gave {code}, no verdict"))
 }
 
 /// Lists the tracks that sound when a programme starts: writes each as two bytes, high
 /// first, and gives the number of tracks.
 ///
-/// Any sheet, any number and any buffer are answered. Bytes after the last track stay as they
-/// are, and a refusal changes none. The tracks are those of active objects by rising index,
-/// children in list order, tracks in list order; one that two active objects list is there
-/// twice. 56 bytes are enough for every sheet.
+/// Any sheet, any list (as `check` takes it), any number and any buffer are answered. Bytes after
+/// the last track stay as they are, and a refusal changes none. The tracks are those of active
+/// objects by rising index, children in list order, tracks in list order; one that two active
+/// objects list is there twice. 56 bytes are enough for every sheet.
 ///
 /// ```
 /// use host::{start_listing, Refusal};
 ///
 /// let sheet = include_bytes!("../../../../examples/play.sheet");
+/// let langs = include_bytes!("../../../../examples/langs");
 /// let mut buffer = [0xff; 56];
 /// // programme 1 of the play: the bed's two tracks, the German narrator, the rain
-/// assert_eq!(start_listing(sheet, 1, &mut buffer), Ok(4));
+/// assert_eq!(start_listing(sheet, langs, 1, &mut buffer), Ok(4));
 /// assert_eq!(buffer[..8], [0, 0, 0, 1, 0, 3, 0, 5]);
 /// assert_eq!(buffer[8..], [0xff; 48]);
 ///
-/// assert_eq!(start_listing(sheet, 2, &mut buffer), Err(Refusal::NoSuchProgramme));
-/// assert_eq!(start_listing(sheet, 1, &mut buffer[..7]), Err(Refusal::BufferTooSmall));
-/// assert_eq!(start_listing(&[], 0, &mut buffer), Err(Refusal::SheetNotAccepted));
+/// assert_eq!(start_listing(sheet, langs, 2, &mut buffer), Err(Refusal::NoSuchProgramme));
+/// assert_eq!(start_listing(sheet, langs, 1, &mut buffer[..7]), Err(Refusal::BufferTooSmall));
+/// assert_eq!(start_listing(&[], langs, 0, &mut buffer), Err(Refusal::SheetNotAccepted));
+/// assert_eq!(start_listing(sheet, &[], 1, &mut buffer), Err(Refusal::SheetNotAccepted));
 /// ```
 ///
 /// # Panics
 ///
 /// If the linked archive gives a number that is neither a refusal nor a number of tracks that
 /// the buffer holds, so isn't the proved one.
-pub fn start_listing(sheet: &[u8], programme: u32, buffer: &mut [u8]) -> Result<usize, Refusal> {
+pub fn start_listing(
+    sheet: &[u8],
+    langs: &[u8],
+    programme: u32,
+    buffer: &mut [u8],
+) -> Result<usize, Refusal> {
     let bytes = buffer.len();
-    // SAFETY: the call reads the bytes of the sheet and writes bytes of the buffer, which don't
-    // overlap as one is borrowed mutably; it follows each pointer only below its length and
-    // keeps nothing.
+    // SAFETY: the call reads the bytes of sheet and list and writes bytes of the buffer, which
+    // neither overlaps as it is borrowed mutably; it follows each pointer only below its length
+    // and keeps nothing.
     let answer = unsafe {
-        sheet_start_listing(sheet.as_ptr(), sheet.len(), programme, buffer.as_mut_ptr(), bytes)
+        sheet_start_listing(
+            sheet.as_ptr(),
+            sheet.len(),
+            langs.as_ptr(),
+            langs.len(),
+            programme,
+            buffer.as_mut_ptr(),
+            bytes,
+        )
     };
     listing::of_answer(answer, bytes)
         .unwrap_or_else(|| panic!("sheet_start_listing gave {answer} for {bytes} bytes, no answer"))

@@ -8,7 +8,7 @@ pub enum Verdict {
     Accepted,
     /// The first broken rule, and the least place that breaks it.
     Broken {
-        /// The rule, 1 to 24.
+        /// The rule, 1 to 24 or 33.
         rule: u8,
         /// The section of the place, 1 to 7, or 0 for the header.
         section: u8,
@@ -23,11 +23,15 @@ impl Verdict {
         if code == 0 {
             return Some(Verdict::Accepted);
         }
-        let rule = u8::try_from(code / 1_000_000).ok().filter(|rule| (1..=24).contains(rule))?;
+        let rule = u8::try_from(code / 1_000_000).ok().filter(is_rule)?;
         let section = u8::try_from(code / 100_000 % 10).ok().filter(|section| *section <= 7)?;
         let record = u16::try_from(code % 100_000).ok()?;
         Some(Verdict::Broken { rule, section, record })
     }
+}
+
+fn is_rule(number: &u8) -> bool {
+    matches!(number, 1..=24 | 33)
 }
 
 #[cfg(test)]
@@ -45,12 +49,13 @@ mod tests {
         assert_eq!(Verdict::of_code(14_300_000), broken(14, 3, 0));
         assert_eq!(Verdict::of_code(6_765_535), broken(6, 7, 65_535));
         assert_eq!(Verdict::of_code(24_000_000), broken(24, 0, 0));
+        assert_eq!(Verdict::of_code(33_000_000), broken(33, 0, 0));
     }
 
     #[test]
     fn other_codes_are_refused() {
         let rule_0 = [1, 100_000, 999_999];
-        let rule_25 = [25_000_000, u32::MAX];
+        let rule_25 = [25_000_000, 32_000_000, 34_000_000, u32::MAX];
         let section_8 = [14_800_000, 14_900_000];
         let no_word = [14_365_536, 14_399_999];
         for code in [&rule_0[..], &rule_25, &section_8, &no_word].concat() {

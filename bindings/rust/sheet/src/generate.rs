@@ -18,6 +18,8 @@ pub mod figures;
 pub mod honest;
 /// Sheets of unusual length, and largest sheets made to be slow to check.
 pub mod hostile;
+/// Lists of language words, and sheets on which they tell.
+pub mod languages;
 /// Random numbers from a seed.
 pub mod random;
 /// Random scripts of listener calls.
@@ -29,18 +31,23 @@ pub mod stored_figures;
 /// The scripts of listener calls that are kept as files.
 pub mod stored_scripts;
 
-use self::clauses::Clause;
+use self::clauses::{Clause, Lent};
+use self::languages::lend::lend;
+use self::languages::lists;
 use self::random::Random;
 use crate::build::word;
 use crate::second::Verdict;
 
-/// A sheet, and its verdict where it is known by construction.
+/// A sheet, the list of language words that is lent beside it, and its verdict where it is known
+/// by construction.
 #[derive(Clone)]
 pub struct Generated {
     /// How it came about.
     pub name: String,
     /// Its bytes.
     pub sheet: Vec<u8>,
+    /// The bytes of the list.
+    pub langs: Vec<u8>,
     /// Its verdict.
     pub expected: Option<Verdict>,
 }
@@ -51,14 +58,12 @@ pub fn fixed_sheets() -> Vec<Generated> {
     let of_clause = |clause: Clause| {
         let name = clause.name();
         let expected = Some(clause.verdict());
-        [
-            Generated {
-                name: format!("{name} (neighbour)"),
-                sheet: clause.neighbour,
-                expected: Some(Verdict::Accepted),
-            },
-            Generated { name, sheet: clause.broken, expected },
-        ]
+        let Lent { sheet, langs } = clause.neighbour;
+        let neighbour = format!("{name} (neighbour)");
+        let accepted = Some(Verdict::Accepted);
+        let neighbour = Generated { name: neighbour, sheet, langs, expected: accepted };
+        let Lent { sheet, langs } = clause.broken;
+        [neighbour, Generated { name, sheet, langs, expected }]
     };
     let mut sheets: Vec<Generated> = clauses::all().into_iter().flat_map(of_clause).collect();
     sheets.extend(allowed::sheets());
@@ -83,12 +88,10 @@ impl RandomSheets {
     /// A random accepted sheet of any level.
     pub fn accepted(&mut self) -> Generated {
         let level = word(self.random.below(3));
-        let plan = accepted::plan(&mut self.random, level);
-        Generated {
-            name: format!("accepted at level {level}"),
-            sheet: plan.bytes(),
-            expected: Some(Verdict::Accepted),
-        }
+        let sheet = accepted::plan(&mut self.random, level).bytes();
+        let langs = lists::of(lists::held(&sheet));
+        let name = format!("accepted at level {level}");
+        Generated { name, sheet, langs, expected: Some(Verdict::Accepted) }
     }
 
     /// A clause beside a random accepted sheet or beside another clause.
@@ -106,6 +109,13 @@ impl RandomSheets {
         }
     }
 
+    /// The sheet with a list at random.
+    fn with_other_list(&mut self, generated: Generated) -> Generated {
+        let Generated { name, sheet, expected, .. } = generated;
+        let (langs, expected) = lend(&mut self.random, &sheet, expected);
+        Generated { name: format!("{name}, with another list"), sheet, langs, expected }
+    }
+
     /// A sheet that may break a limit, a damaged accepted sheet, or random records.
     pub fn damaged(&mut self) -> Generated {
         let level = word(self.random.below(3));
@@ -116,19 +126,25 @@ impl RandomSheets {
             2..=5 => damage::damaged(accepted::plan(random, level), random),
             _ => damage::damaged(accepted::small_plan(random, level), random),
         };
-        Generated { name: format!("damaged at level {level}"), sheet, expected: None }
+        let langs = lists::of(lists::held(&sheet));
+        Generated { name: format!("damaged at level {level}"), sheet, langs, expected: None }
     }
 }
 
-/// One sheet in eight is accepted, two are broken in a clause, the rest are damaged.
+/// One sheet in eight is accepted, two are broken in a clause, the rest are damaged. Three in four
+/// are lent a list of their languages, one a list at random.
 impl Iterator for RandomSheets {
     type Item = Generated;
 
     fn next(&mut self) -> Option<Generated> {
-        Some(match self.random.below(8) {
+        let generated = match self.random.below(8) {
             0 => self.accepted(),
             1..=2 => self.broken(),
             _ => self.damaged(),
+        };
+        Some(match self.random.chance(75) {
+            true => generated,
+            false => self.with_other_list(generated),
         })
     }
 }

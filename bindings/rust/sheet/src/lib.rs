@@ -1,7 +1,8 @@
 //! The emission sheet: a second checker and listener, and sheets to try checkers on.
 //!
 //! Written from document 01 (`01-scope.md`) and its readings (`READINGS.md`) alone, the figures
-//! from L1 of document 02 (`02-change-requests.md`) and its readings (`REQUESTS.md`) besides.
+//! and the language words from L1 and L2 of document 02 (`02-change-requests.md`) and their
+//! readings (`REQUESTS.md`) besides.
 
 /// The second checker and the second listener.
 pub mod second;

@@ -47,3 +47,7 @@ mod figures;
 /// The sheets kept as files for the figures.
 #[path = "second/stored_figures.rs"]
 mod stored_figures;
+
+/// Lists of language words.
+#[path = "second/languages.rs"]
+mod languages;

@@ -1,5 +1,5 @@
 -- What is known of the records that a pass went through. Assumes nothing.
-use Rattle.std.specs.Prelude.{ℕ, ◌<◌, ◌≡◌, false, true}
+use Rattle.std.specs.Prelude.{ℕ, ◌<◌, ◌≡◌, false, true, List}
 use Rattle.sheet.specs.Words.{Sheet}
 use Rattle.profile.specs.Verdict.{breaks}
 use Rattle.grouping.specs.steps.Groups.{KeptTo}
@@ -9,5 +9,5 @@ abbrev pub KeptBelow : Sheet → ℕ → Type 0
 KeptBelow s k = KeptTo s true k
 
 -- the records of a section before k keep a rule
-abbrev pub Unbroken : Sheet → ℕ → ℕ → ℕ → Type 0
-Unbroken s rule section k = (j : ℕ) → j < k → breaks s rule section j ≡ false
+abbrev pub Unbroken : Sheet → List ℕ → ℕ → ℕ → ℕ → Type 0
+Unbroken s langs rule section k = (j : ℕ) → j < k → breaks s langs rule section j ≡ false

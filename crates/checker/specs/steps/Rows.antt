@@ -34,5 +34,5 @@ unfoldable pub subjectsOf : Sheet → ℕ → ℕ → ℕ
 subjectsOf s section kind = get_or (0 ∷ 1 ∷ count s section ∷ []) kind 0
 
 -- the verdict by one rule alone
-unfoldable pub ruleVerdict : Sheet → ℕ → Verdict
-ruleVerdict s rule = cond (ruleBroken s rule) (brokenAt s rule) Accepted
+unfoldable pub ruleVerdict : Sheet → List ℕ → ℕ → Verdict
+ruleVerdict s langs rule = cond (ruleBroken s langs rule) (brokenAt s langs rule) Accepted

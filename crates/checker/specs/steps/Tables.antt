@@ -3,27 +3,26 @@ use Rattle.std.specs.Prelude.{ℕ, cond, List, eqb}
 use Rattle.sheet.specs.Words.{Sheet}
 use Rattle.sheet.specs.Fields.{programmes, objects}
 use Rattle.tables.specs.steps.Right as tables
-use Rattle.runs.specs.declared.ReferenceTest.TheVariants.{Lacks, NoLanguage}
-use Rattle.runs.specs.steps.Runs.{NextRight, OrdinalRight, RepeatRight, StrayRight}
+use Rattle.runs.specs.steps.Runs.{LacksRight, LanguagesRight, OrdinalRight, RepeatRight, StrayRight}
 use Rattle.rules.specs.steps.Loops.{firstTarget, secondTarget}
 use Rattle.checker.specs.declared.Table.{Table}
 use Rattle.checker.specs.declared.Table.TheVariants.{Nothing, Named, Spanned, Listed, Tops, Complements, Owners, Leaders, Lacking, Languages, Repeats, Strays, Ordinals}
 
 -- the table is what it is to be
-abbrev pub Right : Sheet → Table → List ℕ → Type 0
-Right s Nothing t = Unit {0}
-Right s Named t = tables.Named s t
-Right s Spanned t = tables.Spanned s t
-Right s Listed t = tables.Listed s t
-Right s Tops t = tables.Tops s t
-Right s Complements t = tables.Complemented s t
-Right s Owners t = tables.Owners s t
-Right s Leaders t = tables.Leaders s t
-Right s (Lacking target) t = NextRight s (Lacks target) t
-Right s Languages t = NextRight s NoLanguage t
-Right s Repeats t = RepeatRight s t
-Right s Strays t = StrayRight s t
-Right s Ordinals t = OrdinalRight s t
+abbrev pub Right : Sheet → List ℕ → Table → List ℕ → Type 0
+Right s langs Nothing t = Unit {0}
+Right s langs Named t = tables.Named s t
+Right s langs Spanned t = tables.Spanned s t
+Right s langs Listed t = tables.Listed s t
+Right s langs Tops t = tables.Tops s t
+Right s langs Complements t = tables.Complemented s t
+Right s langs Owners t = tables.Owners s t
+Right s langs Leaders t = tables.Leaders s t
+Right s langs (Lacking target) t = LacksRight s target t
+Right s langs Languages t = LanguagesRight s langs t
+Right s langs Repeats t = RepeatRight s t
+Right s langs Strays t = StrayRight s t
+Right s langs Ordinals t = OrdinalRight s t
 
 -- the first table that a rule is lent for the records of a section
 unfoldable pub firstTable : ℕ → ℕ → Table

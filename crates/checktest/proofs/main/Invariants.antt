@@ -1,4 +1,4 @@
--- A turn for each argument: the measure is what is left of them. Assumes nothing.
+-- A turn for each pair of arguments: the measure is what is left of them. Assumes nothing.
 use Prim.Native.Nat.{◌-◌}
 use Rattle.checktest.proofs.main.Given as goal
 

@@ -1,6 +1,6 @@
 -- The line of the verdict, the lines of the figures behind it, and their room. Assumes nothing.
 use Rattle.std.proofs.Common.{◌≡◌, sym, map, take, arith}
-use Rattle.sheet.specs.Words.{sheetOf}
+use Rattle.sheet.specs.Words.{words, sheetOf}
 use Rattle.profile.specs.Verdict.{verdict}
 use Rattle.checker.specs.Checked.{checked}
 use Rattle.figures.specs.Figures.{figures}
@@ -19,10 +19,11 @@ pub returns : goal.returns
 unfolding figures checked figuresText
 returns c =
     let s = sheetOf c.args.sheet.now in
-    let given : take c.figures_by.result.count c.figures_by.result.lines ≡ figures s =
-    rw (c.figures_by.ensures, c.check-verdict.ensures) (given-list (figures s) (firstFigures noFigures (figures s)) (first-given (figures s) (figures-most s)))
+    let langs = words c.args.langs.now in
+    let given : take c.figures_by.result.count c.figures_by.result.lines ≡ figures s langs =
+    rw (c.figures_by.ensures, c.check-verdict.ensures) (given-list (figures s langs) (firstFigures noFigures (figures s langs)) (first-given (figures s langs) (figures-most s langs)))
     in
-    let line : putText (written c.args.text.now 0) (verdictLine (verdict s)) ≡ written c.put_verdict-n.new.line c.put_verdict-n.result =
+    let line : putText (written c.args.text.now 0) (verdictLine (verdict s langs)) ≡ written c.put_verdict-n.new.line c.put_verdict-n.result =
     rw (← c.check-verdict.ensures) (sym c.put_verdict-n.ensures)
     in
-    put-fills _ _ _ _ (rw (put-append (written c.args.text.now 0) (verdictLine (verdict s)) (join (map figureLine (figures s))), line, ← given) c.put_figures.ensures) (omega (arith, text-fits s (figures-most s)))
+    put-fills _ _ _ _ (rw (put-append (written c.args.text.now 0) (verdictLine (verdict s langs)) (join (map figureLine (figures s langs))), line, ← given) c.put_figures.ensures) (omega (arith, text-fits s langs (figures-most s langs)))

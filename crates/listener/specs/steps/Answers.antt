@@ -1,5 +1,5 @@
 -- The answers of the calls in the steps of the code: 25 and 26, then what else a call can meet. Assumes nothing.
-use Rattle.std.specs.Prelude.{ℕ, Bool, true, false, cond, not, leb}
+use Rattle.std.specs.Prelude.{ℕ, Bool, true, false, cond, not, List, leb}
 use Rattle.sheet.specs.Words.{Sheet}
 use Rattle.sheet.specs.Layout.{count}
 use Rattle.sheet.specs.Fields.{programmes}
@@ -13,8 +13,8 @@ use Rattle.listener.specs.Sound.{sound}
 use Rattle.listener.specs.Calls.{opens}
 
 -- the rest, where neither 25 nor 26 holds
-unfoldable pub whenSound : Sheet → State → Answer → Answer
-whenSound s st rest = cond (not (opens s)) (Refused NotAccepted) (cond (not (sound s st)) (Refused Unsound) rest)
+unfoldable pub whenSound : Sheet → List ℕ → State → Answer → Answer
+whenSound s langs st rest = cond (not (opens s langs)) (Refused NotAccepted) (cond (not (sound s st)) (Refused Unsound) rest)
 
 -- 27
 unfoldable pub numberAnswer : Sheet → ℕ → Answer

@@ -1,4 +1,4 @@
--- A turn for each pair of arguments. Assumes nothing.
+-- A turn for each triple of arguments. Assumes nothing.
 use Prim.Native.Nat.{◌-◌}
 use Rattle.listentest.proofs.main.Given as goal
 

@@ -1,10 +1,10 @@
 -- What the loops over a list test of its entries: the list is n entries of section 6, whose offset is `base`, from `first` on. Assumes
 -- nothing.
-use Rattle.std.specs.Prelude.{ℕ, ◌+◌, Bool, not, ◌||◌, eqb, leb}
+use Rattle.std.specs.Prelude.{ℕ, ◌+◌, Bool, not, ◌||◌, List, eqb, leb}
 use Rattle.sheet.specs.Words.{Sheet, word}
 use Rattle.sheet.specs.Layout.{count, field}
 use Rattle.sheet.specs.Fields.{tracks, trackPack, trackOrdinal}
-use Rattle.values.specs.Language.{language}
+use Rattle.profile.specs.Languages.{goodLanguage}
 use Rattle.profile.specs.Relations.{hasObjectsPack}
 
 -- the entry at a place
@@ -15,9 +15,9 @@ entryAt s base first i = word s (base + (first + i))
 unfoldable pub lackingAt : Sheet → ℕ → ℕ → ℕ → ℕ → Bool
 lackingAt s base first many i = leb many (entryAt s base first i)
 
--- it is no language
-unfoldable pub noLanguageAt : Sheet → ℕ → ℕ → ℕ → Bool
-noLanguageAt s base first i = not (language (entryAt s base first i))
+-- it is no good language
+unfoldable pub noLanguageAt : Sheet → List ℕ → ℕ → ℕ → ℕ → Bool
+noLanguageAt s langs base first i = not (goodLanguage langs (entryAt s base first i))
 
 -- two places have the same entry
 unfoldable pub sameAt : Sheet → ℕ → ℕ → ℕ → ℕ → Bool

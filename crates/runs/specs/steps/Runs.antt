@@ -1,10 +1,10 @@
 -- What stands in a table over the references. An empty table is right. Assumes nothing.
-use Rattle.std.specs.Prelude.{ℕ, ◌+◌, ◌<◌, ◌≤◌, ◌≡◌, Bool, true, not, ◌||◌, List, eqb, leb, ltb, length, get_or}
+use Rattle.std.specs.Prelude.{ℕ, ◌+◌, ◌<◌, ◌≤◌, ◌≡◌, Bool, true, not, ◌||◌, List, [], eqb, leb, ltb, length, get_or}
 use Rattle.sheet.specs.Words.{Sheet}
 use Rattle.sheet.specs.Layout.{count, field, first, number, reference}
 use Rattle.sheet.specs.Fields.{packs, tracks, references, packChannels, trackPack, trackOrdinal}
-use Rattle.values.specs.Language.{language}
 use Rattle.profile.specs.Counting.{any, howMany, twoOf}
+use Rattle.profile.specs.Languages.{goodLanguage}
 use Rattle.profile.specs.Rules.{lacks}
 use Rattle.runs.specs.declared.ReferenceTest.{ReferenceTest}
 use Rattle.runs.specs.declared.ReferenceTest.TheVariants.{Lacks, NoLanguage, Stray}
@@ -34,11 +34,11 @@ stray s e f =
     not (eqb (field s tracks e trackPack) (field s tracks f trackPack))
     || leb (field s packs (field s tracks f trackPack) packChannels) (field s tracks f trackOrdinal)
 
--- a reference passes the test
-abbrev pub referenceTest : Sheet → ReferenceTest → ℕ → Bool
-referenceTest s (Lacks section) y = lacks s section (reference s y)
-referenceTest s NoLanguage y = not (language (reference s y))
-referenceTest s Stray y = stray s (reference s y) (reference s (y + 1))
+-- a reference passes the test; only that for a language asks the lent list
+abbrev pub referenceTest : Sheet → List ℕ → ReferenceTest → ℕ → Bool
+referenceTest s langs (Lacks section) y = lacks s section (reference s y)
+referenceTest s langs NoLanguage y = not (goodLanguage langs (reference s y))
+referenceTest s langs Stray y = stray s (reference s y) (reference s (y + 1))
 
 -- what of it is compared
 abbrev pub referenceKey : Sheet → ReferenceKey → ℕ → ℕ
@@ -54,8 +54,8 @@ abbrev pub LookedUp : Sheet → List ℕ → ℕ → ℕ → ℕ → Lookup → 
 LookedUp s t section k at r = r.known ≡ true → (Q : ℕ → ℕ → Bool) → Tells Q s t → r.found ≡ Q (first s section k at) (number s section k at)
 
 -- the table has for each reference the next that passes the test
-abbrev pub NextRight : Sheet → ReferenceTest → List ℕ → Type 0
-NextRight s test t = (x : ℕ) → x < length t → x < count s references → Next (referenceTest s test) (count s references) x (get_or t x 0)
+abbrev pub NextRight : Sheet → List ℕ → ReferenceTest → List ℕ → Type 0
+NextRight s langs test t = (x : ℕ) → x < length t → x < count s references → Next (referenceTest s langs test) (count s references) x (get_or t x 0)
 
 -- the table has for each reference the next that repeats what is compared
 abbrev pub KeyRight : Sheet → ReferenceKey → List ℕ → Type 0
@@ -65,9 +65,17 @@ KeyRight s key t = (x : ℕ) → x < length t → x < count s references → Rep
 abbrev pub RepeatRight : Sheet → List ℕ → Type 0
 RepeatRight s t = KeyRight s Itself t
 
--- the next after which a track does not go on with the pack
+-- the next that names an index which a section lacks, whatever the list
+abbrev pub LacksRight : Sheet → ℕ → List ℕ → Type 0
+LacksRight s section t = NextRight s [] (Lacks section) t
+
+-- the next that is no good language
+abbrev pub LanguagesRight : Sheet → List ℕ → List ℕ → Type 0
+LanguagesRight s langs t = NextRight s langs NoLanguage t
+
+-- the next after which a track does not go on with the pack, whatever the list
 abbrev pub StrayRight : Sheet → List ℕ → Type 0
-StrayRight s t = NextRight s Stray t
+StrayRight s t = NextRight s [] Stray t
 
 -- the next whose track has an ordinal again
 abbrev pub OrdinalRight : Sheet → List ℕ → Type 0

@@ -29,9 +29,9 @@ headerBroken s =
     || rule7 s 5 0
 
 -- no record of sections 1 to 5 breaks a rule from 4 to 20; an object, also by a set of its. Rule 12 is that of contents
-pub record RecordsKept (s : Sheet) : Type 0 where
-  pub programmes-kept : any (programmeBroken s) (count s programmes) ≡ false
-  pub contents-kept : any (λ k. contentBroken s k || rule12 s contents k) (count s contents) ≡ false
+pub record RecordsKept (s : Sheet) (langs : List ℕ) : Type 0 where
+  pub programmes-kept : any (programmeBroken s langs) (count s programmes) ≡ false
+  pub contents-kept : any (λ k. contentBroken s langs k || rule12 s contents k) (count s contents) ≡ false
   pub objects-kept : any (objectBroken s) (count s objects) ≡ false
   pub packs-kept : any (λ k. badPack s k || rule10 s packs k) (count s packs) ≡ false
   pub tracks-kept : any (rule5 s tracks) (count s tracks) ≡ false
@@ -44,8 +44,8 @@ pub record RecordsTabled (s : Sheet) (named listed tops complements : List ℕ) 
   pub complements-right : Complemented s complements
 
 -- they do, each value set is in one span, and the whole sheet keeps rules 23 and 24
-pub record RecordsAndTotalsKept (s : Sheet) : Type 0 where
-  pub records : RecordsKept s
+pub record RecordsAndTotalsKept (s : Sheet) (langs : List ℕ) : Type 0 where
+  pub records : RecordsKept s langs
   pub set-once : (v : ℕ) → v < count s valueSets → rule11 s valueSets v ≡ false
   pub groups : rule23 s 0 0 ≡ false
   pub tracks : rule24 s 0 0 ≡ false

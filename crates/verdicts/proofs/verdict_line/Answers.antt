@@ -7,4 +7,4 @@ use Rattle.verdicts.proofs.verdict_line.Goals as goal
 
 pub returns : goal.returns
 returns c =
-    put-fills _ _ _ _ (rw c.check.ensures at c.put_verdict.ensures) (omega (arith, verdict-fits (checked c.args.sheet.now)))
+    put-fills _ _ _ _ (rw c.check.ensures at c.put_verdict.ensures) (omega (arith, verdict-fits (checked c.args.sheet.now c.args.langs.now)))

@@ -4,6 +4,7 @@ use std::io;
 use std::time::Duration;
 
 use sheet::build::LARGEST;
+use sheet::generate::languages::lists::REAL;
 use sheet::generate::{honest, hostile};
 
 use crate::timer::{least_times, quotient, shown, Times};
@@ -24,25 +25,29 @@ pub fn print_tables(text: &str) -> io::Result<()> {
     Ok(())
 }
 
+/// A sheet, and the list that is lent beside it.
+type Lent = (Vec<u8>, Vec<u8>);
+
 /// The families by name, each with its sheets by rising size.
-fn families() -> Vec<(String, Vec<Vec<u8>>)> {
-    let honest = SIZES.map(|words| honest::of_words(words).bytes()).to_vec();
+fn families() -> Vec<(String, Vec<Lent>)> {
+    let honest = SIZES.map(|words| (honest::of_words(words).bytes(), REAL.to_vec())).to_vec();
     let mut families = vec![("honest short episodes".to_string(), honest)];
     let hostile: Vec<_> = SIZES.into_iter().map(hostile::sheets_of).collect();
     for (number, family) in hostile[0].iter().enumerate() {
-        let sheets = hostile.iter().map(|sheets| sheets[number].sheet.clone()).collect();
-        families.push((family.name.clone(), sheets));
+        let of_family = hostile.iter().map(|sheets| &sheets[number]);
+        let sheets = of_family.map(|family| (family.sheet.clone(), family.langs.clone()));
+        families.push((family.name.clone(), sheets.collect()));
     }
     families
 }
 
 /// Once the proved checker is over the limit, it isn't tried on larger sheets of the family.
-fn print_growth(sheets: &[Vec<u8>]) -> io::Result<()> {
+fn print_growth(sheets: &[Lent]) -> io::Result<()> {
     let heads = ["bytes", "proved", "per byte", "fast", "per byte", "to fast"];
     print_row(heads.map(String::from));
     let mut with_proved = true;
-    for sheet in sheets {
-        let Times { proved, fast, .. } = least_times(sheet, TURNS, with_proved)?;
+    for (sheet, langs) in sheets {
+        let Times { proved, fast, .. } = least_times(sheet, langs, TURNS, with_proved)?;
         with_proved = proved.is_some();
         let per_byte = |time: Option<Duration>| shown_per_byte(time, sheet.len());
         print_row([

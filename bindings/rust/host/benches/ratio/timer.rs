@@ -16,7 +16,8 @@ pub const LIMIT: Duration = Duration::from_secs(20);
 const ROUND: Duration = Duration::from_millis(2);
 /// A checker's turn: rounds for so long, one at least, of which the least time counts.
 const TURN: Duration = Duration::from_millis(40);
-/// The first argument of the process that times one sheet, which it reads from standard input.
+/// The first argument of the process that times one sheet, which it reads from standard input, and
+/// the list after it.
 const TIME_ONE: &str = "--time-one";
 
 /// The least time of each checker, where it keeps to the limit.
@@ -41,9 +42,15 @@ pub fn quotient(proved: Option<Duration>, other: Option<Duration>) -> String {
     }
 }
 
-/// The times on a sheet, the least that each checker takes in its turns.
-pub fn least_times(sheet: &[u8], turns: Duration, with_proved: bool) -> io::Result<Times> {
-    let mut timer = start_timer(sheet, Request { turns, with_proved })?;
+/// The times on a sheet and its list, the least that each checker takes in its turns.
+pub fn least_times(
+    sheet: &[u8],
+    langs: &[u8],
+    turns: Duration,
+    with_proved: bool,
+) -> io::Result<Times> {
+    let request = Request { turns, with_proved, sheet_len: sheet.len() };
+    let mut timer = start_timer(&[sheet, langs].concat(), request)?;
     let said = times_said(&mut timer);
     let mut least: [Option<Duration>; 3] = [None; 3];
     loop {
@@ -66,30 +73,33 @@ pub fn least_times(sheet: &[u8], turns: Duration, with_proved: bool) -> io::Resu
     Ok(Times { proved, fast, plain })
 }
 
-/// What the timing process is asked: for how long to take turns, and whether with the proved
-/// checker.
+/// What the timing process is asked: for how long to take turns, whether with the proved checker,
+/// and how many bytes the sheet has.
 #[derive(Clone, Copy)]
 pub struct Request {
     turns: Duration,
     with_proved: bool,
+    sheet_len: usize,
 }
 
 /// What this process is asked, if it is one that times.
 pub fn request() -> Option<Request> {
     let mut arguments = env::args().skip_while(|argument| argument != TIME_ONE).skip(1);
     let turns = Duration::from_millis(arguments.next()?.parse().ok()?);
-    Some(Request { turns, with_proved: arguments.next()?.parse().ok()? })
+    let with_proved = arguments.next()?.parse().ok()?;
+    Some(Request { turns, with_proved, sheet_len: arguments.next()?.parse().ok()? })
 }
 
-fn start_timer(sheet: &[u8], request: Request) -> io::Result<Child> {
+fn start_timer(sheet_and_langs: &[u8], request: Request) -> io::Result<Child> {
     let mut timer = Command::new(env::current_exe()?)
         .arg(TIME_ONE)
         .arg(request.turns.as_millis().to_string())
         .arg(request.with_proved.to_string())
+        .arg(request.sheet_len.to_string())
         .stdin(Stdio::piped())
         .stdout(Stdio::piped())
         .spawn()?;
-    timer.stdin.take().expect("standard input is piped").write_all(sheet)?;
+    timer.stdin.take().expect("standard input is piped").write_all(sheet_and_langs)?;
     Ok(timer)
 }
 
@@ -115,42 +125,47 @@ fn read_time(line: &str) -> Option<(usize, Duration)> {
 pub fn time_one(request: Request) -> io::Result<()> {
     let mut sheet = Vec::new();
     io::stdin().read_to_end(&mut sheet)?;
-    let in_rust: [fn(&[u8]) -> Duration; 2] =
-        [|sheet| turn(sheet, fast::check), |sheet| turn(sheet, second::check)];
-    let proved: fn(&[u8]) -> Duration = |sheet| turn(sheet, host::check);
-    take_turns(&sheet, &in_rust, request.turns / 2);
+    let langs = sheet.split_off(request.sheet_len);
+    let lent = (&sheet[..], &langs[..]);
+    let in_rust: [fn(Lent) -> Duration; 2] =
+        [|lent| turn(lent, fast::check), |lent| turn(lent, second::check)];
+    let proved: fn(Lent) -> Duration = |lent| turn(lent, host::check);
+    take_turns(lent, &in_rust, request.turns / 2);
     if request.with_proved {
-        take_turns(&sheet, &[in_rust[0], in_rust[1], proved], request.turns);
+        take_turns(lent, &[in_rust[0], in_rust[1], proved], request.turns);
     }
     Ok(())
 }
 
-fn take_turns(sheet: &[u8], checkers: &[fn(&[u8]) -> Duration], turns: Duration) {
+/// A sheet and the list lent beside it.
+type Lent<'a> = (&'a [u8], &'a [u8]);
+
+fn take_turns(lent: Lent, checkers: &[fn(Lent) -> Duration], turns: Duration) {
     let start = Instant::now();
     while start.elapsed() < turns {
         for (number, time) in checkers.iter().enumerate() {
-            println!("{number} {}", time(sheet).as_nanos());
+            println!("{number} {}", time(lent).as_nanos());
         }
     }
 }
 
 /// The least time per sheet in one turn.
-fn turn<Verdict>(sheet: &[u8], check: fn(&[u8]) -> Verdict) -> Duration {
+fn turn<Verdict>(lent: Lent, check: fn(&[u8], &[u8]) -> Verdict) -> Duration {
     let start = Instant::now();
     let mut least = Duration::MAX;
     while least == Duration::MAX || start.elapsed() < TURN {
-        least = least.min(round(sheet, check));
+        least = least.min(round(lent, check));
     }
     least
 }
 
 /// The time per sheet in one round: twice as many calls each time, until they take long enough.
-fn round<Verdict>(sheet: &[u8], check: fn(&[u8]) -> Verdict) -> Duration {
+fn round<Verdict>((sheet, langs): Lent, check: fn(&[u8], &[u8]) -> Verdict) -> Duration {
     let mut calls = 1;
     loop {
         let start = Instant::now();
         for _ in 0..calls {
-            black_box(check(black_box(sheet)));
+            black_box(check(black_box(sheet), black_box(langs)));
         }
         let time = start.elapsed();
         if time >= ROUND {

@@ -2,7 +2,7 @@
 
 use std::env;
 use std::io::{self, Write};
-use std::path::PathBuf;
+use std::path::{self, Path, PathBuf};
 use std::process::{Command, Output, Stdio};
 use std::thread;
 
@@ -18,14 +18,17 @@ impl Program {
     /// The program, if it was built.
     pub fn find() -> Result<Program, String> {
         match env::var_os(VARIABLE) {
-            Some(file) => Ok(Program(PathBuf::from(file))),
+            // the program runs in another folder
+            Some(file) => path::absolute(file).map(Program).map_err(|error| error.to_string()),
             None => built::program("sheetfigures").map(Program),
         }
     }
 
-    /// What the program prints on a sheet, where it ends well and says nothing on standard error.
-    pub fn run(&self, sheet: &[u8]) -> Result<String, String> {
-        let said = self.output(sheet).map_err(|error| format!("{}: {error}", self.0.display()))?;
+    /// What the program prints on a sheet in a folder, where it ends well and says nothing on
+    /// standard error.
+    pub fn run(&self, folder: &Path, sheet: &[u8]) -> Result<String, String> {
+        let said =
+            self.output(folder, sheet).map_err(|error| format!("{}: {error}", self.0.display()))?;
         let [output, errors] = [said.stdout, said.stderr].map(|bytes| text(&bytes));
         match said.status.success() && errors.is_empty() {
             true => Ok(output),
@@ -33,8 +36,9 @@ impl Program {
         }
     }
 
-    fn output(&self, sheet: &[u8]) -> io::Result<Output> {
+    fn output(&self, folder: &Path, sheet: &[u8]) -> io::Result<Output> {
         let mut command = Command::new(&self.0);
+        command.current_dir(folder);
         command.stdin(Stdio::piped()).stdout(Stdio::piped()).stderr(Stdio::piped());
         let mut child = command.spawn()?;
         let mut input = child.stdin.take().expect("the standard input is a pipe");

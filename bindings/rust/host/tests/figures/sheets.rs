@@ -1,6 +1,8 @@
 //! The sheets on which figures are compared.
 
+use sheet::generate::clauses::common_list;
 use sheet::generate::figures::{ClashingSheets, TOLD_RULES};
+use sheet::generate::languages::LanguageSheets;
 use sheet::generate::{stored, stored_figures, Generated, RandomSheets};
 
 const SEEDS: [u64; 3] = [2168, 2076, 65_534];
@@ -12,6 +14,8 @@ const ACCEPTED: usize = 150;
 const BROKEN: usize = 250;
 /// Of each seed, how many sheets are damaged.
 const DAMAGED: usize = 250;
+/// Of each seed, how many sheets are made for their lists.
+const LANGUAGES: usize = 500;
 
 /// The stored sheets, then random ones from each seed, and inputs that are no sheet at all.
 pub fn all() -> Vec<Generated> {
@@ -27,6 +31,7 @@ pub fn all() -> Vec<Generated> {
         sheets.extend((0..ACCEPTED).map(|_| random.accepted()));
         sheets.extend((0..BROKEN).map(|_| random.broken()));
         sheets.extend((0..DAMAGED).map(|_| random.damaged()));
+        sheets.extend(LanguageSheets::new(seed).take(LANGUAGES));
     }
     sheets
 }
@@ -37,6 +42,7 @@ fn no_sheets() -> Vec<Generated> {
     let of_length = |length| Generated {
         name: format!("{length} zeros"),
         sheet: vec![0; length],
+        langs: common_list(),
         expected: None,
     };
     lengths.map(of_length).into()

@@ -4,10 +4,10 @@
 //! Answers, states and listings are compared line by line. Where a list starts from an opening and
 //! no state is handed in from elsewhere, demand 3 is tested after every call, on what the proved
 //! listener printed. The test prints how often each call met each answer. It fails at the first
-//! difference, whose sheet and script are kept as files, or if an answer that document 01 names
-//! was never met.
+//! difference, whose sheet, list and script are kept as files, or if an answer that document 01
+//! names was never met, or no call was refused under another list than its opening's.
 //!
-//! The host's listing of a programme's start is compared on the same sheets.
+//! The host's listing of a programme's start is compared on the same sheets, under several lists.
 
 #[path = "../shared/built.rs"]
 mod built;
@@ -58,7 +58,7 @@ fn compare_all() -> Result<bool, String> {
             for (script, proved) in batch.iter().zip(program::play(&batch)?) {
                 let kept = |difference| format!("{difference}\n    {}", keep(script));
                 counts.add(script, &compare(script, &proved).map_err(kept)?);
-                starts.compare_random(&script.sheet).map_err(kept)?;
+                starts.compare_random(&script.sheet, &script.langs).map_err(kept)?;
             }
         }
     }
@@ -100,12 +100,13 @@ fn check_demand(plan: &Plan, lines: &[Line], said: &[Said]) -> Result<(), String
     Ok(())
 }
 
-/// Keeps the sheet and the script as files; says where.
+/// Keeps the sheet, its list and the script as files; says where.
 fn keep(script: &Script) -> String {
     let folder = Path::new(env!("CARGO_TARGET_TMPDIR"));
-    let [sheet, text] =
-        ["sheet", "script"].map(|kind| folder.join("difference").with_extension(kind));
+    let [sheet, langs, text] =
+        ["sheet", "langs", "script"].map(|kind| folder.join("difference").with_extension(kind));
     fs::write(&sheet, &script.sheet).expect("the sheet can be written");
+    fs::write(&langs, &script.langs).expect("the list can be written");
     fs::write(&text, script.text()).expect("the script can be written");
-    format!("kept as {} and {}", sheet.display(), text.display())
+    format!("kept as {}, {} and {}", sheet.display(), langs.display(), text.display())
 }

@@ -18,10 +18,12 @@ pub fn play(scripts: &[Script]) -> Result<Vec<String>, String> {
 fn run(program: &Path, scripts: &[Script]) -> io::Result<String> {
     let folder = folder()?;
     for (number, script) in scripts.iter().enumerate() {
+        fs::write(folder.join(langs_name(number)), &script.langs)?;
         fs::write(folder.join(sheet_name(number)), &script.sheet)?;
         fs::write(folder.join(script_name(number)), script.text())?;
     }
-    let names = (0..scripts.len()).flat_map(|number| [sheet_name(number), script_name(number)]);
+    let names_of = |number| [langs_name(number), sheet_name(number), script_name(number)];
+    let names = (0..scripts.len()).flat_map(names_of);
     let output = Command::new(program).current_dir(&folder).args(names).output()?;
     match output.status.success() && output.stderr.is_empty() {
         true => Ok(String::from_utf8_lossy(&output.stdout).into_owned()),
@@ -37,6 +39,10 @@ fn folder() -> io::Result<PathBuf> {
     let folder = Path::new(env!("CARGO_TARGET_TMPDIR")).join("listening");
     fs::create_dir_all(&folder)?;
     Ok(folder)
+}
+
+fn langs_name(number: usize) -> String {
+    format!("{number}.langs")
 }
 
 fn sheet_name(number: usize) -> String {

@@ -1,11 +1,12 @@
 //! The host's listing of a programme's start, against the second listener: what it lists after
-//! opening the sheet and choosing the programme.
+//! opening the sheet and choosing the programme, all lent one list.
 
 use std::collections::BTreeMap;
 use std::fmt;
 
+use sheet::generate::languages::lend::lend;
 use sheet::generate::random::Random;
-use sheet::generate::stored_scripts::sheet_files;
+use sheet::generate::stored_scripts::{list_files, sheet_files};
 use sheet::second::listener::{Refusal, State};
 
 /// A byte that stands in a buffer before the call; no listing has such a high byte.
@@ -35,20 +36,35 @@ impl Starts {
     /// Compares all programmes of the stored sheets, and numbers beyond.
     pub fn compare_stored(&mut self) -> Result<(), String> {
         for (name, sheet) in sheet_files() {
-            let programmes = programmes(&sheet);
-            for programme in (0..=programmes).chain([65535, 65536, 65536 + programmes, u32::MAX]) {
-                let entries = entries_of_start(&sheet, programme);
-                for bytes in lengths(&entries) {
-                    let compared = self.compare(&sheet, programme, &entries, bytes);
-                    compared.map_err(|difference| format!("{name}: {difference}"))?;
-                }
+            for (list, langs) in list_files() {
+                let compared = self.compare_all_programmes(&sheet, &langs);
+                compared.map_err(|difference| format!("{name}, {list}: {difference}"))?;
             }
         }
         Ok(())
     }
 
+    fn compare_all_programmes(&mut self, sheet: &[u8], langs: &[u8]) -> Result<(), String> {
+        let programmes = programmes(sheet);
+        for programme in (0..=programmes).chain([65535, 65536, 65536 + programmes, u32::MAX]) {
+            let entries = entries_of_start(sheet, langs, programme);
+            for bytes in lengths(&entries) {
+                self.compare(sheet, langs, programme, &entries, bytes)?;
+            }
+        }
+        Ok(())
+    }
+
+    /// Compares a random start under the list and under one at random, in turn.
+    pub fn compare_random(&mut self, sheet: &[u8], langs: &[u8]) -> Result<(), String> {
+        self.compare_one(sheet, langs)?;
+        let (other, _) = lend(&mut self.random, sheet, None);
+        self.compare_one(sheet, &other)?;
+        self.compare_one(sheet, langs)
+    }
+
     /// Compares a random programme, or a number that the sheet lacks, on a random buffer.
-    pub fn compare_random(&mut self, sheet: &[u8]) -> Result<(), String> {
+    fn compare_one(&mut self, sheet: &[u8], langs: &[u8]) -> Result<(), String> {
         let programmes = programmes(sheet);
         let existing = self.random.below(programmes as usize) as u32;
         let any = self.random.bits() as u32;
@@ -57,19 +73,20 @@ impl Starts {
             true => existing,
             false => self.random.pick(&lacking),
         };
-        let entries = entries_of_start(sheet, programme);
+        let entries = entries_of_start(sheet, langs, programme);
         let bytes = self.random.pick(&lengths(&entries));
-        self.compare(sheet, programme, &entries, bytes)
+        self.compare(sheet, langs, programme, &entries, bytes)
     }
 
     fn compare(
         &mut self,
         sheet: &[u8],
+        langs: &[u8],
         programme: u32,
         entries: &Entries,
         bytes: usize,
     ) -> Result<(), String> {
-        let (proved, second) = (proved(sheet, programme, bytes), second(entries, bytes));
+        let (proved, second) = (proved(sheet, langs, programme, bytes), second(entries, bytes));
         *self.met.entry(second.0.err().unwrap_or(0)).or_default() += 1;
         match proved == second {
             true => Ok(()),
@@ -105,9 +122,9 @@ fn lengths(entries: &Entries) -> [usize; 7] {
     [0, enough - 2, enough - 1, enough, enough + 1, ENOUGH, ENOUGH + 3]
 }
 
-fn proved(sheet: &[u8], programme: u32, bytes: usize) -> Listing {
+fn proved(sheet: &[u8], langs: &[u8], programme: u32, bytes: usize) -> Listing {
     let mut buffer = vec![UNTOUCHED; bytes];
-    let answer = host::start_listing(sheet, programme, &mut buffer);
+    let answer = host::start_listing(sheet, langs, programme, &mut buffer);
     (answer.map_err(host::Refusal::number), buffer)
 }
 
@@ -122,12 +139,12 @@ fn second(entries: &Entries, bytes: usize) -> Listing {
 }
 
 /// What is listed once the sheet is opened and the programme chosen.
-fn entries_of_start(sheet: &[u8], programme: u32) -> Entries {
-    let (opened, answer) = State::open(sheet);
+fn entries_of_start(sheet: &[u8], langs: &[u8], programme: u32) -> Entries {
+    let (opened, answer) = State::open(sheet, langs);
     answer?;
-    let (started, answer) = opened.choose_programme(sheet, programme as usize);
+    let (started, answer) = opened.choose_programme(sheet, langs, programme as usize);
     answer?;
     let mut buffer = [0; ENOUGH / 2];
-    let entries = started.list(sheet, &mut buffer)?;
+    let entries = started.list(sheet, langs, &mut buffer)?;
     Ok(buffer[..entries].to_vec())
 }

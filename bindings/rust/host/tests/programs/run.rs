@@ -1,6 +1,7 @@
 //! Runs a program.
 
 use std::io::Read;
+use std::path::Path;
 use std::process::{Child, Command, ExitStatus, Stdio};
 use std::thread;
 use std::time::{Duration, Instant};
@@ -60,6 +61,13 @@ pub fn program(name: &str, arguments: &[&str]) -> Command {
     let mut command =
         Command::new(built::program(name).unwrap_or_else(|missing| panic!("{missing}")));
     command.args(arguments);
+    command
+}
+
+/// The same, run in a folder.
+pub fn program_in(folder: &Path, name: &str, arguments: &[&str]) -> Command {
+    let mut command = program(name, arguments);
+    command.current_dir(folder);
     command
 }
 

@@ -2,16 +2,21 @@
 
 use sheet::script::bench_answers;
 
+use crate::folder::Folder;
 use crate::input::{self, Input};
-use crate::run::{program, run};
+use crate::run::{program_in, run};
 use crate::stored::{self, Script};
 
 /// Plays scripts on `listen`, which must answer each as the second listener does.
 fn compare(way: &str, scripts: &[Script], input: impl Fn(&[u8]) -> Input<'_>) {
     let mut lines = 0;
+    let folder = Folder::new(&format!("listen {way}"));
     for Script { file, text, sheet } in scripts {
-        let run = run(program("listen", &[&sheet.file]), input(text.as_bytes()));
-        lines += run.must_say(&bench_answers(&sheet.bytes, text), &format!("{file}, {way}"));
+        folder.lend(&sheet.langs);
+        let listen = program_in(folder.path(), "listen", &[&sheet.file]);
+        let said = bench_answers(&sheet.bytes, &sheet.langs, text);
+        let run = run(listen, input(text.as_bytes()));
+        lines += run.must_say(&said, &format!("{file}, {way}"));
     }
     println!("listen, {way}: {} scripts, {lines} lines, no difference", scripts.len());
 }

@@ -6,12 +6,14 @@ use std::path::{Path, PathBuf};
 /// Where the test programs are, from this package's folder.
 const CRATES: &str = "../../../crates";
 
-/// A stored sheet.
+/// A stored sheet, and the list lent beside it.
 pub struct Sheet {
     /// Its file.
     pub file: String,
     /// Its bytes.
     pub bytes: Vec<u8>,
+    /// The bytes of the list.
+    pub langs: Vec<u8>,
 }
 
 /// A stored script.
@@ -26,30 +28,32 @@ pub struct Script {
 
 /// The stored sheets.
 pub fn sheets() -> Vec<Sheet> {
-    names("checktest").iter().map(|name| sheet("checktest", name)).collect()
+    let names = names("checktest");
+    names.chunks(2).map(|pair| sheet("checktest", &pair[0], &pair[1])).collect()
 }
 
 /// The stored scripts.
 pub fn scripts() -> Vec<Script> {
     let names = names("listentest");
-    names.chunks(2).map(|pair| script(&pair[0], &pair[1])).collect()
+    names.chunks(3).map(|triple| script(&triple[0], &triple[1], &triple[2])).collect()
 }
 
 /// Sheet A, which is accepted.
 pub fn sheet_a() -> Sheet {
-    sheet("listentest", "a.sheet")
+    sheet("listentest", "english.langs", "a.sheet")
 }
 
-fn script(sheet_name: &str, name: &str) -> Script {
+fn script(langs: &str, sheet_name: &str, name: &str) -> Script {
     let file = file("listentest", name);
     let text = fs::read_to_string(&file).expect("the script can be read");
-    Script { file, text, sheet: sheet("listentest", sheet_name) }
+    Script { file, text, sheet: sheet("listentest", langs, sheet_name) }
 }
 
-fn sheet(program: &str, name: &str) -> Sheet {
+fn sheet(program: &str, langs: &str, name: &str) -> Sheet {
+    let langs = fs::read(file(program, langs)).expect("the list can be read");
     let file = file(program, name);
     let bytes = fs::read(&file).expect("the sheet can be read");
-    Sheet { file, bytes }
+    Sheet { file, bytes, langs }
 }
 
 /// The arguments of a test program, which are names of its files.

@@ -1,10 +1,11 @@
-//! Writes the stored sheets into a folder, with the verdict lines in a file `expected`:
-//! one line for each sheet, in the order of the sorted file names.
+//! Writes the stored sheets into the folder of the program that checks them: the sheets and the
+//! lists lent beside them in `data`, their names, which are the program's arguments in pairs, in
+//! `args`, and the second checker's verdicts in `stdout`.
 
 use std::path::Path;
-use std::{env, fs, io, process};
+use std::{env, io, process};
 
-use sheet::generate::{stored, Generated};
+use sheet::generate::stored::{expected, sheets, write};
 
 fn main() -> io::Result<()> {
     let arguments: Vec<_> = env::args_os().skip(1).collect();
@@ -12,19 +13,6 @@ fn main() -> io::Result<()> {
         eprintln!("usage: stored FOLDER");
         process::exit(2);
     };
-    let sheets = stored::sheets();
-    write(Path::new(folder), &sheets)?;
-    println!("{} sheets", sheets.len());
-    Ok(())
-}
-
-fn write(folder: &Path, sheets: &[Generated]) -> io::Result<()> {
-    fs::create_dir_all(folder)?;
-    let mut lines = String::new();
-    for sheet in sheets {
-        fs::write(folder.join(&sheet.name), &sheet.sheet)?;
-        let verdict = sheet.expected.expect("every stored sheet has a verdict");
-        lines.push_str(&format!("{verdict}\n"));
-    }
-    fs::write(folder.join("expected"), lines)
+    let sheets = sheets();
+    write(Path::new(folder), &sheets, expected(&sheets))
 }

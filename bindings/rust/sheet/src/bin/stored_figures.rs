@@ -1,10 +1,11 @@
 //! Writes the stored sheets of which figures are told into the folder of the program that tells
-//! them: the sheets in `data`, their names, which are the program's arguments, in `args`, and
-//! what the second implementation tells in `stdout`.
+//! them: the sheets and the lists lent beside them in `data`, their names, which are the program's
+//! arguments in pairs, in `args`, and what the second implementation tells in `stdout`.
 
 use std::path::Path;
-use std::{env, fs, io, process};
+use std::{env, io, process};
 
+use sheet::generate::stored::write;
 use sheet::generate::stored_figures::{expected, sheets};
 
 fn main() -> io::Result<()> {
@@ -13,17 +14,6 @@ fn main() -> io::Result<()> {
         eprintln!("usage: stored_figures FOLDER");
         process::exit(2);
     };
-    write(Path::new(folder))
-}
-
-fn write(folder: &Path) -> io::Result<()> {
-    let data = folder.join("data");
-    fs::create_dir_all(&data)?;
-    let mut arguments = String::new();
-    for sheet in sheets() {
-        arguments += &format!("{}\n", sheet.name);
-        fs::write(data.join(&sheet.name), sheet.sheet)?;
-    }
-    fs::write(folder.join("args"), arguments)?;
-    fs::write(folder.join("stdout"), expected())
+    let sheets = sheets();
+    write(Path::new(folder), &sheets, expected(&sheets))
 }

@@ -1,4 +1,4 @@
-//! The second checker once more, written for speed: the same verdict on every sheet.
+//! The second checker once more, written for speed: the same verdict on every sheet and list.
 //!
 //! The sections are split once into slices of records. What the plain checker searches
 //! for again and again stands in tables, which are sized by the counts of the sheet and
@@ -7,6 +7,7 @@
 //! from tables over section 6 (`runs`) instead of by walking.
 
 mod groups;
+mod languages;
 mod limits;
 mod lists;
 mod names;
@@ -20,23 +21,25 @@ mod tracks;
 mod values;
 mod words;
 
+use self::languages::Languages;
 use self::sections::Sections;
 use self::tables::Tables;
 use crate::second::Verdict;
 
-/// The verdict on a sheet.
-pub fn check(bytes: &[u8]) -> Verdict {
-    match first_broken(bytes) {
+/// The verdict on a sheet, with the list of language words that is lent beside it.
+pub fn check(sheet: &[u8], langs: &[u8]) -> Verdict {
+    match first_broken(sheet, langs) {
         Ok(()) => Verdict::Accepted,
         Err(verdict) => verdict,
     }
 }
 
-fn first_broken(bytes: &[u8]) -> Result<(), Verdict> {
-    let sheet = Sections::split(bytes)?;
+fn first_broken(sheet: &[u8], langs: &[u8]) -> Result<(), Verdict> {
+    let languages = Languages::split(langs)?;
+    let sheet = Sections::split(sheet)?;
     let totals = lists::rule_4(&sheet)?;
     lists::rule_5(&sheet, &totals)?;
-    words::rule_6(&sheet, &totals)?;
+    words::rule_6(&sheet, &totals, languages)?;
     limits::rule_7(&sheet)?;
     limits::rule_8(&sheet)?;
     names::rule_9(&sheet)?;

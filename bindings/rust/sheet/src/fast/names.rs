@@ -1,6 +1,7 @@
 //! Rules 9, 11 and 12: what is named once, twice or not at all.
 
 use super::at;
+use super::languages::LANGUAGES;
 use super::lists::Totals;
 use super::runs::{cover, each_covered, next_repeats, reaches};
 use super::sections::{index, list, Sections};
@@ -12,8 +13,6 @@ use crate::second::Verdict;
 
 /// Label lists up to this length are judged by comparing pairs.
 const SHORT: usize = 8;
-/// More than the word of every language.
-const LANGUAGES: usize = 27 * 1024;
 
 pub fn rule_9(sheet: &Sections) -> Result<(), Verdict> {
     let mut repeats = None;

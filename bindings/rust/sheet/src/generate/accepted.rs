@@ -4,6 +4,7 @@ mod objects;
 mod programmes;
 mod values;
 
+use self::programmes::Codes;
 pub(super) use self::values::object_values;
 
 use super::random::Random;
@@ -134,9 +135,10 @@ fn within(random: &mut Random, level: u16, budget: Budget) -> Plan {
     let mut plan = Plan::new(level);
     objects::add_packs(random, &mut plan, &budget);
     let mut units = objects::add_units(random, &mut plan, &budget);
-    programmes::add_contents(random, &mut plan, &mut units, &budget);
+    let codes = Codes::random(random);
+    programmes::add_contents(random, &mut plan, &mut units, &budget, codes);
     programmes::add_sets(random, &mut plan, &units);
-    programmes::add_programmes(random, &mut plan, &units, &budget);
+    programmes::add_programmes(random, &mut plan, &units, &budget, codes);
     renumber_objects(random, &mut plan);
     add_unused(random, &mut plan, &budget);
     plan

@@ -4,19 +4,24 @@ use super::clauses::bases::{
     group, interactive, interactive_with_set, parent_and_children, set_with_gain, set_with_ranges,
     single_objects, OWN_1_WITHOUT_RANGES,
 };
+use super::clauses::common_list;
+use super::languages::lists::{self, of_codes};
+use super::languages::standings::local_a;
 use super::Generated;
-use crate::build::{Pack, Plan, Track, ValueSet, SILENCE};
+use crate::build::{language, Pack, Plan, Track, ValueSet, SILENCE};
 use crate::second::Verdict;
 
 /// All of them by name.
 pub fn sheets() -> Vec<Generated> {
     let plans = [unused_records(), shared_records(), values(), groups_and_programmes()];
-    let accepted = |(name, plan): (&str, Plan)| Generated {
+    let plans = plans.into_iter().flatten().map(|(name, plan)| (name, plan, common_list()));
+    let accepted = |(name, plan, langs): (&str, Plan, Vec<u8>)| Generated {
         name: name.to_string(),
         sheet: plan.bytes(),
+        langs,
         expected: Some(Verdict::Accepted),
     };
-    plans.into_iter().flatten().map(accepted).collect()
+    plans.chain(beside_lists()).map(accepted).collect()
 }
 
 /// Sheet A, changed.
@@ -106,5 +111,35 @@ fn groups_and_programmes() -> Vec<(&'static str, Plan)> {
         ("one member of a group", one_member),
         ("parent as leader of an object", parent_in_pair),
         ("set for a member included alone", single_set),
+    ]
+}
+
+/// Sheets beside lists of unusual length or words.
+fn beside_lists() -> Vec<(&'static str, Plan, Vec<u8>)> {
+    let a = Plan::sheet_a;
+    let eng = || of_codes(&["eng"]);
+    let mut in_two_languages = a();
+    in_two_languages.programmes[0].language = language("aar");
+    in_two_languages.contents[0].language = language("zza");
+    in_two_languages.programmes[0].labels = ["zza", "aar", "dut", "nld"].map(language).into();
+    let around = ["paz", "pzz", "qua", "raa"];
+    let mut around_the_range = a();
+    around_the_range.programmes[0].language = language("qua");
+    around_the_range.contents[0].language = language("paz");
+    around_the_range.programmes[0].labels = ["pzz", "raa", "qua"].map(language).into();
+    around_the_range.contents[0].labels = ["raa", "paz"].map(language).into();
+    vec![
+        ("paz pzz qua and raa listed", around_the_range, of_codes(&around)),
+        ("qaa and qtb beside an empty list", local_a(), Vec::new()),
+        ("qaa and qtb beside a list of a byte", local_a(), vec![0]),
+        ("qaa and qtb beside a list of other words", local_a(), eng()),
+        ("qaa and qtb listed too", local_a(), of_codes(&["qaa", "qtb"])),
+        ("list of one word", a(), eng()),
+        ("list of one word and an odd byte", a(), lists::with_odd_byte(eng(), 255)),
+        ("list with an odd byte lower than its last", a(), lists::with_odd_byte(eng(), 0)),
+        ("list with words above 32767", a(), lists::of([language("eng"), 32_767, 32_768, 65_535])),
+        ("list with words of no letters", a(), lists::of([0, 1, language("eng"), 5127, 27_483])),
+        ("list of all words and an odd byte", a(), lists::with_odd_byte(lists::all_words(), 0)),
+        ("first and last of the list of iso 639-2", in_two_languages, lists::REAL.to_vec()),
     ]
 }

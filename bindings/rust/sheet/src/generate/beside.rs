@@ -1,6 +1,7 @@
 //! Two plans as one sheet: what one breaks is broken in both, at a moved place.
 
-use super::clauses::Clause;
+use super::clauses::{common_list, Clause};
+use super::languages::lists;
 use super::random::Random;
 use super::{accepted, Generated};
 use crate::build::{word, Plan};
@@ -63,8 +64,9 @@ fn generated(name: String, [first, second]: [Part; 2], level: u16) -> Generated 
         section,
         record,
     });
-    let plan = Plan { level, ..beside(&first.plan, &second.plan) };
-    Generated { name, sheet: plan.bytes(), expected: Some(expected) }
+    let sheet = Plan { level, ..beside(&first.plan, &second.plan) }.bytes();
+    let words = lists::words(&common_list()).into_iter().chain(lists::held(&sheet));
+    Generated { name, langs: lists::of(words), sheet, expected: Some(expected) }
 }
 
 /// The number of records in each section but the header and 6, which are no places here.

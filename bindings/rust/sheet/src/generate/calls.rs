@@ -20,12 +20,14 @@ pub enum Call {
 
 impl Call {
     /// Makes the call on the second listener.
-    pub fn make(self, state: State, sheet: &[u8]) -> (State, Answer) {
+    pub fn make(self, state: State, sheet: &[u8], langs: &[u8]) -> (State, Answer) {
         match self {
-            Call::ChooseProgramme(programme) => state.choose_programme(sheet, programme.into()),
-            Call::ChooseObject(object) => state.choose_object(sheet, object.into()),
-            Call::SetGain(object, gain) => state.set_gain(sheet, object.into(), gain),
-            Call::SetOffset(object, offset) => state.set_offset(sheet, object.into(), offset),
+            Call::ChooseProgramme(number) => state.choose_programme(sheet, langs, number.into()),
+            Call::ChooseObject(object) => state.choose_object(sheet, langs, object.into()),
+            Call::SetGain(object, gain) => state.set_gain(sheet, langs, object.into(), gain),
+            Call::SetOffset(object, offset) => {
+                state.set_offset(sheet, langs, object.into(), offset)
+            }
         }
     }
 }

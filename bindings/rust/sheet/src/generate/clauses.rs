@@ -4,18 +4,29 @@
 pub(super) mod bases;
 mod groups;
 mod header;
+mod indices;
+mod langs;
 mod limits;
-mod lists;
 mod names;
 mod objects;
 mod sets;
 mod values;
 mod words;
 
+use super::languages::lists;
 use crate::build::{self, Plan};
 use crate::second::Verdict;
 
-/// A clause of a rule, broken by a small change to an accepted sheet.
+/// A sheet, and the list of language words that is lent beside it.
+#[derive(Clone, PartialEq, Eq, Hash)]
+pub struct Lent {
+    /// The bytes of the sheet.
+    pub sheet: Vec<u8>,
+    /// The bytes of the list.
+    pub langs: Vec<u8>,
+}
+
+/// A clause of a rule, broken by a small change to an accepted sheet or to the list lent beside it.
 pub struct Clause {
     /// The rule that the change breaks first.
     pub rule: u8,
@@ -23,12 +34,14 @@ pub struct Clause {
     pub what: String,
     /// Section and record of the place.
     pub place: (u8, u16),
-    /// The accepted sheet before the change.
-    pub neighbour: Vec<u8>,
-    /// The sheet after the change.
-    pub broken: Vec<u8>,
+    /// The accepted sheet and its list before the change.
+    pub neighbour: Lent,
+    /// Both after the change.
+    pub broken: Lent,
     /// The plan of the broken sheet, where the clause stays broken beside other records.
     pub combinable: Option<Plan>,
+    /// Whether both are kept as files.
+    pub is_stored: bool,
 }
 
 impl Clause {
@@ -49,7 +62,17 @@ impl Clause {
     ) -> Clause {
         let mut broken = neighbour.clone();
         breach(&mut broken);
-        Clause { rule, what: what.to_string(), place: (0, 0), neighbour, broken, combinable: None }
+        let [neighbour, broken] =
+            [neighbour, broken].map(|sheet| Lent { sheet, langs: common_list() });
+        Clause {
+            rule,
+            what: what.to_string(),
+            place: (0, 0),
+            neighbour,
+            broken,
+            combinable: None,
+            is_stored: true,
+        }
     }
 
     /// A change to words of the sheet.
@@ -87,11 +110,21 @@ impl Clause {
     }
 }
 
+/// The list lent beside every sheet whose clause isn't about languages: those of the sheets, and
+/// words of no letters that some of them have.
+pub fn common_list() -> Vec<u8> {
+    let codes = ["aaa", "deu", "eng", "fra", "nld", "zzz"].map(build::language);
+    let labels = codes[0]..codes[0] + 10;
+    let no_letters = [33, 1025, 1056, 5127, 27_483, 27_514, 28_506, 38_343, 65_535];
+    lists::of(codes.into_iter().chain(labels).chain(no_letters))
+}
+
 /// All clauses, by rising rule.
 pub fn all() -> Vec<Clause> {
     let mut clauses = [
         header::clauses(),
-        lists::clauses(),
+        indices::clauses(),
+        langs::clauses(),
         words::clauses(),
         limits::clauses(),
         names::clauses(),

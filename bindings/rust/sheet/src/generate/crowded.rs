@@ -1,6 +1,7 @@
 //! Small random sheets of level 0 in which many lists overlap, so that the lists have more
 //! entries together than section 6: what a checker with tables over section 6 is tried on.
 
+use super::languages::lend::lend;
 use super::random::Random;
 use super::Generated;
 use crate::build::{bytes, language, overwrite, position, word, Plan, ValueSet};
@@ -22,7 +23,9 @@ impl Iterator for CrowdedSheets {
     fn next(&mut self) -> Option<Generated> {
         let mut crowd = Crowd::new(&mut self.0);
         crowd.set_lists();
-        Some(Generated { name: "crowded".to_string(), sheet: bytes(&crowd.words), expected: None })
+        let sheet = bytes(&crowd.words);
+        let (langs, expected) = lend(&mut self.0, &sheet, None);
+        Some(Generated { name: "crowded".to_string(), sheet, langs, expected })
     }
 }
 

@@ -8,6 +8,7 @@ mod ranges;
 mod tracks;
 mod values;
 
+use super::languages::lists;
 use super::random::Random;
 use super::Generated;
 use crate::build::Plan;
@@ -32,9 +33,11 @@ impl ClashingSheets {
     pub fn refused_by(&mut self, wanted: u8) -> Generated {
         loop {
             let sheet = plan(&mut self.random, wanted).bytes();
-            let verdict = check(&sheet);
+            let langs = lists::of(lists::held(&sheet));
+            let verdict = check(&sheet, &langs);
             if matches!(verdict, Verdict::Broken { rule, .. } if rule == wanted) {
-                return Generated { name: format!("random {verdict}"), sheet, expected: None };
+                let name = format!("random {verdict}");
+                return Generated { name, sheet, langs, expected: None };
             }
         }
     }

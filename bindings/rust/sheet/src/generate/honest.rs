@@ -2,7 +2,7 @@
 //! and sheets of level 0 of any size.
 
 use super::clauses::bases::set_with_gain;
-use super::hostile::languages;
+use super::languages::lists;
 use super::Generated;
 use crate::build::{word, Plan, ValueSet, LARGEST};
 use crate::second::Verdict;
@@ -25,6 +25,7 @@ pub fn sheets() -> Vec<Generated> {
     let accepted = |name: &str, plan: Plan| Generated {
         name: format!("honest {name}"),
         sheet: plan.bytes(),
+        langs: lists::REAL.to_vec(),
         expected: Some(Verdict::Accepted),
     };
     vec![accepted("full sheet of level 2", full()), accepted("largest sheet of level 0", largest())]
@@ -41,6 +42,24 @@ pub fn full() -> Plan {
 /// As many full sheets as fit into one, and unused entries.
 pub fn largest() -> Plan {
     episodes(&FULL, LARGEST)
+}
+
+/// The plan with languages from qaa to qtz in the place of its own, which need no list.
+pub fn in_local_languages(mut plan: Plan) -> Plan {
+    let languages = lists::words(lists::REAL);
+    let local = |word: &mut u16| {
+        let number = languages.binary_search(word).expect("a language of the list");
+        *word = lists::QAA + 32 * (number as u16 / 26) + number as u16 % 26;
+    };
+    for programme in &mut plan.programmes {
+        local(&mut programme.language);
+        programme.labels.iter_mut().for_each(local);
+    }
+    for content in &mut plan.contents {
+        local(&mut content.language);
+        content.labels.iter_mut().for_each(local);
+    }
+    plan
 }
 
 /// A sheet of so many words: as many short episodes as fit, and unused entries.
@@ -62,7 +81,7 @@ fn episodes(episode: &Episode, words: usize) -> Plan {
 /// object its set n.
 fn add_episode(plan: &mut Plan, episode: &Episode) {
     let objects: Vec<u16> = (0..episode.pairs).flat_map(|_| add_pair(plan, episode)).collect();
-    let labels: Vec<u16> = languages().take(episode.labels).collect();
+    let labels = lists::words(lists::REAL)[..episode.labels].to_vec();
     let contents: Vec<u16> =
         objects.iter().map(|&object| add_content(plan, object, labels.clone())).collect();
     let spans = objects.iter().map(|&object| plan.objects[usize::from(object)].set_span.0);

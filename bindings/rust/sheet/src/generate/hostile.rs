@@ -1,16 +1,17 @@
 //! Sheets of unusual length, and large sheets of level 0 made to be slow to check: many
 //! records with lists over one long run of entries.
 
+mod languages;
 mod late;
 mod shared;
 mod shifted;
 
+use super::clauses::common_list;
+use super::languages::lists;
 use super::random::Random;
 use super::Generated;
 use crate::build::{bytes, overwrite, word, Plan, LARGEST};
 use crate::second::Verdict;
-
-pub(super) use self::shared::languages;
 
 /// All hostile sheets, as large as they get.
 pub fn sheets() -> Vec<Generated> {
@@ -23,6 +24,7 @@ pub fn sheets_of(words: usize) -> Vec<Generated> {
     let mut sheets = shared::sheets(size);
     sheets.extend(shifted::sheets(size));
     sheets.extend(late::sheets(size));
+    sheets.extend(languages::sheets(size));
     sheets
 }
 
@@ -53,13 +55,20 @@ fn broken(rule: u8, section: u8, record: usize) -> Verdict {
     Verdict::Broken { rule, section, record: word(record) }
 }
 
+/// A sheet in English, which the list of ISO 639-2 has.
 fn generated(name: &str, sheet: Vec<u8>, expected: Verdict) -> Generated {
-    Generated { name: format!("hostile {name}"), sheet, expected: Some(expected) }
+    let (name, langs) = (format!("hostile {name}"), lists::REAL.to_vec());
+    Generated { name, sheet, langs, expected: Some(expected) }
+}
+
+/// A sheet of any languages.
+fn of_languages(name: &str, sheet: Vec<u8>, expected: Verdict) -> Generated {
+    Generated { langs: lists::every(), ..generated(name, sheet, expected) }
 }
 
 /// The words of the plan, with new lists at a field of every record of a section. A list
 /// is given by its record as first and count in the run, which the unused entries are.
-fn with_lists(
+pub(super) fn with_lists(
     plan: &Plan,
     (section, field): (u8, usize),
     list: impl Fn(usize) -> (usize, usize),
@@ -70,7 +79,7 @@ fn with_lists(
 }
 
 /// The same in a sheet of which the last entries are the run.
-fn set_lists(
+pub(super) fn set_lists(
     words: &mut [u16],
     run: usize,
     (section, field): (u8, usize),
@@ -150,7 +159,13 @@ pub fn lengths() -> Vec<Generated> {
             let mut of_a = Plan::sheet_a().bytes();
             of_a.resize(length, 0);
             let of_any = (0..length).map(|_| random.word() as u8).collect();
-            [of_a, of_any].map(|sheet| Generated { name: name.clone(), sheet, expected })
+            let langs = common_list;
+            [of_a, of_any].map(|sheet| Generated {
+                name: name.clone(),
+                sheet,
+                langs: langs(),
+                expected,
+            })
         })
         .collect()
 }

@@ -2,6 +2,8 @@
 
 use super::accepted;
 use super::calls::{changed_state, random_call};
+use super::languages::lend::{lacking, lend, not_rising, with_others};
+use super::languages::lists::{self, held};
 use super::random::Random;
 use super::RandomSheets;
 use crate::build::{word, Plan};
@@ -12,8 +14,10 @@ use crate::second::listener::State;
 pub struct Script {
     /// The sheet.
     pub sheet: Vec<u8>,
-    /// The plan of the sheet if demand 3 is due: the sheet is accepted and of level 1 or 2, and
-    /// every state comes from an opening and calls.
+    /// The list of language words that the opening is lent.
+    pub langs: Vec<u8>,
+    /// The plan of the sheet if demand 3 is due: the sheet is accepted and of level 1 or 2, every
+    /// state comes from an opening and calls, and all are lent one list.
     pub due: Option<Plan>,
     /// The lines.
     pub lines: Vec<Line>,
@@ -45,7 +49,8 @@ impl RandomScripts {
     fn after_opening(&mut self) -> Script {
         let plan = random_plan(&mut self.random);
         let sheet = plan.bytes();
-        let mut writer = Writer::new(&mut self.random, &plan, &sheet);
+        let langs = with_others(&mut self.random, held(&sheet));
+        let mut writer = Writer::new(&mut self.random, &plan, &sheet, &langs);
         writer.state_and_listing();
         for _ in 0..writer.random.between(4, 10) {
             writer.opening_or_call();
@@ -53,20 +58,44 @@ impl RandomScripts {
         }
         writer.listing_into();
         let (lines, answers) = writer.written();
-        Script { due: Some(plan), sheet, lines, answers }
+        Script { due: Some(plan), sheet, langs, lines, answers }
     }
 
     /// Calls on states that came from elsewhere, sound or not.
     fn with_puts(&mut self) -> Script {
         let plan = random_plan(&mut self.random);
         let sheet = plan.bytes();
-        let mut writer = Writer::new(&mut self.random, &plan, &sheet);
+        let langs = with_others(&mut self.random, held(&sheet));
+        let mut writer = Writer::new(&mut self.random, &plan, &sheet, &langs);
         for _ in 0..writer.random.between(2, 4) {
-            writer.put_other_state(&sheet);
+            writer.put_other_state(&sheet, &langs);
             writer.calls_and_listings();
         }
         let (lines, answers) = writer.written();
-        Script { due: None, sheet, lines, answers }
+        Script { due: None, sheet, langs, lines, answers }
+    }
+
+    /// Calls that are lent other lists than the opening was: some hold the languages of the sheet,
+    /// others don't. At the end its own list is lent again.
+    fn with_lends(&mut self) -> Script {
+        let level = word(self.random.between(1, 2));
+        let plan = accepted::small_plan(&mut self.random, level);
+        let sheet = plan.bytes();
+        let langs = match self.random.chance(80) {
+            true => with_others(&mut self.random, held(&sheet)),
+            false => lend(&mut self.random, &sheet, None).0,
+        };
+        let mut writer = Writer::new(&mut self.random, &plan, &sheet, &langs);
+        for _ in 0..writer.random.between(1, 3) {
+            writer.calls_and_listings();
+            let other = other_list(writer.random, &sheet);
+            writer.write(Line::Lend(other));
+        }
+        writer.calls_and_listings();
+        writer.write(Line::Lend(held(&sheet)));
+        writer.calls_and_listings();
+        let (lines, answers) = writer.written();
+        Script { due: None, sheet, langs, lines, answers }
     }
 
     /// Calls on a sheet of level 0, or on one that may not be accepted; the numbers suit
@@ -78,23 +107,26 @@ impl RandomScripts {
             1 => self.sheets.broken().sheet,
             _ => self.sheets.damaged().sheet,
         };
-        let mut writer = Writer::new(&mut self.random, &plan, &sheet);
+        let (langs, _) = lend(&mut self.random, &sheet, None);
+        let mut writer = Writer::new(&mut self.random, &plan, &sheet, &langs);
         writer.calls_and_listings();
-        writer.put_other_state(&sheet);
+        writer.put_other_state(&sheet, &langs);
         writer.calls_and_listings();
         let (lines, answers) = writer.written();
-        Script { due: None, sheet, lines, answers }
+        Script { due: None, sheet, langs, lines, answers }
     }
 }
 
-/// Six scripts in ten are calls from an opening, three have puts, one is on another sheet.
+/// Five scripts in ten are calls from an opening, two have puts, two lend other lists, one is on
+/// another sheet.
 impl Iterator for RandomScripts {
     type Item = Script;
 
     fn next(&mut self) -> Option<Script> {
         Some(match self.random.below(10) {
             0 => self.on_other_sheet(),
-            1..=3 => self.with_puts(),
+            1..=2 => self.with_puts(),
+            3..=4 => self.with_lends(),
             _ => self.after_opening(),
         })
     }
@@ -109,6 +141,22 @@ fn random_plan(random: &mut Random) -> Plan {
     }
 }
 
+/// Words to lend: the sheet's and others, not all of the sheet's, or some that don't rise.
+fn other_list(random: &mut Random, sheet: &[u8]) -> Vec<u16> {
+    let held = held(sheet);
+    let list = match random.below(8) {
+        0..=1 => with_others(random, held.clone()),
+        2..=4 => lacking(random, held.clone()),
+        5..=6 => not_rising(random, held.clone()),
+        _ => Vec::new(),
+    };
+    let words = lists::words(&list);
+    match Line::Lend(words.clone()).can_be_read() {
+        true => words,
+        false => held,
+    }
+}
+
 /// Writes a script line by line, along with the answers.
 struct Writer<'a> {
     random: &'a mut Random,
@@ -120,8 +168,8 @@ struct Writer<'a> {
 }
 
 impl<'a> Writer<'a> {
-    fn new(random: &'a mut Random, plan: &'a Plan, sheet: &'a [u8]) -> Writer<'a> {
-        let (player, opening) = Player::open(sheet);
+    fn new(random: &'a mut Random, plan: &'a Plan, sheet: &'a [u8], langs: &[u8]) -> Writer<'a> {
+        let (player, opening) = Player::open(sheet, langs);
         Writer { random, plan, player, lines: Vec::new(), answers: opening + "\n" }
     }
 
@@ -175,10 +223,10 @@ impl<'a> Writer<'a> {
     }
 
     /// Puts the state after some calls on the opened sheet, as it is or with some changes.
-    fn put_other_state(&mut self, sheet: &[u8]) {
-        let mut state = State::open(sheet).0;
+    fn put_other_state(&mut self, sheet: &[u8], langs: &[u8]) {
+        let mut state = State::open(sheet, langs).0;
         for _ in 0..self.random.below(5) {
-            state = random_call(self.random, self.plan).make(state, sheet).0;
+            state = random_call(self.random, self.plan).make(state, sheet, langs).0;
         }
         for _ in 0..self.random.pick(&[0, 1, 1, 2]) {
             state = changed_state(self.random, self.plan, state);

@@ -5,7 +5,7 @@ mod members;
 mod ranges;
 mod shares;
 
-use super::clauses::{self, Clause};
+use super::clauses::{self, common_list, Clause, Lent};
 use super::figures::TOLD_RULES;
 use super::stored::hyphenated;
 use super::{allowed, Generated};
@@ -32,21 +32,22 @@ pub fn sheets() -> Vec<Generated> {
 }
 
 /// What `sheetfigures` has to print on the sheets, each under its name.
-pub fn expected() -> String {
-    let expected = |sheet: Generated| format!("{}:\n{}", sheet.name, lines(&sheet.sheet));
-    sheets().into_iter().map(expected).collect()
+pub fn expected(sheets: &[Generated]) -> String {
+    let expected =
+        |sheet: &Generated| format!("{}:\n{}", sheet.name, lines(&sheet.sheet, &sheet.langs));
+    sheets.iter().map(expected).collect()
 }
 
 fn of_rule(rule: u8, (what, plan): Named) -> Generated {
-    Generated { name: format!("r{rule}-{what}.sheet"), sheet: plan.bytes(), expected: None }
+    let (name, sheet) = (format!("r{rule}-{what}.sheet"), plan.bytes());
+    Generated { name, sheet, langs: common_list(), expected: None }
 }
 
 fn of_clause(clause: Clause) -> Generated {
-    Generated {
-        name: format!("r{:02}-clause-{}.sheet", clause.rule, hyphenated(&clause.what)),
-        expected: Some(clause.verdict()),
-        sheet: clause.broken,
-    }
+    let name = format!("r{:02}-clause-{}.sheet", clause.rule, hyphenated(&clause.what));
+    let expected = Some(clause.verdict());
+    let Lent { sheet, langs } = clause.broken;
+    Generated { name, sheet, langs, expected }
 }
 
 fn told_clauses() -> Vec<Generated> {
@@ -58,7 +59,7 @@ fn told_clauses() -> Vec<Generated> {
 fn not_told() -> Vec<Generated> {
     let mut others = clauses::all();
     others.retain(|clause| !TOLD_RULES.contains(&clause.rule));
-    others.sort_by_key(|clause| (clause.rule, clause.broken.len()));
+    others.sort_by_key(|clause| (clause.rule, clause.broken.sheet.len()));
     others.dedup_by_key(|clause| clause.rule);
     let mut sheets: Vec<Generated> = others.into_iter().map(of_clause).collect();
     let mut accepted = allowed::sheets();

@@ -1,6 +1,7 @@
 //! The scripts of listener calls that are kept as files, and their sheets.
 
 mod groups;
+mod lends;
 mod listings;
 mod odd_lines;
 mod openings;
@@ -12,12 +13,16 @@ mod values;
 
 use std::fmt::Display;
 
+use super::languages::lists::{of_codes, REAL};
+use crate::build::bytes;
 use crate::script::answers;
 
-/// A script under its file name, and that of its sheet.
+/// A script under its file name, and those of its sheet and of the list that the opening is lent.
 pub struct StoredScript {
     /// The script's file name.
     pub name: String,
+    /// The list's file name.
+    pub langs: &'static str,
     /// The sheet's file name.
     pub sheet: String,
     /// The lines of the script.
@@ -28,6 +33,7 @@ pub struct StoredScript {
 pub fn scripts() -> Vec<StoredScript> {
     [
         openings::scripts(),
+        lends::scripts(),
         programmes::scripts(),
         groups::scripts(),
         values::scripts(),
@@ -46,15 +52,39 @@ pub fn sheet_files() -> Vec<(String, Vec<u8>)> {
     sheets.map(|(name, sheet)| (sheet_name(name), sheet)).collect()
 }
 
+/// The list of most scripts, which has the languages of all their sheets.
+const ISO_639_2: &str = "iso-639-2.langs";
+
+/// The lists under their file names.
+pub fn list_files() -> Vec<(&'static str, Vec<u8>)> {
+    let [eng, fra] = ["eng", "fra"].map(crate::build::language);
+    vec![
+        (ISO_639_2, REAL.to_vec()),
+        ("empty.langs", Vec::new()),
+        ("english.langs", of_codes(&["eng"])),
+        ("english-and-a-byte.langs", [of_codes(&["eng"]), vec![0]].concat()),
+        ("french.langs", of_codes(&["fra"])),
+        ("not-rising.langs", bytes(&[fra, eng])),
+        ("twice.langs", bytes(&[eng, eng])),
+    ]
+}
+
 /// What a listener has to print for all scripts in turn.
 pub fn expected() -> String {
-    let sheets = sheet_files();
+    let (sheets, lists) = (sheet_files(), list_files());
     let of_script = |script: StoredScript| {
         let sheet = sheets.iter().find(|(name, _)| *name == script.sheet);
-        let (_, sheet) = sheet.expect("every script has its sheet");
-        format!("script {}\n{}", script.name, answers(sheet, &script.text))
+        let list = lists.iter().find(|(name, _)| *name == script.langs);
+        let ((_, sheet), (_, langs)) = sheet.zip(list).expect("every script has its files");
+        format!("script {}\n{}", script.name, answers(sheet, langs, &script.text))
     };
     scripts().into_iter().map(of_script).collect()
+}
+
+/// The arguments of `listentest`: a line for each file of a triple, list, sheet and script.
+pub fn arguments() -> String {
+    let triple = |StoredScript { langs, sheet, name, .. }| format!("{langs}\n{sheet}\n{name}\n");
+    scripts().into_iter().map(triple).collect()
 }
 
 fn sheet_name(name: &str) -> String {
@@ -65,6 +95,7 @@ fn sheet_name(name: &str) -> String {
 fn script<T: AsRef<str>>(sheet: &str, name: &str, lines: &[T]) -> StoredScript {
     StoredScript {
         name: format!("{sheet}-{name}.script"),
+        langs: ISO_639_2,
         sheet: sheet_name(sheet),
         text: lines.iter().map(|line| format!("{}\n", line.as_ref())).collect(),
     }

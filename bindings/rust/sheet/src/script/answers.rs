@@ -12,6 +12,8 @@ pub enum Said {
     Refused(u8),
     /// The entries of a listing.
     Tracks(Vec<u16>),
+    /// So many language words are lent from here on.
+    Lent(usize),
     /// The whole state.
     State(Box<State>),
     /// The state is changed without a call.
@@ -39,6 +41,7 @@ fn read_answer(line: &str) -> Option<Said> {
     Some(match words[..] {
         ["done"] => Said::Done,
         ["put"] => Said::Put,
+        ["lent", words] => Said::Lent(number(words)?),
         ["?"] => Said::NotUnderstood,
         ["refused", refusal, ..] => Said::Refused(number(refusal)?),
         ["tracks", entries, "of", _, ":", ref words @ ..] => {

@@ -12,7 +12,7 @@ use crate::second::values::Gain;
 const LONGEST_LINE: usize = 256;
 
 /// A line of a script that has a meaning.
-#[derive(Clone, Copy, Debug, PartialEq, Eq)]
+#[derive(Clone, Debug, PartialEq, Eq)]
 pub enum Line {
     /// A call on the state.
     Call(Call),
@@ -22,6 +22,8 @@ pub enum Line {
     List,
     /// Lists into so many words.
     ListInto(usize),
+    /// Lends these language words from here on.
+    Lend(Vec<u16>),
     /// Shows the state.
     State,
     /// Changes the state's programme without a call.
@@ -46,6 +48,7 @@ impl Line {
             ["open"] => Line::Open,
             ["list"] => Line::List,
             ["list", words] => Line::ListInto(number(words).filter(|&n| n <= MOST_WORDS)?),
+            ["lend", ref words @ ..] => Line::Lend(language_words(words)?),
             ["state"] => Line::State,
             ["put", "programme", programme] => Line::PutProgramme(number(programme)?),
             ["put", "object", object, activity, gain, offset] => Line::PutObject(
@@ -54,6 +57,11 @@ impl Line {
             ),
             _ => return None,
         })
+    }
+
+    /// Whether the line, as a script has it, is read as itself.
+    pub fn can_be_read(&self) -> bool {
+        Line::read(&self.to_string()).as_ref() == Some(self)
     }
 
     /// Whether the bench `listen` knows the line; the others are for tests.
@@ -76,13 +84,13 @@ impl Line {
 /// The line as a script has it.
 impl fmt::Display for Line {
     fn fmt(&self, formatter: &mut fmt::Formatter) -> fmt::Result {
-        match *self {
+        match self {
             Line::Call(Call::ChooseProgramme(programme)) => {
                 write!(formatter, "programme {programme}")
             }
             Line::Call(Call::ChooseObject(object)) => write!(formatter, "object {object}"),
             Line::Call(Call::SetGain(object, gain)) => {
-                write!(formatter, "gain {object} {}", shown_gain(gain))
+                write!(formatter, "gain {object} {}", shown_gain(*gain))
             }
             Line::Call(Call::SetOffset(object, offset)) => {
                 write!(formatter, "offset {object} {offset}")
@@ -90,10 +98,14 @@ impl fmt::Display for Line {
             Line::Open => write!(formatter, "open"),
             Line::List => write!(formatter, "list"),
             Line::ListInto(words) => write!(formatter, "list {words}"),
+            Line::Lend(words) => {
+                write!(formatter, "lend")?;
+                words.iter().try_for_each(|word| write!(formatter, " {word}"))
+            }
             Line::State => write!(formatter, "state"),
             Line::PutProgramme(programme) => write!(formatter, "put programme {programme}"),
             Line::PutObject(object, ObjectState { active, gain, offset }) => {
-                let (activity, gain) = (shown_activity(active), shown_gain(gain));
+                let (activity, gain) = (shown_activity(*active), shown_gain(*gain));
                 write!(formatter, "put object {object} {activity} {gain} {offset}")
             }
         }
@@ -104,6 +116,12 @@ impl fmt::Display for Line {
 /// has negative numbers.
 pub(super) fn number<T: FromStr>(text: &str) -> Option<T> {
     text.parse().ok().filter(|_| !text.starts_with('+'))
+}
+
+/// The words of a list, if there aren't too many.
+fn language_words(words: &[&str]) -> Option<Vec<u16>> {
+    let few = Some(words).filter(|words| words.len() <= MOST_WORDS)?;
+    few.iter().map(|word| number(word)).collect()
 }
 
 /// A gain, or silence.

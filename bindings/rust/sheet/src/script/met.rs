@@ -25,7 +25,7 @@ pub struct Met([[usize; ANSWERS]; CALLS.len()]);
 
 impl Met {
     /// Adds what was said to a line. Lines that aren't calls aren't counted.
-    pub fn add(&mut self, line: Line, said: &Said) {
+    pub fn add(&mut self, line: &Line, said: &Said) {
         if let (Some(call), Some(answer)) = (place_of_call(line), place_of_answer(said)) {
             self.0[call][answer] += 1;
         }
@@ -67,7 +67,7 @@ fn refusal_at(answer: usize) -> u8 {
     24 + answer as u8
 }
 
-fn place_of_call(line: Line) -> Option<usize> {
+fn place_of_call(line: &Line) -> Option<usize> {
     match line {
         Line::Open => Some(0),
         Line::Call(Call::ChooseProgramme(_)) => Some(1),
@@ -75,7 +75,7 @@ fn place_of_call(line: Line) -> Option<usize> {
         Line::Call(Call::SetGain(..)) => Some(3),
         Line::Call(Call::SetOffset(..)) => Some(4),
         Line::List | Line::ListInto(_) => Some(5),
-        Line::State | Line::PutProgramme(_) | Line::PutObject(..) => None,
+        Line::Lend(_) | Line::State | Line::PutProgramme(_) | Line::PutObject(..) => None,
     }
 }
 
@@ -83,6 +83,6 @@ fn place_of_answer(said: &Said) -> Option<usize> {
     match said {
         Said::Done | Said::Tracks(_) => Some(0),
         Said::Refused(number) => Some(usize::from(*number) - 24),
-        Said::State(_) | Said::Put | Said::NotUnderstood => None,
+        Said::Lent(_) | Said::State(_) | Said::Put | Said::NotUnderstood => None,
     }
 }

@@ -2,22 +2,24 @@
 
 use super::line::{shown_activity, shown_gain};
 use super::{Line, UNTOUCHED};
+use crate::build::bytes;
 use crate::second::listener::{Answer, ObjectState, Refusal, State};
 
 /// As many words as any listing needs.
 const ENOUGH_WORDS: usize = 28;
 
-/// A listener in the middle of a script.
+/// A listener in the middle of a script, and what its next call is lent.
 pub struct Player<'a> {
     sheet: &'a [u8],
+    langs: Vec<u8>,
     state: State,
 }
 
 impl<'a> Player<'a> {
-    /// Opens the sheet; gives the player and the opening's answer.
-    pub fn open(sheet: &'a [u8]) -> (Player<'a>, String) {
-        let (state, answer) = State::open(sheet);
-        (Player { sheet, state }, shown_answer(answer))
+    /// Opens the sheet with this list; gives the player and the opening's answer.
+    pub fn open(sheet: &'a [u8], langs: &[u8]) -> (Player<'a>, String) {
+        let (state, answer) = State::open(sheet, langs);
+        (Player { sheet, langs: langs.to_vec(), state }, shown_answer(answer))
     }
 
     /// The state now.
@@ -27,26 +29,30 @@ impl<'a> Player<'a> {
 
     /// The answer to a line: one line of text, or several for a state.
     pub fn answer(&mut self, line: &Line) -> String {
-        match *line {
+        match line {
             Line::Call(call) => {
-                let (state, answer) = call.make(self.state.clone(), self.sheet);
+                let (state, answer) = call.make(self.state.clone(), self.sheet, &self.langs);
                 self.state = state;
                 shown_answer(answer)
             }
             Line::Open => {
-                let (player, answer) = Player::open(self.sheet);
-                *self = player;
-                answer
+                let (state, answer) = State::open(self.sheet, &self.langs);
+                self.state = state;
+                shown_answer(answer)
             }
             Line::List => self.listing(),
-            Line::ListInto(words) => self.listing_into(words),
+            Line::ListInto(words) => self.listing_into(*words),
+            Line::Lend(words) => {
+                self.langs = bytes(words);
+                format!("lent {}", words.len())
+            }
             Line::State => shown_state(&self.state),
             Line::PutProgramme(programme) => {
-                self.state.programme = programme.into();
+                self.state.programme = (*programme).into();
                 "put".to_string()
             }
             Line::PutObject(object, new) => {
-                self.state.objects[object] = new;
+                self.state.objects[*object] = *new;
                 "put".to_string()
             }
         }
@@ -54,7 +60,7 @@ impl<'a> Player<'a> {
 
     fn listing(&self) -> String {
         let mut buffer = [UNTOUCHED; ENOUGH_WORDS];
-        match self.state.list(self.sheet, &mut buffer) {
+        match self.state.list(self.sheet, &self.langs, &mut buffer) {
             Ok(entries) => format!("tracks{}", shown_words(&buffer[..entries])),
             Err(refusal) => shown_refusal(refusal),
         }
@@ -62,7 +68,7 @@ impl<'a> Player<'a> {
 
     fn listing_into(&self, words: usize) -> String {
         let mut buffer = vec![UNTOUCHED; words];
-        let answer = match self.state.list(self.sheet, &mut buffer) {
+        let answer = match self.state.list(self.sheet, &self.langs, &mut buffer) {
             Ok(entries) => format!("tracks {entries}"),
             Err(refusal) => shown_refusal(refusal),
         };
@@ -76,18 +82,23 @@ pub fn lines(script: &str) -> impl Iterator<Item = &str> {
 }
 
 /// All answers to a script, each with its line end: the opening's, then one for each line.
-pub fn answers(sheet: &[u8], script: &str) -> String {
-    answers_to(sheet, script, Line::read)
+pub fn answers(sheet: &[u8], langs: &[u8], script: &str) -> String {
+    answers_to(sheet, langs, script, Line::read)
 }
 
 /// All answers of the bench `listen`, to which the lines for tests have no meaning.
-pub fn bench_answers(sheet: &[u8], script: &str) -> String {
-    answers_to(sheet, script, |text| Line::read(text).filter(Line::is_of_bench))
+pub fn bench_answers(sheet: &[u8], langs: &[u8], script: &str) -> String {
+    answers_to(sheet, langs, script, |text| Line::read(text).filter(Line::is_of_bench))
 }
 
 /// All answers to a script whose lines are read so.
-fn answers_to(sheet: &[u8], script: &str, read: impl Fn(&str) -> Option<Line>) -> String {
-    let (mut player, opening) = Player::open(sheet);
+fn answers_to(
+    sheet: &[u8],
+    langs: &[u8],
+    script: &str,
+    read: impl Fn(&str) -> Option<Line>,
+) -> String {
+    let (mut player, opening) = Player::open(sheet, langs);
     let mut answers = opening + "\n";
     for text in lines(script) {
         let answer = read(text).map(|line| player.answer(&line));

@@ -103,15 +103,15 @@ fn out_of_bounds(record: &Record) -> Vec<Clash> {
 }
 
 /// The figures that are told of a sheet.
-pub fn figures(bytes: &[u8]) -> Vec<Figure> {
-    Clashes::at(Sheet::new(bytes), check(bytes)).figures()
+pub fn figures(sheet: &[u8], langs: &[u8]) -> Vec<Figure> {
+    Clashes::at(Sheet::new(sheet, langs), check(sheet, langs)).figures()
 }
 
 /// What `sheetfigures` prints: "after the verdict line, the figures with their records"; "for
 /// any other verdict it prints the verdict line only".
-pub fn lines(bytes: &[u8]) -> String {
-    let mut lines = format!("{}\n", check(bytes));
-    for figure in figures(bytes) {
+pub fn lines(sheet: &[u8], langs: &[u8]) -> String {
+    let mut lines = format!("{}\n", check(sheet, langs));
+    for figure in figures(sheet, langs) {
         lines += &format!("{figure}\n");
     }
     lines

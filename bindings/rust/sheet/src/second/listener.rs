@@ -1,7 +1,7 @@
 //! The second listener: the state that calls take and hand back, and its listing.
 //!
-//! Every call checks its sheet anew; what comes after relies on an accepted sheet of
-//! level 1 or 2 only.
+//! Every call checks its sheet anew, with the language words lent to that call; what comes after
+//! relies on an accepted sheet of level 1 or 2 only.
 
 use std::iter;
 
@@ -77,14 +77,14 @@ impl State {
     pub const AT_REST: State = State { programme: 0, objects: [ObjectState::AT_REST; OBJECTS] };
 
     /// Opens a sheet: "opening chooses 0". Meets 25 only.
-    pub fn open(sheet: &[u8]) -> (State, Answer) {
-        let started = accepted_sheet(sheet).map(|sheet| Chosen::new(sheet, 0).start());
+    pub fn open(sheet: &[u8], langs: &[u8]) -> (State, Answer) {
+        let started = accepted_sheet(sheet, langs).map(|sheet| Chosen::new(sheet, 0).start());
         State::AT_REST.answer(started)
     }
 
     /// Chooses a programme, which starts it. Meets 25 to 27.
-    pub fn choose_programme(self, sheet: &[u8], programme: usize) -> (State, Answer) {
-        let started = self.chosen(sheet).and_then(|chosen| {
+    pub fn choose_programme(self, sheet: &[u8], langs: &[u8], programme: usize) -> (State, Answer) {
+        let started = self.chosen(sheet, langs).and_then(|chosen| {
             let exists = programme < chosen.sheet.count(PROGRAMME);
             refuse_unless(exists, Refusal::NoSuchProgramme)?;
             Ok(Chosen::new(chosen.sheet, programme).start())
@@ -94,8 +94,8 @@ impl State {
 
     /// "Choosing an object makes it active and the rest of its group inactive." Meets 25,
     /// 26, 28 and 29.
-    pub fn choose_object(self, sheet: &[u8], object: usize) -> (State, Answer) {
-        let changed = self.chosen(sheet).and_then(|chosen| {
+    pub fn choose_object(self, sheet: &[u8], langs: &[u8], object: usize) -> (State, Answer) {
+        let changed = self.chosen(sheet, langs).and_then(|chosen| {
             refuse_unless(chosen.includes(object), Refusal::ObjectNotIncluded)?;
             let group = chosen.group_of(object).ok_or(Refusal::NotInWhollyIncludedGroup)?;
             let mut state = self.clone();
@@ -108,8 +108,14 @@ impl State {
     }
 
     /// Stores a gain in an object, active or not. Meets 25, 26, 28, 30 and 31.
-    pub fn set_gain(self, sheet: &[u8], object: usize, gain: Gain) -> (State, Answer) {
-        let changed = self.with_object(sheet, object, |granted, object| {
+    pub fn set_gain(
+        self,
+        sheet: &[u8],
+        langs: &[u8],
+        object: usize,
+        gain: Gain,
+    ) -> (State, Answer) {
+        let changed = self.with_object(sheet, langs, object, |granted, object| {
             let range = granted.gain_range.ok_or(Refusal::NoRange)?;
             refuse_unless(is_allowed_gain(gain, &range), Refusal::ValueOutsideRange)?;
             object.gain = gain;
@@ -119,8 +125,14 @@ impl State {
     }
 
     /// Stores an offset in an object, active or not. Meets 25, 26, 28, 30 and 31.
-    pub fn set_offset(self, sheet: &[u8], object: usize, offset: i16) -> (State, Answer) {
-        let changed = self.with_object(sheet, object, |granted, object| {
+    pub fn set_offset(
+        self,
+        sheet: &[u8],
+        langs: &[u8],
+        object: usize,
+        offset: i16,
+    ) -> (State, Answer) {
+        let changed = self.with_object(sheet, langs, object, |granted, object| {
             let range = granted.offset_range.ok_or(Refusal::NoRange)?;
             refuse_unless(is_allowed_offset(offset, &range), Refusal::ValueOutsideRange)?;
             object.offset = offset;
@@ -133,10 +145,11 @@ impl State {
     fn with_object(
         &self,
         sheet: &[u8],
+        langs: &[u8],
         object: usize,
         change: impl FnOnce(Effective, &mut ObjectState) -> Answer,
     ) -> Result<State, Refusal> {
-        let chosen = self.chosen(sheet)?;
+        let chosen = self.chosen(sheet, langs)?;
         refuse_unless(chosen.includes(object), Refusal::ObjectNotIncluded)?;
         let mut state = self.clone();
         change(chosen.effective(object), &mut state.objects[object])?;
@@ -145,8 +158,8 @@ impl State {
 
     /// Writes the listing and gives the number of entries. Meets 25, 26 and 32; a refused
     /// listing writes nothing.
-    pub fn list(&self, sheet: &[u8], buffer: &mut [u16]) -> Result<usize, Refusal> {
-        let chosen = self.chosen(sheet)?;
+    pub fn list(&self, sheet: &[u8], langs: &[u8], buffer: &mut [u16]) -> Result<usize, Refusal> {
+        let chosen = self.chosen(sheet, langs)?;
         let entries = self.entries(chosen.sheet);
         let space = buffer.get_mut(..entries.len()).ok_or(Refusal::BufferTooSmall)?;
         space.copy_from_slice(&entries);
@@ -154,8 +167,8 @@ impl State {
     }
 
     /// Whether the state is sound for an accepted sheet of level 1 or 2.
-    pub fn is_sound(&self, sheet: &[u8]) -> bool {
-        self.chosen(sheet).is_ok()
+    pub fn is_sound(&self, sheet: &[u8], langs: &[u8]) -> bool {
+        self.chosen(sheet, langs).is_ok()
     }
 
     /// The state handed back: the new one, or this one where the call is refused.
@@ -167,8 +180,8 @@ impl State {
     }
 
     /// The chosen programme, after the checks 25 and 26.
-    fn chosen<'a>(&self, sheet: &'a [u8]) -> Result<Chosen<'a>, Refusal> {
-        let sheet = accepted_sheet(sheet)?;
+    fn chosen<'a>(&self, sheet: &'a [u8], langs: &'a [u8]) -> Result<Chosen<'a>, Refusal> {
+        let sheet = accepted_sheet(sheet, langs)?;
         refuse_unless(self.programme < sheet.count(PROGRAMME), Refusal::StateNotSound)?;
         let chosen = Chosen::new(sheet, self.programme);
         refuse_unless(chosen.makes_sound(self), Refusal::StateNotSound)?;
@@ -191,15 +204,20 @@ impl State {
 /// The listing of a programme's start, for host players: "takes sheet, programme number
 /// and buffer, refuses by 25, 27, 32, and writes each track as two bytes, high first. It
 /// gives the number of entries, or the refusal's number negated."
-pub fn start_listing(sheet: &[u8], programme: usize, buffer: &mut [u8]) -> i32 {
-    match listed_start(sheet, programme, buffer) {
+pub fn start_listing(sheet: &[u8], langs: &[u8], programme: usize, buffer: &mut [u8]) -> i32 {
+    match listed_start(sheet, langs, programme, buffer) {
         Ok(entries) => entries as i32,
         Err(refusal) => -i32::from(refusal.number()),
     }
 }
 
-fn listed_start(sheet: &[u8], programme: usize, buffer: &mut [u8]) -> Result<usize, Refusal> {
-    let sheet = accepted_sheet(sheet)?;
+fn listed_start(
+    sheet: &[u8],
+    langs: &[u8],
+    programme: usize,
+    buffer: &mut [u8],
+) -> Result<usize, Refusal> {
+    let sheet = accepted_sheet(sheet, langs)?;
     refuse_unless(programme < sheet.count(PROGRAMME), Refusal::NoSuchProgramme)?;
     let entries = Chosen::new(sheet, programme).start().entries(sheet);
     let bytes: Vec<u8> = entries.iter().flat_map(|track| track.to_be_bytes()).collect();
@@ -209,10 +227,11 @@ fn listed_start(sheet: &[u8], programme: usize, buffer: &mut [u8]) -> Result<usi
 }
 
 /// The check 25.
-fn accepted_sheet(bytes: &[u8]) -> Result<Sheet<'_>, Refusal> {
-    let sheet = Sheet::new(bytes);
-    let accepted = check(bytes) == Verdict::Accepted && sheet.level() != 0;
-    refuse_unless(accepted, Refusal::SheetNotAccepted)?;
+fn accepted_sheet<'a>(sheet: &'a [u8], langs: &'a [u8]) -> Result<Sheet<'a>, Refusal> {
+    let verdict = check(sheet, langs);
+    let sheet = Sheet::new(sheet, langs);
+    let opens = verdict == Verdict::Accepted && sheet.level() != 0;
+    refuse_unless(opens, Refusal::SheetNotAccepted)?;
     Ok(sheet)
 }
 

@@ -1,15 +1,18 @@
-//! The second checker: the verdict on one sheet, rule by rule in checking order.
+//! The second checker: the verdict on one sheet and the language words lent beside it, rule by
+//! rule in checking order.
 //!
 //! As plain as possible: no record is decoded ahead, every rule reads the words of the
-//! sheet again, and every sentence quoted in these modules, but for `figures`, is
-//! document 01's.
+//! sheet again, and every sentence quoted in these modules, but for `figures`, `languages` and
+//! rule 33, is document 01's.
 
 /// The figures that clashed.
 pub mod figures;
+/// Language words.
+pub mod languages;
 pub(crate) mod limits;
 /// The listener above the checker.
 pub mod listener;
-/// The rules 1 to 24.
+/// The rules 1 to 24, and 33 before them.
 pub mod rules;
 pub(crate) mod terms;
 /// Gains, offsets and their ranges.
@@ -28,7 +31,7 @@ pub enum Verdict {
     Accepted,
     /// The first broken rule, and the least place that breaks it.
     Broken {
-        /// The rule, 1 to 24.
+        /// The rule, 1 to 24 or 33.
         rule: u8,
         /// The section of the place, 0 for the header.
         section: u8,
@@ -49,10 +52,10 @@ impl fmt::Display for Verdict {
     }
 }
 
-/// The verdict on a sheet.
-pub fn check(bytes: &[u8]) -> Verdict {
-    let sheet = Sheet::new(bytes);
-    for (number, rule) in (1..).zip(rules::IN_ORDER) {
+/// The verdict on a sheet, with the list of language words that is lent beside it.
+pub fn check(sheet: &[u8], langs: &[u8]) -> Verdict {
+    let sheet = Sheet::new(sheet, langs);
+    for (number, rule) in rules::IN_ORDER {
         if let Some(place) = rule(sheet) {
             return Verdict::Broken { rule: number, section: place.section, record: place.record };
         }

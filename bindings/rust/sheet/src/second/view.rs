@@ -3,6 +3,7 @@
 //! Nothing here fails: a word beyond the end reads as 0. Rules 1 to 5 see to it that no
 //! later rule reads such a word.
 
+use super::languages::LanguageList;
 use super::values::Values;
 
 /// Section 0, the header.
@@ -122,16 +123,22 @@ pub struct List {
     pub count: usize,
 }
 
-/// A sheet, as its bytes.
+/// A sheet, as its bytes, and the language words that are lent beside it.
 #[derive(Clone, Copy)]
 pub struct Sheet<'a> {
     bytes: &'a [u8],
+    languages: LanguageList<'a>,
 }
 
 impl<'a> Sheet<'a> {
-    /// The sheet of these bytes, whatever they are.
-    pub fn new(bytes: &'a [u8]) -> Sheet<'a> {
-        Sheet { bytes }
+    /// The sheet and the list of these bytes, whatever they are.
+    pub fn new(bytes: &'a [u8], langs: &'a [u8]) -> Sheet<'a> {
+        Sheet { bytes, languages: LanguageList::new(langs) }
+    }
+
+    /// The language words lent beside the sheet.
+    pub fn languages(&self) -> LanguageList<'a> {
+        self.languages
     }
 
     /// The length in bytes.

@@ -6,14 +6,15 @@ use sheet::build::Plan;
 use sheet::demand_3::Demand;
 use sheet::generate::accepted;
 use sheet::generate::calls::{changed_state, random_call, Call};
+use sheet::generate::languages::lists::{self, REAL};
 use sheet::generate::random::Random;
 use sheet::generate::stored_scripts::sheets::mixed;
 use sheet::second::listener::{Refusal, State};
 use sheet::second::values::Gain;
 
-fn assert_kept(demand: &Demand, state: &State, sheet: &[u8]) {
+fn assert_kept(demand: &Demand, state: &State, sheet: &[u8], langs: &[u8]) {
     let mut buffer = [0; 28];
-    let entries = state.list(sheet, &mut buffer).expect("25 and 26 never come");
+    let entries = state.list(sheet, langs, &mut buffer).expect("25 and 26 never come");
     assert_eq!(demand.check(state, &buffer[..entries]), Ok(()));
 }
 
@@ -23,18 +24,19 @@ fn demand_3_holds_after_every_list_of_calls() {
     for number in 0..300 {
         let plan = accepted::plan(&mut random, 1 + number % 2);
         let sheet = plan.bytes();
-        let (mut state, answer) = State::open(&sheet);
+        let langs = lists::of(lists::held(&sheet));
+        let (mut state, answer) = State::open(&sheet, &langs);
         assert_eq!(answer, Ok(()));
         let mut demand = Demand { plan: &plan, programme: 0 };
-        assert_kept(&demand, &state, &sheet);
+        assert_kept(&demand, &state, &sheet, &langs);
         for _ in 0..60 {
             let call = random_call(&mut random, &plan);
-            let (handed_back, answer) = call.make(state, &sheet);
+            let (handed_back, answer) = call.make(state, &sheet, &langs);
             if let (Call::ChooseProgramme(programme), Ok(())) = (call, answer) {
                 demand.programme = programme.into();
             }
             state = handed_back;
-            assert_kept(&demand, &state, &sheet);
+            assert_kept(&demand, &state, &sheet, &langs);
         }
     }
 }
@@ -46,9 +48,10 @@ fn numbers_met(change: impl Fn(&mut Random, &Plan, State) -> State) -> BTreeSet<
     for number in 0..300 {
         let plan = accepted::plan(&mut random, 1 + number % 2);
         let sheet = plan.bytes();
-        let state = change(&mut random, &plan, State::open(&sheet).0);
+        let langs = lists::of(lists::held(&sheet));
+        let state = change(&mut random, &plan, State::open(&sheet, &langs).0);
         for _ in 0..20 {
-            let (_, answer) = random_call(&mut random, &plan).make(state.clone(), &sheet);
+            let (_, answer) = random_call(&mut random, &plan).make(state.clone(), &sheet, &langs);
             met.insert(answer.map_or_else(Refusal::number, |()| 0));
         }
     }
@@ -66,7 +69,7 @@ fn random_calls_are_done_and_refused_in_every_way() {
 /// The sheet `mixed` as it opens, with its listing.
 fn opened_mixed() -> (Plan, State, Vec<u16>) {
     let plan = mixed();
-    let (state, answer) = State::open(&plan.bytes());
+    let (state, answer) = State::open(&plan.bytes(), REAL);
     assert_eq!(answer, Ok(()));
     (plan, state, vec![0, 2, 1])
 }

@@ -1,18 +1,20 @@
 //! Figures of sheets, worked out by hand from documents 01 and 02.
 
 use sheet::build::{Plan, Track, ValueSet, Values, ABSENT, NO_RANGE, SILENCE};
+use sheet::generate::clauses::common_list;
 use sheet::generate::figures::met::Met;
 use sheet::generate::figures::{ClashingSheets, TOLD_RULES};
+use sheet::generate::Generated;
 use sheet::second::figures::{figures, lines, Figure};
 use sheet::second::view::Sheet;
 
 /// The lines, without the one of the verdict, as section, record and figure.
 fn told(plan: &Plan, verdict: &str) -> Vec<(u8, u16, i32)> {
     let bytes = plan.bytes();
-    let lines = lines(&bytes);
+    let lines = lines(&bytes, &common_list());
     let mut expected = format!("{verdict}\n");
     let mut told = Vec::new();
-    for Figure { section, record, value } in figures(&bytes) {
+    for Figure { section, record, value } in figures(&bytes, &common_list()) {
         expected += &format!("section {section} record {record} figure {value}\n");
         told.push((section, record, value));
     }
@@ -57,11 +59,11 @@ fn own_1(gain: i16, offset: i16) -> ValueSet {
 
 #[test]
 fn sheet_a_and_no_bytes_have_the_verdict_line_alone() {
-    assert_eq!(lines(&Plan::sheet_a().bytes()), "accepted\n");
-    assert_eq!(lines(&[]), "rule 1 section 0 record 0\n");
+    assert_eq!(lines(&Plan::sheet_a().bytes(), &common_list()), "accepted\n");
+    assert_eq!(lines(&[], &common_list()), "rule 1 section 0 record 0\n");
     let mut plan = Plan::sheet_a();
     plan.tracks[0].ordinal = 1;
-    assert_eq!(lines(&plan.bytes()), "rule 14 section 3 record 0\n");
+    assert_eq!(lines(&plan.bytes(), &common_list()), "rule 14 section 3 record 0\n");
 }
 
 /// Cases (l) and (m) of document 01.
@@ -72,7 +74,7 @@ fn a_gain_and_its_bound() {
         plan.objects[0].interact = 1;
         plan.objects[0].values.gain_range = (-60, 60);
         plan.objects[0].values.gain = gain;
-        lines(&plan.bytes())
+        lines(&plan.bytes(), &common_list())
     };
     let above = "rule 18 section 3 record 0\n\
                  section 3 record 0 figure 61\n\
@@ -214,7 +216,7 @@ fn shares_by_rising_record() {
     let alone = [(3, 0, 4), (3, 1, 7), (3, 2, 5), (3, 3, 3), (3, 4, 1)];
     assert_eq!(told(&plan, verdict), alone);
     plan.objects[2].complements = vec![0];
-    assert_eq!(lines(&plan.bytes()), "accepted\n");
+    assert_eq!(lines(&plan.bytes(), &common_list()), "accepted\n");
     plan.packs[2].channels = 6;
     plan.tracks.push(Track { pack: 2, ordinal: 5 });
     plan.objects[2].tracks.push(17);
@@ -227,7 +229,8 @@ fn random_sheets_meet_every_class() {
     let mut sheets = ClashingSheets::new(4);
     for rule in TOLD_RULES {
         for _ in 0..4000 {
-            met.add(&sheets.refused_by(rule).sheet);
+            let Generated { sheet, langs, .. } = sheets.refused_by(rule);
+            met.add(&sheet, &langs);
         }
     }
     print!("{met}");
@@ -257,9 +260,9 @@ fn figures_stand_in_the_sheet_and_break_the_rule() {
     let mut sheets = ClashingSheets::new(5);
     for rule in TOLD_RULES {
         for _ in 0..2000 {
-            let bytes = sheets.refused_by(rule).sheet;
-            let sheet = Sheet::new(&bytes);
-            let figures = figures(&bytes);
+            let Generated { sheet: bytes, langs, .. } = sheets.refused_by(rule);
+            let sheet = Sheet::new(&bytes, &langs);
+            let figures = figures(&bytes, &langs);
             assert!(break_by_themselves(rule, sheet.level(), &figures), "{rule}: {figures:?}");
             let records = figures.iter().map(|figure| figure.record);
             match rule {

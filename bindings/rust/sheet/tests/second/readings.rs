@@ -3,6 +3,7 @@
 use sheet::build::{
     bytes, language, overwrite, Pack, Plan, Track, ValueSet, Values, NO_PACK, SILENCE,
 };
+use sheet::generate::clauses::common_list;
 use sheet::second::view::{content, object, programme, CONTENT, OBJECT, PROGRAMME};
 use sheet::second::{check, Verdict};
 
@@ -27,7 +28,7 @@ fn objects(number: u16) -> Plan {
 fn with(change: impl FnOnce(&mut Plan)) -> Verdict {
     let mut plan = objects(3);
     change(&mut plan);
-    check(&plan.bytes())
+    check(&plan.bytes(), &common_list())
 }
 
 /// The verdict on three top objects after the words of a list are changed.
@@ -35,7 +36,7 @@ fn with_list(section: u8, field: usize, [first, count]: [u16; 2]) -> Verdict {
     let mut words = objects(3).words();
     overwrite(&mut words, section, 1, field, first);
     overwrite(&mut words, section, 1, field + 1, count);
-    check(&bytes(&words))
+    check(&bytes(&words), &common_list())
 }
 
 /// Object 0 as parent of objects 1 and 2.
@@ -76,7 +77,7 @@ fn reading_3_the_place_of_a_set_with_own_1_is_its_object() {
 #[test]
 fn reading_4_minimums_hold_at_level_0() {
     let bare = [1, 0, 0, 16, 0, 16, 0, 16, 0, 16, 0, 16, 0, 16, 0, 16];
-    assert_eq!(check(&bytes(&bare)), broken(7, 1, 0));
+    assert_eq!(check(&bytes(&bare), &common_list()), broken(7, 1, 0));
     let at_level_0 = |change: fn(&mut Plan)| {
         with(|plan| {
             plan.level = 0;
@@ -153,7 +154,7 @@ fn reading_6_empty_lists_and_exact_sums() {
     assert_eq!(with_list(PROGRAMME, programme::SETS, [1, 65535]), broken(4, 1, 1));
     let mut words = Plan::sheet_a().words();
     words[2] = 8193;
-    assert_eq!(check(&bytes(&words)), broken(3, 2, 0));
+    assert_eq!(check(&bytes(&words), &common_list()), broken(3, 2, 0));
 }
 
 #[test]

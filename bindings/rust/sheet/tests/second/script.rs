@@ -5,13 +5,16 @@ use sheet::build::Plan;
 use sheet::generate::calls::Call;
 use sheet::generate::scripts::RandomScripts;
 use sheet::generate::stored_scripts::sheets::mixed;
-use sheet::script::{answers, bench_answers, read_answers, Line, Met, Said};
+use sheet::script::{answers, bench_answers, read_answers, Lends, Line, Met, Said};
 use sheet::second::listener::{ObjectState, State};
 use sheet::second::values::Gain;
 
+/// "eng" and "fra", the languages of `mixed`.
+const LANGS: [u8; 4] = [21, 199, 26, 65];
+
 /// That a script on a sheet has these answers, the opening's first.
 fn assert_answers(plan: Plan, script: &[&str], expected: &[&str]) {
-    let answers = answers(&plan.bytes(), &script.join("\n"));
+    let answers = answers(&plan.bytes(), &LANGS, &script.join("\n"));
     assert_eq!(answers.lines().collect::<Vec<_>>(), expected);
 }
 
@@ -57,6 +60,40 @@ fn listings_into_so_many_words() {
 }
 
 #[test]
+fn lends() {
+    let script =
+        ["lend 5575", "list", "lend", "programme 1", "open", "lend 5575 6721", "list", "open"];
+    let refused = ["lent 1", "refused 25", "lent 0", "refused 25", "refused 25"];
+    assert_answers(mixed(), &script[..5], &[&["done"][..], &refused].concat());
+    let script = [&script[..4], &script[5..7]].concat();
+    let answers = [&["done"][..], &refused[..4], &["lent 2", "tracks 0 2 1"]].concat();
+    assert_answers(mixed(), &script, &answers);
+    let unread = ["lend eng", "lend 65536", "lend 1 -2", "list"];
+    assert_answers(mixed(), &unread, &["done", "?", "?", "?", "tracks 0 2 1"]);
+}
+
+#[test]
+fn lists_of_as_many_words_as_a_line_lends() {
+    let numbers = |last: u16| Line::Lend((1..=last).collect());
+    assert_eq!(Line::read("lend"), Some(Line::Lend(Vec::new())));
+    assert_eq!(Line::read("lend 00 65535"), Some(Line::Lend(vec![0, 65_535])));
+    assert!(numbers(64).can_be_read());
+    assert!(!numbers(65).can_be_read());
+    assert!(Line::Lend(vec![10_000; 42]).can_be_read(), "256 bytes");
+    assert!(!Line::Lend(vec![10_000; 43]).can_be_read(), "262 bytes");
+}
+
+#[test]
+fn random_scripts_lend_other_lists_and_the_first_again() {
+    let mut lends = Lends::default();
+    for script in RandomScripts::new(6).take(1000) {
+        let said = read_answers(&script.answers).expect("answers");
+        lends.add(script.lines.iter().zip(&said[1..]));
+    }
+    assert!(lends.refused > 50 && lends.done_again > 50, "{lends:?}");
+}
+
+#[test]
 fn states_from_elsewhere() {
     let script = ["put object 0 inactive 10 0", "list", "put object 2 active 10 0", "list"];
     assert_answers(mixed(), &script, &["done", "put", "refused 26", "put", "tracks 2 1 3"]);
@@ -96,10 +133,10 @@ fn blanks_zeros_and_long_lines() {
 fn the_last_line_may_lack_its_end() {
     let sheet = mixed().bytes();
     for script in ["list\nlist", "list\nlist\n", "list\r\nlist\r\n"] {
-        assert_eq!(answers(&sheet, script), "done\ntracks 0 2 1\ntracks 0 2 1\n");
+        assert_eq!(answers(&sheet, &LANGS, script), "done\ntracks 0 2 1\ntracks 0 2 1\n");
     }
-    assert_eq!(answers(&sheet, ""), "done\n");
-    assert_eq!(answers(&sheet, "\n"), "done\n?\n");
+    assert_eq!(answers(&sheet, &LANGS, ""), "done\n");
+    assert_eq!(answers(&sheet, &LANGS, "\n"), "done\n?\n");
 }
 
 #[test]
@@ -108,7 +145,7 @@ fn lines_for_tests_have_no_meaning_at_the_bench() {
                   programme 1\ngain 3 silence\nopen\nstate\n";
     let expected = "done\n?\n?\n?\n?\ntracks 0 2 1\ndone\ndone\n?\nprogramme 1\n\
                     object 2 active gain 20 offset 0\nobject 3 active gain silence offset 0\n";
-    assert_eq!(bench_answers(&mixed().bytes(), script), expected);
+    assert_eq!(bench_answers(&mixed().bytes(), &LANGS, script), expected);
 }
 
 #[test]
@@ -128,7 +165,7 @@ fn random_scripts_are_read_as_they_are_written() {
         let text = script.text();
         let lines: Option<Vec<Line>> = text.lines().map(Line::read).collect();
         assert_eq!(lines, Some(script.lines));
-        assert_eq!(answers(&script.sheet, &text), script.answers);
+        assert_eq!(answers(&script.sheet, &script.langs, &text), script.answers);
     }
 }
 
@@ -172,15 +209,15 @@ fn all_answers() -> Vec<(Line, Said)> {
     let mut answers = Vec::new();
     for (text, refusals) in calls {
         let line = Line::read(text).expect("a line");
-        answers.push((line, Said::Done));
-        answers.extend(refusals.iter().map(|&number| (line, Said::Refused(number))));
+        answers.push((line.clone(), Said::Done));
+        answers.extend(refusals.iter().map(|&number| (line.clone(), Said::Refused(number))));
     }
     answers
 }
 
 fn are_complete(answers: &[(Line, Said)]) -> bool {
     let mut met = Met::default();
-    answers.iter().for_each(|(line, said)| met.add(*line, said));
+    answers.iter().for_each(|(line, said)| met.add(line, said));
     assert_eq!(met.calls(), answers.len());
     met.is_complete()
 }

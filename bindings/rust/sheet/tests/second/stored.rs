@@ -4,13 +4,13 @@ use std::collections::HashSet;
 use std::fs;
 use std::path::Path;
 
-use sheet::generate::stored;
+use sheet::generate::stored::{self, Lists};
 use sheet::second::{check, Verdict};
 
 #[test]
 fn stored_sheets_get_their_verdicts() {
     for stored in stored::sheets() {
-        assert_eq!(Some(check(&stored.sheet)), stored.expected, "{}", stored.name);
+        assert_eq!(Some(check(&stored.sheet, &stored.langs)), stored.expected, "{}", stored.name);
     }
 }
 
@@ -34,14 +34,26 @@ fn most_are_small() {
 }
 
 #[test]
-fn the_files_of_checktest_are_these_sheets() {
-    let folder = Path::new(env!("CARGO_MANIFEST_DIR")).join("../../../crates/checktest");
-    let mut lines = String::new();
-    for stored in stored::sheets() {
-        let file = fs::read(folder.join("data").join(&stored.name)).expect("the file is there");
-        assert!(file == stored.sheet, "{}", stored.name);
-        lines += &format!("{}: {}\n", stored.name, check(&stored.sheet));
+fn the_lists_are_few_and_two_are_long() {
+    let sheets = stored::sheets();
+    let lists = Lists::of(&sheets);
+    let bytes = |least: usize| lists.files().iter().filter(|(_, list)| list.len() >= least).count();
+    assert!(bytes(0) <= 80, "{} lists", bytes(0));
+    assert_eq!([bytes(2000), bytes(131_000)], [2, 2]);
+    let names: HashSet<&str> = lists.files().iter().map(|(name, _)| name.as_str()).collect();
+    assert_eq!(names.len(), lists.files().len());
+}
+
+/// The stored files of a program are those of these sheets.
+pub fn assert_stored(program: &str, files: Vec<(String, Vec<u8>)>) {
+    let folder = Path::new(env!("CARGO_MANIFEST_DIR")).join("../../../crates").join(program);
+    for (name, bytes) in files {
+        assert!(fs::read(folder.join(&name)).expect("the file is there") == bytes, "{name}");
     }
-    let expected = fs::read_to_string(folder.join("stdout")).expect("the lines are there");
-    assert_eq!(lines, expected);
+}
+
+#[test]
+fn the_files_of_checktest_are_these_sheets() {
+    let sheets = stored::sheets();
+    assert_stored("checktest", stored::files(&sheets, stored::expected(&sheets)));
 }

@@ -8,7 +8,7 @@ use Rattle.checker.specs.steps.Tables.{Right, firstTable, secondTable}
 use Rattle.checker.proofs.search.broken_below.Given as goal
 
 abbrev pub invariant-loop-k : goal.invariant-loop-k
-invariant-loop-k l = (length l.marks ≡ length l.initial.marks) × (Right (sheetOf l.s) (firstTable l.rule l.section) l.first → Right (sheetOf l.s) (secondTable l.rule l.section) l.second → Unbroken (sheetOf l.s) l.rule l.section l.k)
+invariant-loop-k l = (length l.marks ≡ length l.initial.marks) × (Right (sheetOf l.s) l.langs (firstTable l.rule l.section) l.first → Right (sheetOf l.s) l.langs (secondTable l.rule l.section) l.second → Unbroken (sheetOf l.s) l.langs l.rule l.section l.k)
 
 abbrev pub decreases-loop-k : goal.decreases-loop-k
 decreases-loop-k l = l.n - l.k

@@ -10,4 +10,4 @@ broken_below-requires c = λ j l. absurd (omega (arith, l))
 
 pub returns : goal.returns
 returns c =
-    c.broken_below.ensures.1 (empty-right (sheetOf c.args.s.now) (firstTable c.args.rule c.args.section)) (empty-right (sheetOf c.args.s.now) (secondTable c.args.rule c.args.section))
+    c.broken_below.ensures.1 (empty-right (sheetOf c.args.s.now) c.args.langs.now (firstTable c.args.rule c.args.section)) (empty-right (sheetOf c.args.s.now) c.args.langs.now (secondTable c.args.rule c.args.section))

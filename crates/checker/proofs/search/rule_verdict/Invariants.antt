@@ -9,7 +9,7 @@ use Rattle.checker.proofs.search.rule_verdict.Given as goal
 
 abbrev pub invariant-loop-section : goal.invariant-loop-section
 invariant-loop-section l =
-    (l.section ≤ sectionCount) × ((j : ℕ) → j < l.section → sectionBroken (sheetOf l.s) l.rule j ≡ false) × KindsFrom l.rule l.section l.kinds
+    (l.section ≤ sectionCount) × ((j : ℕ) → j < l.section → sectionBroken (sheetOf l.s) l.langs l.rule j ≡ false) × KindsFrom l.rule l.section l.kinds
 
 abbrev pub decreases-loop-section : goal.decreases-loop-section
 decreases-loop-section l = sectionCount - l.section

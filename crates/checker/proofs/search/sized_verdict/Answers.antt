@@ -1,10 +1,8 @@
 -- What passes is accepted. Assumes nothing.
 use mathlib.Core.Path.{sym}
-use Rattle.checker.specs.Checked.{checked}
 use Rattle.checker.proofs.search.sized_verdict.Goals as goal
 
 pub returns-then-passes : goal.returns-then-passes
-unfolding checked
 returns-then-passes c = sym (c.passes.ensures c.if-passes.true)
 
 pub returns : goal.returns

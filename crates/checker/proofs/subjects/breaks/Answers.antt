@@ -3,6 +3,7 @@ use native.Mathlib.Omega.{arith}
 use mathlib.Core.Path.{refl}
 use Rattle.sheet.specs.Words.{sheetOf}
 use Rattle.profile.specs.Verdict.{breaks, numberAt, ruleAt, ruleCount, rules}
+use Rattle.profile.specs.Rules.{rule33}
 use Rattle.checker.specs.steps.Tables.{Right, firstTable, secondTable}
 use Rattle.checker.proofs.SubjectLaws.{no-rule}
 use borrow.Author.Rules.{rules as found}
@@ -50,11 +51,11 @@ returns-in-10 c = (refl, λ first second. simp (c.rule10.ensures, c.in-10.is))
 
 pub returns-in-11 : goal.returns-in-11
 unfolding breaks firstTable secondTable
-returns-in-11 c = (refl, λ first second. let f : Right (sheetOf c.args.s.now) (firstTable 11 c.args.section) c.args.first.now = rw c.in-11.is at first in simp (c.rule11.ensures (λ e. rw e at f) (λ e. rw e at f), c.in-11.is))
+returns-in-11 c = (refl, λ first second. let f : Right (sheetOf c.args.s.now) c.args.langs.now (firstTable 11 c.args.section) c.args.first.now = rw c.in-11.is at first in simp (c.rule11.ensures (λ e. rw e at f) (λ e. rw e at f), c.in-11.is))
 
 pub returns-in-12 : goal.returns-in-12
 unfolding breaks firstTable secondTable
-returns-in-12 c = (refl, λ first second. let f : Right (sheetOf c.args.s.now) (firstTable 12 c.args.section) c.args.first.now = rw c.in-12.is at first in simp (c.rule12.ensures (λ e. rw e at f) (λ e. rw e at f), c.in-12.is))
+returns-in-12 c = (refl, λ first second. let f : Right (sheetOf c.args.s.now) c.args.langs.now (firstTable 12 c.args.section) c.args.first.now = rw c.in-12.is at first in simp (c.rule12.ensures (λ e. rw e at f) (λ e. rw e at f), c.in-12.is))
 
 pub returns-in-13 : goal.returns-in-13
 unfolding breaks
@@ -118,6 +119,10 @@ pub returns-in-24 : goal.returns-in-24
 unfolding breaks firstTable secondTable
 returns-in-24 c = (refl, λ first second. let k = c.in-24.is in simp (c.rule24.ensures (rw k at first) (rw k at second), k))
 
+pub returns-in-33 : goal.returns-in-33
+unfolding breaks rule33
+returns-in-33 c = (refl, λ first second. simp (c.rises.ensures, c.in-33.is))
+
 pub returns-in_default : goal.returns-in_default
 unfolding numberAt ruleAt ruleCount rules
-returns-in_default c = (refl, λ first second. no-rule _ c.args.rule _ _ (search found))
+returns-in_default c = (refl, λ first second. no-rule _ _ c.args.rule _ _ (search found))

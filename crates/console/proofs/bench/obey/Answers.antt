@@ -4,7 +4,7 @@ use Rattle.console.proofs.AnswerLaws.{answer-fits, state-fits}
 use Rattle.console.specs.Bench.{stateAfter, answerTo}
 use Rattle.console.specs.Answers.{unknownLine}
 use Rattle.listener.specs.declared.Reply.{Reply}
-use Rattle.sheet.specs.Words.{sheetOf}
+use Rattle.sheet.specs.Words.{sheetOf, words}
 use native.Mathlib.Omega.{arith}
 use mathlib.Core.Path.{refl, ap}
 use Rattle.text.proofs.BufferLaws.{put-fills}
@@ -19,7 +19,7 @@ returns-in-Call c =
 pub returns-in-List : goal.returns-in-List
 unfolding stateAfter answerTo
 returns-in-List c =
-    let fits = listing-fits (sheetOf c.args.sheet.now) c.args.state in
+    let fits = listing-fits (sheetOf c.args.lent.sheet.now) (words c.args.lent.langs.now) c.args.state in
     rw c.in-List.is (record { state_value = refl; text_filled = put-fills _ _ _ _ c.put_listing-count.ensures (omega arith) })
 
 pub returns-in-State : goal.returns-in-State

@@ -10,7 +10,7 @@ use mir.Syntax.{w32}
 use mir.Val.{to_z, of_z}
 use Rattle.listener.specs.declared.Refusal.{Refusal}
 use Rattle.listener.specs.declared.Refusal.TheVariants.{TooFewWords}
-use Rattle.sheet.specs.Words.{Sheet, sheetOf}
+use Rattle.sheet.specs.Words.{Sheet, sheetOf, words}
 use Rattle.listener.specs.declared.Listing.{Listing}
 use Rattle.listener.specs.declared.Answer.TheVariants.{Done}
 use Rattle.listener.specs.StartListing.{startListed, startBuffered}
@@ -19,9 +19,9 @@ use Rattle.host.proofs.HostLaws.{Told, told, told-refused, few-bytes, enough-byt
 use Rattle.host.proofs.listing.sheet_start_listing.Goals as goal
 
 -- what a listing that is done tells
-heard : {s : Sheet} {p : ℕ} {r : Listing} {words : List ℕ} → r ≡ startListed s p hostWords → words ≡ startBuffered s p (replicate hostWords 0) → r.answer ≡ Done
-    → Told s p r.entries words
-heard {s} {p} {r} {words} e f d = told s p r words e f d
+heard : {s : Sheet} {langs : List ℕ} {p : ℕ} {r : Listing} {words : List ℕ} → r ≡ startListed s langs p hostWords → words ≡ startBuffered s langs p (replicate hostWords 0) → r.answer ≡ Done
+    → Told s langs p r.entries words
+heard {s} {langs} {p} {r} {words} e f d = told s langs p r words e f d
 
 pub overflow_mul-n : goal.overflow_mul-n
 overflow_mul-n c = let l = c.list_start-listing in record { fits = omega (arith, (heard l.ensures.0 l.ensures.1 c.in-Done.is).most) }
@@ -60,5 +60,5 @@ returns-else-buffer-n c =
 pub returns-in-Refused : goal.returns-in-Refused
 returns-in-Refused c =
     let q : Refusal = c.in-Refused.refusal in
-    let l = c.list_start-listing in let a = c.args in let r = told-refused (sheetOf a.sheet.now) a.programme l.result l.new.buffer l.ensures.0 l.ensures.1 q a.buffer.now c.in-Refused.is in
+    let l = c.list_start-listing in let a = c.args in let r = told-refused (sheetOf a.sheet.now) (words a.langs.now) a.programme l.result l.new.buffer l.ensures.0 l.ensures.1 q a.buffer.now c.in-Refused.is in
     (ap (λ (z : ℤ). to_z w32 (of_z w32 z)) c.refusal_code-in-Refused.ensures ∙ code-kept q ∙ r.0, r.1)

@@ -1,6 +1,7 @@
 -- The machine's reply, with its refusals up to 31. Assumes nothing.
 use Prim.Native.Nat.{ℕ, ◌<◌}
 use mathlib.Core.Path.{◌≡◌, sym, ◌∙◌}
+use mathlib.Core.List.{List}
 use native.Mathlib.Omega.{arith}
 use borrow.Author.Rules.{rules}
 use borrow.Author.Tests.{ltb-true}
@@ -8,7 +9,7 @@ use lib.Dec.{ltb}
 use lib.ListN.{get_or}
 use mir.Val.{to_z, of_z}
 use mir.Syntax.{w16}
-use Rattle.sheet.specs.Words.{Sheet, sheetOf}
+use Rattle.sheet.specs.Words.{Sheet, sheetOf, words}
 use Rattle.values.specs.declared.Gain.{Gain}
 use Rattle.values.specs.declared.Sort.TheVariants.{Gains}
 use Rattle.profile.proofs.BoolLaws.{and-both}
@@ -24,8 +25,8 @@ use Rattle.listener.proofs.State.set_gain.Goals as goal
 use Rattle.listener.proofs.State.set_gain.Goals.{then-opens+then-sound, then-opens+else-sound, else-opens}
 
 -- what the machine answers, and what it stores
-abbrev answer : Sheet → State → ℕ → Gain → Answer
-answer s st o x = valueAnswer s st o Gains (gainFits s st.programme o x)
+abbrev answer : Sheet → List ℕ → State → ℕ → Gain → Answer
+answer s langs st o x = valueAnswer s langs st o Gains (gainFits s st.programme o x)
 
 abbrev made : State → ℕ → Gain → Setting
 made st o x = record { active = (setting st o).active; gain = x; offset = (setting st o).offset }
@@ -40,25 +41,25 @@ pub returns-then-is_done-i : goal.returns-then-is_done-i
 unfolding gainSet withGain
 returns-then-is_done-i c =
     let p : to_z w16 (of_z w16 (get_or c.args.self.objects c.args.o blank).offset) ≡ (get_or c.args.self.objects c.args.o blank).offset = search rules in
-    let s = sheetOf c.args.s.now in let st = c.args.self in let o = c.args.o in let fits = gainFits s st.programme o c.args.gain in
-    let answered : c.if-opens.answer ≡ answer s st o c.args.gain =
+    let s = sheetOf c.args.s.now in let langs = words c.args.langs.now in let st = c.args.self in let o = c.args.o in let fits = gainFits s st.programme o c.args.gain in
+    let answered : c.if-opens.answer ≡ answer s langs st o c.args.gain =
     elim c.if-opens.branch [
-      | then-opens+then-sound w ↦ value-sound s st o Gains fits c.if-opens.answer (sym c.opens.ensures ∙ w.if-opens.true) (sym w.sound.ensures ∙ w.if-sound.true) (w.answer-is ∙ w.gain_answer.ensures)
-      | then-opens+else-sound w ↦ value-unsound s st o Gains fits c.if-opens.answer (sym c.opens.ensures ∙ w.if-opens.true) (sym w.sound.ensures ∙ w.if-sound.false) w.answer-is
-      | else-opens w ↦ value-shut s st o Gains fits c.if-opens.answer (sym c.opens.ensures ∙ w.if-opens.false) w.answer-is
+      | then-opens+then-sound w ↦ value-sound s langs st o Gains fits c.if-opens.answer (sym c.opens.ensures ∙ w.if-opens.true) (sym w.sound.ensures ∙ w.if-sound.true) (w.answer-is ∙ w.gain_answer.ensures)
+      | then-opens+else-sound w ↦ value-unsound s langs st o Gains fits c.if-opens.answer (sym c.opens.ensures ∙ w.if-opens.true) (sym w.sound.ensures ∙ w.if-sound.false) w.answer-is
+      | else-opens w ↦ value-shut s langs st o Gains fits c.if-opens.answer (sym c.opens.ensures ∙ w.if-opens.false) w.answer-is
     ] in
     let inside : o < stateObjects = ltb-true _ _ (and-both c.is_done.result (ltb c.args.o stateObjects) c.if-is_done-i.true).1 in
     rw (p, element-setting st o inside)
-    (reply-stored st o (made st o c.args.gain) c.if-opens.answer (answer s st o c.args.gain) answered (rw (← c.is_done.ensures) c.if-is_done-i.true))
+    (reply-stored st o (made st o c.args.gain) c.if-opens.answer (answer s langs st o c.args.gain) answered (rw (← c.is_done.ensures) c.if-is_done-i.true))
 
 pub returns-else-is_done-i : goal.returns-else-is_done-i
 unfolding gainSet withGain
 returns-else-is_done-i c =
-    let s = sheetOf c.args.s.now in let st = c.args.self in let o = c.args.o in let fits = gainFits s st.programme o c.args.gain in
-    let answered : c.if-opens.answer ≡ answer s st o c.args.gain =
+    let s = sheetOf c.args.s.now in let langs = words c.args.langs.now in let st = c.args.self in let o = c.args.o in let fits = gainFits s st.programme o c.args.gain in
+    let answered : c.if-opens.answer ≡ answer s langs st o c.args.gain =
     elim c.if-opens.branch [
-      | then-opens+then-sound w ↦ value-sound s st o Gains fits c.if-opens.answer (sym c.opens.ensures ∙ w.if-opens.true) (sym w.sound.ensures ∙ w.if-sound.true) (w.answer-is ∙ w.gain_answer.ensures)
-      | then-opens+else-sound w ↦ value-unsound s st o Gains fits c.if-opens.answer (sym c.opens.ensures ∙ w.if-opens.true) (sym w.sound.ensures ∙ w.if-sound.false) w.answer-is
-      | else-opens w ↦ value-shut s st o Gains fits c.if-opens.answer (sym c.opens.ensures ∙ w.if-opens.false) w.answer-is
+      | then-opens+then-sound w ↦ value-sound s langs st o Gains fits c.if-opens.answer (sym c.opens.ensures ∙ w.if-opens.true) (sym w.sound.ensures ∙ w.if-sound.true) (w.answer-is ∙ w.gain_answer.ensures)
+      | then-opens+else-sound w ↦ value-unsound s langs st o Gains fits c.if-opens.answer (sym c.opens.ensures ∙ w.if-opens.true) (sym w.sound.ensures ∙ w.if-sound.false) w.answer-is
+      | else-opens w ↦ value-shut s langs st o Gains fits c.if-opens.answer (sym c.opens.ensures ∙ w.if-opens.false) w.answer-is
     ] in
-    reply-kept st o (made st o c.args.gain) c.if-opens.answer (answer s st o c.args.gain) answered (rw (← c.is_done.ensures) c.if-is_done-i.false)
+    reply-kept st o (made st o c.args.gain) c.if-opens.answer (answer s langs st o c.args.gain) answered (rw (← c.is_done.ensures) c.if-is_done-i.false)

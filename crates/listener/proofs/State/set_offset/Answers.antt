@@ -1,6 +1,7 @@
 -- The machine's reply, with its refusals up to 31. Assumes nothing.
 use Prim.Native.Nat.{ℕ, ◌<◌}
 use mathlib.Core.Path.{◌≡◌, sym, ◌∙◌}
+use mathlib.Core.List.{List}
 use native.Mathlib.Omega.{arith}
 use borrow.Author.Rules.{rules}
 use borrow.Author.Tests.{ltb-true}
@@ -8,7 +9,7 @@ use lib.Dec.{ltb}
 use lib.IntN.{ℤ}
 use mir.Val.{to_z, of_z}
 use mir.Syntax.{w16}
-use Rattle.sheet.specs.Words.{Sheet, sheetOf}
+use Rattle.sheet.specs.Words.{Sheet, sheetOf, words}
 use Rattle.values.specs.declared.Sort.TheVariants.{Offsets}
 use Rattle.profile.proofs.BoolLaws.{and-both}
 use Rattle.granted.specs.Fitting.{offsetFits}
@@ -23,8 +24,8 @@ use Rattle.listener.proofs.State.set_offset.Goals as goal
 use Rattle.listener.proofs.State.set_offset.Goals.{then-opens+then-sound, then-opens+else-sound, else-opens}
 
 -- what the machine answers, and what it stores
-abbrev answer : Sheet → State → ℕ → ℤ → Answer
-answer s st o x = valueAnswer s st o Offsets (offsetFits s st.programme o x)
+abbrev answer : Sheet → List ℕ → State → ℕ → ℤ → Answer
+answer s langs st o x = valueAnswer s langs st o Offsets (offsetFits s st.programme o x)
 
 abbrev made : State → ℕ → ℤ → Setting
 made st o x = record { active = (setting st o).active; gain = (setting st o).gain; offset = x }
@@ -39,26 +40,26 @@ pub returns-then-is_done-i : goal.returns-then-is_done-i
 unfolding offsetSet withOffset
 returns-then-is_done-i c =
     let p : to_z w16 (of_z w16 c.args.offset) ≡ c.args.offset = search rules in
-    let s = sheetOf c.args.s.now in let st = c.args.self in let o = c.args.o in let fits = offsetFits s st.programme o c.args.offset in
-    let answered : c.if-opens.answer ≡ answer s st o c.args.offset =
+    let s = sheetOf c.args.s.now in let langs = words c.args.langs.now in let st = c.args.self in let o = c.args.o in let fits = offsetFits s st.programme o c.args.offset in
+    let answered : c.if-opens.answer ≡ answer s langs st o c.args.offset =
     elim c.if-opens.branch [
-      | then-opens+then-sound w ↦ value-sound s st o Offsets fits c.if-opens.answer (sym c.opens.ensures ∙ w.if-opens.true) (sym w.sound.ensures ∙ w.if-sound.true) (w.answer-is ∙ rw p at w.offset_answer.ensures)
-      | then-opens+else-sound w ↦ value-unsound s st o Offsets fits c.if-opens.answer (sym c.opens.ensures ∙ w.if-opens.true) (sym w.sound.ensures ∙ w.if-sound.false) w.answer-is
-      | else-opens w ↦ value-shut s st o Offsets fits c.if-opens.answer (sym c.opens.ensures ∙ w.if-opens.false) w.answer-is
+      | then-opens+then-sound w ↦ value-sound s langs st o Offsets fits c.if-opens.answer (sym c.opens.ensures ∙ w.if-opens.true) (sym w.sound.ensures ∙ w.if-sound.true) (w.answer-is ∙ rw p at w.offset_answer.ensures)
+      | then-opens+else-sound w ↦ value-unsound s langs st o Offsets fits c.if-opens.answer (sym c.opens.ensures ∙ w.if-opens.true) (sym w.sound.ensures ∙ w.if-sound.false) w.answer-is
+      | else-opens w ↦ value-shut s langs st o Offsets fits c.if-opens.answer (sym c.opens.ensures ∙ w.if-opens.false) w.answer-is
     ] in
     let inside : o < stateObjects = ltb-true _ _ (and-both c.is_done.result (ltb c.args.o stateObjects) c.if-is_done-i.true).1 in
     rw (p, element-setting st o inside)
-    (reply-stored st o (made st o c.args.offset) c.if-opens.answer (answer s st o c.args.offset) answered (rw (← c.is_done.ensures) c.if-is_done-i.true))
+    (reply-stored st o (made st o c.args.offset) c.if-opens.answer (answer s langs st o c.args.offset) answered (rw (← c.is_done.ensures) c.if-is_done-i.true))
 
 pub returns-else-is_done-i : goal.returns-else-is_done-i
 unfolding offsetSet withOffset
 returns-else-is_done-i c =
     let p : to_z w16 (of_z w16 c.args.offset) ≡ c.args.offset = search rules in
-    let s = sheetOf c.args.s.now in let st = c.args.self in let o = c.args.o in let fits = offsetFits s st.programme o c.args.offset in
-    let answered : c.if-opens.answer ≡ answer s st o c.args.offset =
+    let s = sheetOf c.args.s.now in let langs = words c.args.langs.now in let st = c.args.self in let o = c.args.o in let fits = offsetFits s st.programme o c.args.offset in
+    let answered : c.if-opens.answer ≡ answer s langs st o c.args.offset =
     elim c.if-opens.branch [
-      | then-opens+then-sound w ↦ value-sound s st o Offsets fits c.if-opens.answer (sym c.opens.ensures ∙ w.if-opens.true) (sym w.sound.ensures ∙ w.if-sound.true) (w.answer-is ∙ rw p at w.offset_answer.ensures)
-      | then-opens+else-sound w ↦ value-unsound s st o Offsets fits c.if-opens.answer (sym c.opens.ensures ∙ w.if-opens.true) (sym w.sound.ensures ∙ w.if-sound.false) w.answer-is
-      | else-opens w ↦ value-shut s st o Offsets fits c.if-opens.answer (sym c.opens.ensures ∙ w.if-opens.false) w.answer-is
+      | then-opens+then-sound w ↦ value-sound s langs st o Offsets fits c.if-opens.answer (sym c.opens.ensures ∙ w.if-opens.true) (sym w.sound.ensures ∙ w.if-sound.true) (w.answer-is ∙ rw p at w.offset_answer.ensures)
+      | then-opens+else-sound w ↦ value-unsound s langs st o Offsets fits c.if-opens.answer (sym c.opens.ensures ∙ w.if-opens.true) (sym w.sound.ensures ∙ w.if-sound.false) w.answer-is
+      | else-opens w ↦ value-shut s langs st o Offsets fits c.if-opens.answer (sym c.opens.ensures ∙ w.if-opens.false) w.answer-is
     ] in
-    reply-kept st o (made st o c.args.offset) c.if-opens.answer (answer s st o c.args.offset) answered (rw (← c.is_done.ensures) c.if-is_done-i.false)
+    reply-kept st o (made st o c.args.offset) c.if-opens.answer (answer s langs st o c.args.offset) answered (rw (← c.is_done.ensures) c.if-is_done-i.false)

@@ -12,7 +12,7 @@ loop-i-init c = (search rules, refl)
 
 pub loop-i-preserved : goal.loop-i-preserved
 unfolding any noLanguageAt
-loop-i-preserved c = (search rules, rw (add-one, c.language.ensures, c.entry_at.ensures, c.loop-i.invariant.1))
+loop-i-preserved c = (search rules, rw (add-one, c.good.ensures, c.entry_at.ensures, c.loop-i.invariant.1))
 
 pub returns : goal.returns
 returns c = let e : c.loop-i.i ≡ c.args.n = omega arith in c.loop-i.invariant.1 ∙ ap (any _) e

@@ -7,7 +7,7 @@ use Rattle.lists.specs.steps.Entries.{noLanguageAt}
 use Rattle.lists.proofs.entries.any_no_language.Given as goal
 
 abbrev pub invariant-loop-i : goal.invariant-loop-i
-invariant-loop-i l = (l.i ≤ l.n) × (l.found ≡ any (noLanguageAt (sheetOf l.s) l.base l.first) l.i)
+invariant-loop-i l = (l.i ≤ l.n) × (l.found ≡ any (noLanguageAt (sheetOf l.s) l.langs l.base l.first) l.i)
 
 abbrev pub decreases-loop-i : goal.decreases-loop-i
 decreases-loop-i l = l.n - l.i

@@ -24,11 +24,11 @@ pub loop-i-preserved : goal.loop-i-preserved
 unfolding any noLanguageAt sameAt
 loop-i-preserved c =
     let l = c.loop-i in let a = c.args in let entry = entryAt (sheetOf a.s.now) a.base a.first in
-    let x = c.entry_at-x in let p = or-none (leb x.result l.last) (not c.language.result) c.if-x-last.false in
+    let x = c.entry_at-x in let p = or-none (leb x.result l.last) (not c.good.result) c.if-x-last.false in
     let h : l.last < entry l.i = rw x.ensures at (leb-false x.result l.last p.0) in (
       search rules,
       rw x.ensures (below-more entry l.i l.last l.invariant.1 h),
-      rw (add-one, l.invariant.2, sym x.ensures, sym c.language.ensures, p.1) refl,
+      rw (add-one, l.invariant.2, sym x.ensures, sym c.good.ensures, p.1) refl,
       rw (add-one, l.invariant.3, not-earlier entry l.i l.last l.invariant.1 h) refl,
     )
 

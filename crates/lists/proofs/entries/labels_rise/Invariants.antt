@@ -9,7 +9,7 @@ use Rattle.lists.proofs.RisingLaws.{Below}
 use Rattle.lists.proofs.entries.labels_rise.Given as goal
 
 abbrev pub invariant-loop-i : goal.invariant-loop-i
-invariant-loop-i l = (l.i ≤ l.n) × Below (entryAt (sheetOf l.s) l.base l.first) l.i l.last × (any (noLanguageAt (sheetOf l.s) l.base l.first) l.i ≡ false) × (any (λ k. any (λ h. sameAt (sheetOf l.s) l.base l.first h k) k) l.i ≡ false)
+invariant-loop-i l = (l.i ≤ l.n) × Below (entryAt (sheetOf l.s) l.base l.first) l.i l.last × (any (noLanguageAt (sheetOf l.s) l.langs l.base l.first) l.i ≡ false) × (any (λ k. any (λ h. sameAt (sheetOf l.s) l.base l.first h k) k) l.i ≡ false)
 
 abbrev pub decreases-loop-i : goal.decreases-loop-i
 decreases-loop-i l = l.n - l.i

@@ -19,12 +19,12 @@ pub returns-then-n-eq0 : goal.returns-then-n-eq0
 returns-then-n-eq0 c =
     λ e.
     let in-section = rw c.count.ensures at (lt-leb c.count.result c.word_at.result c.if-count-word_at.false) in
-    content-kept (sheetOf c.args.s.now) c.args.k c.record_at-at.ensures c.word_at-lang.ensures c.word_at.ensures c.word_at-first.ensures c.number_at-n.ensures c.word_at-loud.ensures
+    content-kept (sheetOf c.args.s.now) c.args.langs.now c.args.k c.record_at-at.ensures c.word_at-lang.ensures c.word_at.ensures c.word_at-first.ensures c.number_at-n.ensures c.word_at-loud.ensures
     (rw c.if-n-eq0.true (sym c.unlabelled_breaks.ensures ∙ e)) in-section
 
 pub returns : goal.returns
 returns c =
     λ e.
     let in-section = rw c.count.ensures at (lt-leb c.count.result c.word_at.result c.if-count-word_at.false) in
-    content-kept (sheetOf c.args.s.now) c.args.k c.record_at-at.ensures c.word_at-lang.ensures c.word_at.ensures c.word_at-first.ensures c.number_at-n.ensures c.word_at-loud.ensures
+    content-kept (sheetOf c.args.s.now) c.args.langs.now c.args.k c.record_at-at.ensures c.word_at-lang.ensures c.word_at.ensures c.word_at-first.ensures c.number_at-n.ensures c.word_at-loud.ensures
     (sym c.labelled_breaks.ensures ∙ e) in-section

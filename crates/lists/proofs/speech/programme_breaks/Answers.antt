@@ -16,5 +16,5 @@ pub returns : goal.returns
 returns c =
     λ e.
     let p = or-none c.labelled_breaks.result c.programme_lists_break.result e in
-    programme-kept (sheetOf c.args.s.now) c.args.k c.record_at-at.ensures c.word_at.ensures c.word_at-4.ensures c.number_at.ensures c.word_at-5.ensures c.number_at-2.ensures c.word_at-2.ensures c.number_at-n.ensures c.word_at-3.ensures
+    programme-kept (sheetOf c.args.s.now) c.args.langs.now c.args.k c.record_at-at.ensures c.word_at.ensures c.word_at-4.ensures c.number_at.ensures c.word_at-5.ensures c.number_at-2.ensures c.word_at-2.ensures c.number_at-n.ensures c.word_at-3.ensures
     (sym c.labelled_breaks.ensures ∙ p.0) (sym c.programme_lists_break.ensures ∙ p.1)

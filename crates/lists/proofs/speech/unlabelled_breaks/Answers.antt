@@ -5,4 +5,4 @@ use Rattle.lists.proofs.speech.unlabelled_breaks.Goals as goal
 
 pub returns : goal.returns
 returns c =
-    rw (c.beyond.ensures, c.count.ensures, c.language.ensures, c.loudness.ensures) (no-labels (sheetOf c.args.s.now) c.args.lang c.args.first c.args.loud)
+    rw (c.beyond.ensures, c.count.ensures, c.good.ensures, c.loudness.ensures) (no-labels (sheetOf c.args.s.now) c.args.langs.now c.args.lang c.args.first c.args.loud)

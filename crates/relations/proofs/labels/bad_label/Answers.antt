@@ -12,7 +12,7 @@ loop-i-init c = (search rules, refl)
 
 pub loop-i-preserved : goal.loop-i-preserved
 unfolding any
-loop-i-preserved c = (search rules, rw (add-one, c.loop-i.invariant.1, c.language.ensures, c.entry.ensures))
+loop-i-preserved c = (search rules, rw (add-one, c.loop-i.invariant.1, c.good.ensures, c.entry.ensures))
 
 pub returns : goal.returns
 unfolding badLabel

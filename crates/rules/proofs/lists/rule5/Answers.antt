@@ -1,8 +1,7 @@
 -- The indices of each section. Assumes nothing.
 use Rattle.profile.specs.Rules.{rule5}
 use Rattle.sheet.specs.Fields.{contents, objects, tracks, valueSets}
-use Rattle.runs.specs.declared.ReferenceTest.TheVariants.{Lacks}
-use Rattle.runs.specs.steps.Runs.{NextRight}
+use Rattle.runs.specs.steps.Runs.{LacksRight}
 use Rattle.rules.specs.steps.Loops.{firstTarget, secondTarget}
 use Rattle.sheet.specs.Words.{sheetOf}
 use Rattle.profile.proofs.BoolLaws.{or-false}
@@ -14,8 +13,8 @@ pub returns-in-1 : goal.returns-in-1
 unfolding rule5 firstTarget secondTarget
 returns-in-1 c = λ first second.
     let a = c.args in let s = sheetOf a.s.now in
-    let f : NextRight s (Lacks contents) a.first.now = rw c.in-1.is at first in
-    let g : NextRight s (Lacks valueSets) a.second.now = rw c.in-1.is at second in
+    let f : LacksRight s contents a.first.now = rw c.in-1.is at first in
+    let g : LacksRight s valueSets a.second.now = rw c.in-1.is at second in
     simp (c.list_lacks_by-in-1.ensures g, c.list_lacks_by.ensures f, c.in-1.is, or-false)
 
 pub returns-in-2 : goal.returns-in-2
@@ -27,8 +26,8 @@ unfolding rule5 firstTarget secondTarget
 returns-in-3 c =
     λ first second.
     let a = c.args in let s = sheetOf a.s.now in
-    let f : NextRight s (Lacks tracks) a.first.now = rw c.in-3.is at first in
-    let g : NextRight s (Lacks objects) a.second.now = rw c.in-3.is at second in
+    let f : LacksRight s tracks a.first.now = rw c.in-3.is at first in
+    let g : LacksRight s objects a.second.now = rw c.in-3.is at second in
     simp (c.list_lacks_by-in-3-3.ensures g, c.list_lacks_by-in-3-2.ensures g, c.list_lacks_by-in-3.ensures f, c.lacks-in-3.ensures, c.pack_of.ensures, c.has_pack.ensures, c.in-3.is, or-false)
 
 pub returns-in-5 : goal.returns-in-5

@@ -3,8 +3,8 @@ use Prim.Native.Nat.{◌+◌}
 use mathlib.Core.Bool.{not}
 use Rattle.sheet.specs.Words.{sheetOf}
 use Rattle.sheet.specs.Layout.{reference, entry}
-use Rattle.values.specs.Language.{language}
 use Rattle.profile.specs.Counting.{any}
+use Rattle.profile.specs.Languages.{goodLanguage}
 use Rattle.profile.specs.Rules.{badLabel}
 use Rattle.rules.proofs.words.bad_label_by.Goals as goal
 
@@ -12,7 +12,7 @@ pub returns-then-looked : goal.returns-then-looked
 unfolding badLabel entry
 returns-then-looked c =
     let s = sheetOf c.args.s.now in
-    c.look_up-looked.ensures c.if-looked.true (λ x n. any (λ i. not (language (reference s (x + i)))) n)
+    c.look_up-looked.ensures c.if-looked.true (λ x n. any (λ i. not (goodLanguage c.args.langs.now (reference s (x + i)))) n)
 
 pub returns-else-looked : goal.returns-else-looked
 returns-else-looked c = λ right. c.bad_label.ensures

@@ -4,4 +4,4 @@ use Rattle.rules.proofs.words.bad_speech.Goals as goal
 
 pub returns : goal.returns
 unfolding badSpeech
-returns c = λ right. simp (c.loudness.ensures, c.field-2.ensures, c.bad_label_by.ensures right, c.language.ensures, c.field.ensures)
+returns c = λ right. simp (c.loudness.ensures, c.field-2.ensures, c.bad_label_by.ensures right, c.good.ensures, c.field.ensures)

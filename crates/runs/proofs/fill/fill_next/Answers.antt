@@ -10,12 +10,12 @@ use Rattle.runs.proofs.fill.fill_next.Goals as goal
 
 pub loop-x-init : goal.loop-x-init
 loop-x-init c =
-    let a = c.args in let p = referenceTest (sheetOf a.s.now) a.test in let m = count (sheetOf a.s.now) references in
+    let a = c.args in let p = referenceTest (sheetOf a.s.now) a.langs.now a.test in let m = count (sheetOf a.s.now) references in
     rw c.count-x.ensures (omega arith, refl, next-start m p m (omega arith), filled-start (Next p m) m a.table.now)
 
 pub loop-x-preserved : goal.loop-x-preserved
 loop-x-preserved c =
-    let a = c.args in let p = referenceTest (sheetOf a.s.now) a.test in
+    let a = c.args in let p = referenceTest (sheetOf a.s.now) a.langs.now a.test in
     let m = count (sheetOf a.s.now) references in let l = c.loop-x in let x = l.x - 1 in
     let here = c.here_or-next in let at = c.mark_at in let e : suc x ≡ l.x = omega (arith, c.loop-x-test.true) in let i : suc x ≤ m = omega (arith, l.invariant.0) in
     let n : Next p m x here.result = rw (here.ensures, c.reference_test.ensures) (next-more m x i p l.next (rw e l.invariant.2)) in

@@ -11,7 +11,7 @@ use Rattle.runs.proofs.fill.fill_next.Given as goal
 
 abbrev pub invariant-loop-x : goal.invariant-loop-x
 invariant-loop-x l =
-    let p = referenceTest (sheetOf l.s) l.test in let m = count (sheetOf l.s) references in (l.x ≤ m) × (length l.table ≡ length l.initial.table) × Next p m l.x l.next × FilledFrom (Next p m) m l.x l.table
+    let p = referenceTest (sheetOf l.s) l.langs l.test in let m = count (sheetOf l.s) references in (l.x ≤ m) × (length l.table ≡ length l.initial.table) × Next p m l.x l.next × FilledFrom (Next p m) m l.x l.table
 
 abbrev pub decreases-loop-x : goal.decreases-loop-x
 decreases-loop-x l = l.x

@@ -11,7 +11,7 @@ use Rattle.tables.specs.steps.Right.{Listed}
 use Rattle.screen.proofs.records.contents_keep.Given as goal
 
 abbrev pub invariant-loop-k : goal.invariant-loop-k
-invariant-loop-k l = (l.k ≤ l.n) × (Listed (sheetOf l.s) l.listed → any (λ k. contentBroken (sheetOf l.s) k || rule12 (sheetOf l.s) contents k) l.k ≡ false)
+invariant-loop-k l = (l.k ≤ l.n) × (Listed (sheetOf l.s) l.listed → any (λ k. contentBroken (sheetOf l.s) l.langs k || rule12 (sheetOf l.s) contents k) l.k ≡ false)
 
 abbrev pub decreases-loop-k : goal.decreases-loop-k
 decreases-loop-k l = l.n - l.k

@@ -8,7 +8,7 @@ use Rattle.lists.specs.steps.Speech.{programmeBroken}
 use Rattle.screen.proofs.records.programmes_keep.Given as goal
 
 abbrev pub invariant-loop-k : goal.invariant-loop-k
-invariant-loop-k l = (l.k ≤ l.n) × (any (programmeBroken (sheetOf l.s)) l.k ≡ false)
+invariant-loop-k l = (l.k ≤ l.n) × (any (programmeBroken (sheetOf l.s) l.langs) l.k ≡ false)
 
 abbrev pub decreases-loop-k : goal.decreases-loop-k
 decreases-loop-k l = l.n - l.k

@@ -2,18 +2,62 @@
 
 use super::objects::Unit;
 use super::Budget;
-use crate::build::{language, word, Plan};
+use crate::build::{word, Plan};
+use crate::generate::languages::lists::{QAA, REAL};
 use crate::generate::random::Random;
 
+/// Where the language words of a sheet come from.
+#[derive(Clone, Copy)]
+pub enum Codes {
+    /// Any three letters.
+    Any,
+    /// The list of ISO 639-2.
+    Real,
+    /// qaa to qtz.
+    Local,
+}
+
+impl Codes {
+    /// Mostly any three letters.
+    pub fn random(random: &mut Random) -> Codes {
+        random.pick(&[Codes::Any, Codes::Any, Codes::Any, Codes::Real, Codes::Local])
+    }
+
+    fn any(self, random: &mut Random) -> u16 {
+        let mut letter = |last| word(random.between(1, last));
+        match self {
+            Codes::Any => 1024 * letter(26) + 32 * letter(26) + letter(26),
+            Codes::Real => u16::from_be_bytes(random.pick(REAL.as_chunks().0)),
+            Codes::Local => QAA + 32 * (letter(20) - 1) + letter(26) - 1,
+        }
+    }
+
+    /// Different languages, up to `most`.
+    fn labels(self, random: &mut Random, most: usize) -> Vec<u16> {
+        let number = if random.chance(20) { most } else { random.below(most + 1) };
+        let mut labels: Vec<u16> = (0..number).map(|_| self.any(random)).collect();
+        labels.sort();
+        labels.dedup();
+        random.shuffle(&mut labels);
+        labels
+    }
+}
+
 /// Adds a content for each top object, in a random order.
-pub fn add_contents(random: &mut Random, plan: &mut Plan, units: &mut [Unit], budget: &Budget) {
+pub fn add_contents(
+    random: &mut Random,
+    plan: &mut Plan,
+    units: &mut [Unit],
+    budget: &Budget,
+    codes: Codes,
+) {
     let mut members: Vec<_> = units.iter_mut().flat_map(|unit| &mut unit.members).collect();
     random.shuffle(&mut members);
     for member in members {
         member.content = plan.add_content(member.object);
         let content = &mut plan.contents[usize::from(member.content)];
-        content.language = any_language(random);
-        content.labels = labels(random, budget.labels);
+        content.language = codes.any(random);
+        content.labels = codes.labels(random, budget.labels);
         content.loudness = word(random.between(1, 3));
     }
 }
@@ -29,7 +73,13 @@ pub fn add_sets(random: &mut Random, plan: &mut Plan, units: &[Unit]) {
 }
 
 /// Adds programmes; each unit is wholly included in at least one of them.
-pub fn add_programmes(random: &mut Random, plan: &mut Plan, units: &[Unit], budget: &Budget) {
+pub fn add_programmes(
+    random: &mut Random,
+    plan: &mut Plan,
+    units: &[Unit],
+    budget: &Budget,
+    codes: Codes,
+) {
     let number = random.between(1, budget.programmes);
     let whole_in: Vec<usize> = units.iter().map(|_| random.below(number)).collect();
     for index in 0..number {
@@ -44,8 +94,8 @@ pub fn add_programmes(random: &mut Random, plan: &mut Plan, units: &[Unit], budg
         let programme = &mut plan.programmes[index];
         random.shuffle(&mut programme.contents);
         random.shuffle(&mut programme.sets);
-        programme.language = any_language(random);
-        programme.labels = labels(random, budget.labels);
+        programme.language = codes.any(random);
+        programme.labels = codes.labels(random, budget.labels);
         programme.loudness = word(random.between(1, 3));
     }
 }
@@ -74,19 +124,4 @@ fn include(random: &mut Random, plan: &mut Plan, programme: u16, unit: &Unit, wh
             plan.programmes[usize::from(programme)].sets.extend(set);
         }
     }
-}
-
-fn any_language(random: &mut Random) -> u16 {
-    let mut letter = || (b'a' + random.below(26) as u8) as char;
-    language(&String::from_iter([letter(), letter(), letter()]))
-}
-
-/// Different languages, up to `most`.
-fn labels(random: &mut Random, most: usize) -> Vec<u16> {
-    let number = if random.chance(20) { most } else { random.below(most + 1) };
-    let mut labels: Vec<u16> = (0..number).map(|_| any_language(random)).collect();
-    labels.sort();
-    labels.dedup();
-    random.shuffle(&mut labels);
-    labels
 }

@@ -24,8 +24,8 @@ impl Default for Met {
 
 impl Met {
     /// Adds a sheet.
-    pub fn add(&mut self, bytes: &[u8]) {
-        for class in classes(bytes) {
+    pub fn add(&mut self, sheet: &[u8], langs: &[u8]) {
+        for class in classes(sheet, langs) {
             *self.0.entry(class).or_default() += 1;
         }
     }
@@ -52,9 +52,9 @@ impl fmt::Display for Met {
 }
 
 /// All classes of a sheet.
-fn classes(bytes: &[u8]) -> Vec<String> {
-    let sheet = Sheet::new(bytes);
-    let verdict = check(bytes);
+fn classes(sheet: &[u8], langs: &[u8]) -> Vec<String> {
+    let verdict = check(sheet, langs);
+    let sheet = Sheet::new(sheet, langs);
     let mut classes = match Clashes::at(sheet, verdict) {
         Clashes::OutOfBounds(clashes) => classes_of_bounds(&clashes),
         Clashes::Unequal(differences) => classes_of_members(&differences),

@@ -1,12 +1,13 @@
 //! Long lists that are right but for one entry or word, met last: at the last record, or
 //! at the end of one long list.
 
-use super::shared::{languages, parent_of};
+use super::shared::parent_of;
 use super::{
     a_with_run, broken, copy_content, copy_object, copy_programme, copy_top_object, generated,
-    set_lists, top_objects, Generated, Size,
+    of_languages, set_lists, top_objects, Generated, Size,
 };
 use crate::build::{bytes, overwrite, word, Plan, ValueSet};
+use crate::generate::languages::lists::three_letters;
 use crate::second::view::{
     content, object, programme, value_set, CONTENT, OBJECT, PROGRAMME, VALUE_SET,
 };
@@ -63,19 +64,19 @@ fn lacking(size: Size) -> Vec<Generated> {
 
 /// Labels of which the last is no language, or comes twice.
 fn labels(size: Size) -> Vec<Generated> {
-    let languages: Vec<u16> = languages().take(size.run()).collect();
+    let languages: Vec<u16> = three_letters().take(size.run()).collect();
     let run_with = |last: u16| [&languages[..], &[last]].concat();
     let programmes = |last| a_with_run(size, run_with(last), copy_programme);
     let contents = |last| a_with_run(size, run_with(last), copy_content);
     let of_programmes = |name, rule, last| {
         let plan = programmes(last);
         let sheet = all_but_last(&plan, PROGRAMME, &[programme::LABELS]);
-        generated(name, sheet, broken(rule, 1, plan.programmes.len() - 1))
+        of_languages(name, sheet, broken(rule, 1, plan.programmes.len() - 1))
     };
     let of_contents = |name, rule, last| {
         let plan = contents(last);
         let sheet = all_but_last(&plan, CONTENT, &[content::LABELS]);
-        generated(name, sheet, broken(rule, 2, plan.contents.len() - 1))
+        of_languages(name, sheet, broken(rule, 2, plan.contents.len() - 1))
     };
     vec![
         of_programmes("programme labels, one no language", 6, 0),

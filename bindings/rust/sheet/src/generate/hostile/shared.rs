@@ -2,9 +2,10 @@
 
 use super::{
     a_with_run, add_top_objects, broken, copy_content, copy_object, copy_programme,
-    copy_top_object, generated, over_run, top_objects, Generated, Size,
+    copy_top_object, generated, of_languages, over_run, top_objects, Generated, Size,
 };
 use crate::build::{word, Plan, ValueSet};
+use crate::generate::languages::lists::three_letters;
 use crate::second::view::{content, object, programme, CONTENT, OBJECT, PROGRAMME};
 use crate::second::Verdict;
 
@@ -18,11 +19,11 @@ pub fn sheets(size: Size) -> Vec<Generated> {
 }
 
 fn run_sheets(size: Size) -> Vec<Generated> {
-    let languages: Vec<u16> = languages().take(size.run()).collect();
+    let languages: Vec<u16> = three_letters().take(size.run()).collect();
     let zeros = vec![0; size.run()];
     let sheet = |name, run: &Vec<u16>, copies, list, expected| {
         let plan = a_with_run(size, run.clone(), copies);
-        generated(name, over_run(&plan, list), expected)
+        of_languages(name, over_run(&plan, list), expected)
     };
     let programme_labels = (PROGRAMME, programme::LABELS);
     let content_labels = (CONTENT, content::LABELS);
@@ -37,15 +38,6 @@ fn run_sheets(size: Size) -> Vec<Generated> {
         sheet("children", &zeros, copy_object, children, broken(11, 3, 0)),
         sheet("complements", &zeros, copy_top_object, complements, broken(19, 3, 0)),
     ]
-}
-
-/// Every language, by rising word.
-pub(in crate::generate) fn languages() -> impl Iterator<Item = u16> {
-    let letters = || 1..=26;
-    letters().flat_map(move |first| {
-        letters()
-            .flat_map(move |second| letters().map(move |third| 1024 * first + 32 * second + third))
-    })
 }
 
 /// Programmes that all include every object: pairs, and one group of all.

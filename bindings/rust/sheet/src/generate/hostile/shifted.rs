@@ -1,12 +1,12 @@
 //! Lists shifted by one against each other, or two that alternate; accepted, or broken by
 //! the last record.
 
-use super::shared::languages;
 use super::{
-    a_with_run, broken, copy_content, copy_programme, copy_top_object, generated, set_lists,
-    top_objects, with_lists, Generated, Size,
+    a_with_run, broken, copy_content, copy_programme, copy_top_object, generated, of_languages,
+    set_lists, top_objects, with_lists, Generated, Size,
 };
 use crate::build::{bytes, word, Pack, Plan, Track, ValueSet};
+use crate::generate::languages::lists::three_letters;
 use crate::second::view::{content, object, programme, CONTENT, OBJECT, PROGRAMME};
 use crate::second::Verdict::{self, Accepted};
 
@@ -28,12 +28,12 @@ pub fn sheets(size: Size) -> Vec<Generated> {
 
 /// Label lists of half the run.
 fn labels(size: Size) -> [Generated; 2] {
-    let run: Vec<u16> = languages().take(size.run()).collect();
+    let run: Vec<u16> = three_letters().take(size.run()).collect();
     let half = run.len() / 2;
     let sheet = |name, copies, labels| {
         let plan = a_with_run(size, run.clone(), copies);
         let words = with_lists(&plan, labels, |number| (number % half, half));
-        generated(name, bytes(&words), Accepted)
+        of_languages(name, bytes(&words), Accepted)
     };
     [
         sheet("shifted programme labels", copy_programme, (PROGRAMME, programme::LABELS)),
@@ -43,12 +43,12 @@ fn labels(size: Size) -> [Generated; 2] {
 
 /// Contents of one object with 48 labels each, in falling order.
 fn falling_labels(size: Size) -> Generated {
-    let mut run: Vec<u16> = languages().take(48).collect();
+    let mut run: Vec<u16> = three_letters().take(48).collect();
     run.sort_unstable_by(|a, b| b.cmp(a));
     let mut plan = a_with_run(size, run, |_, _| ());
     copy_content(&mut plan, 5 * size.part(5400));
     let words = with_lists(&plan, (CONTENT, content::LABELS), |_| (0, 48));
-    generated("falling labels", bytes(&words), broken(11, 3, 0))
+    of_languages("falling labels", bytes(&words), broken(11, 3, 0))
 }
 
 fn complements(size: Size) -> Generated {

@@ -1,7 +1,13 @@
-//! Rules 1 to 3: the header and the layout of the sections.
+//! Rules 33 and 1 to 3: the list lent beside the sheet, the header and the layout of the sections.
 
 use super::header_if;
 use crate::second::view::{Place, Sheet, HEADER, RECORD_WORDS, VALUE_SET};
+
+/// "33, tested before rule 1 with the header as its place, the lent list isn't strictly rising"
+/// (document 02, L2).
+pub fn rule_33(sheet: Sheet) -> Option<Place> {
+    header_if(!sheet.languages().rises_strictly())
+}
 
 /// "The header: the sheet is under 32 bytes, over 65,534 bytes or odd."
 pub fn rule_1(sheet: Sheet) -> Option<Place> {

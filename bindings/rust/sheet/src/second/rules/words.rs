@@ -20,14 +20,14 @@ pub fn rule_6(sheet: Sheet) -> Option<Place> {
 }
 
 fn programme_is_bad(programme: &Record) -> bool {
-    !is_language(programme.index_at(programme::LANGUAGE))
-        || !programme.entries(programme::LABELS).all(is_language)
+    !is_language(programme, programme.word(programme::LANGUAGE))
+        || !labels_are_languages(programme, programme::LABELS)
         || !is_loudness(programme.word(programme::LOUDNESS))
 }
 
 fn content_is_bad(content: &Record) -> bool {
-    !is_language(content.index_at(content::LANGUAGE))
-        || !content.entries(content::LABELS).all(is_language)
+    !is_language(content, content.word(content::LANGUAGE))
+        || !labels_are_languages(content, content::LABELS)
         || !is_loudness(content.word(content::LOUDNESS))
 }
 
@@ -49,11 +49,14 @@ pub(crate) fn values_are_bad(values: Values) -> bool {
     !values.are_legal() || values.have_half_a_pair()
 }
 
-/// "1024 times the first letter plus 32 times the second plus the third, a = 1 to z = 26.
-/// Any three letters are accepted."
-pub(crate) fn is_language(word: usize) -> bool {
-    let letters = [word / 1024, word / 32 % 32, word % 32];
-    letters.iter().all(|letter| (1..=26).contains(letter))
+/// Whether all entries of the label list at a field are languages.
+fn labels_are_languages(record: &Record, field: usize) -> bool {
+    record.entries(field).all(|label| is_language(record, label as u16))
+}
+
+/// "Rule 6 refuses the others" than good codes (document 02, L2).
+fn is_language(record: &Record, word: u16) -> bool {
+    record.sheet().languages().makes_good(word)
 }
 
 /// "Loudness is 1 integrated, 2 dialogue, 3 both."

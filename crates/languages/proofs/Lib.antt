@@ -1,0 +1,3 @@
+mod TableLaws
+mod SearchLaws
+mod RisingLaws

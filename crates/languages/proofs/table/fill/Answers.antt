@@ -1,0 +1,29 @@
+use mathlib.Core.Path.{◌≡◌, refl}
+use native.Mathlib.Omega.{arith}
+use mathlib.Core.Bool.{cond, ◌&&◌}
+use lib.Dec.{ltb}
+use lib.ListN.{length, get_or, set}
+use Rattle.values.specs.Language.{threeLetters}
+use Rattle.profile.specs.Languages.{isListed}
+use Rattle.sheet.specs.Words.{sheetOf, words, word, wordCount}
+use Rattle.languages.proofs.TableLaws.{tabled-first, tabled-more}
+use Rattle.languages.proofs.table.fill.Goals as goal
+
+pub loop-i-init : goal.loop-i-init
+loop-i-init c = (omega arith, refl, tabled-first (words c.args.langs.now) 27483)
+
+pub loop-i-preserved : goal.loop-i-preserved
+unfolding sheetOf word
+loop-i-preserved c =
+    let l = c.loop-i in let langs = words c.args.langs.now in
+    let v : c.word.result ≡ get_or langs l.i 0 = c.word.ensures in
+    let e : c.mark_code.new.table ≡ cond (threeLetters (get_or langs l.i 0) && ltb (get_or langs l.i 0) (length l.table)) (set l.table (get_or langs l.i 0) 1) l.table = rw v at c.mark_code.ensures in
+    (omega (arith, c.loop-i-test.true), c.mark_code.array_long, rw e (tabled-more langs l.i l.table l.invariant.2))
+
+pub returns : goal.returns
+unfolding isListed sheetOf wordCount
+returns c =
+    let l = c.loop-i in let langs = words c.args.langs.now in
+    let n : c.word_count-n.result ≡ length langs = c.word_count-n.ensures in
+    let e : l.i ≡ length langs = omega (arith, n, c.loop-i-test.false, l.invariant.0) in
+    rw e at l.invariant.2

@@ -1,0 +1,117 @@
+// A lent list that rises, and which words are good under it.
+ghost use Rattle.std.specs.Prelude.{List, ℕ, Some, None, cond, length, leb, ◌/◌, ◌≡◌, true};
+ghost use Rattle.profile.specs.Languages.{goodLanguage, isListed, isReserved, isRising};
+ghost use Rattle.languages.specs.steps.Table.{Tabled};
+ghost use Rattle.sheet.specs.Words.{words};
+
+use crate::rising::rises;
+use crate::table::{LANGUAGE_WORDS, fill};
+use sheet::words::{word, word_count};
+use std::marker::Model;
+use values::language::three_letters;
+
+// The words of a list that rises, as lent bytes. The table tells of the words that it reaches; it may be empty.
+#[derive(Drop)]
+pub struct Languages<'a> {
+    bytes: &'a [u8],
+    table: &'a [u8],
+}
+
+impl<'a> Model for Languages<'a> {
+    ghost Value = { List ℕ };
+
+    ghost view = { λ l. words l.bytes.now };
+
+    ghost invariant = { λ l. (isRising (words l.bytes.now) ≡ true) × Tabled (words l.bytes.now) l.table.now };
+}
+
+// One of two indices.
+fn picked(test: bool, a: usize, b: usize) -> usize
+    ensures { result ≡ cond test a b }
+{
+    if test { a } else { b }
+}
+
+// "from qaa to qtz (second letter a to t)".
+#[tactic(auto, unfolding(profile::specs::Languages::isReserved))]
+fn is_reserved(w: u16) -> bool
+    ensures { result ≡ isReserved w }
+{
+    (w / 1024 == 17) & (w / 32 % 32 <= 20)
+}
+
+impl<'a> Languages<'a> {
+    // The list of lent bytes, if it rises.
+    pub fn lent(langs: &'a [u8]) -> Option<Languages<'a>>
+        ensures { result ≡ cond (isRising (words langs.now)) (Some (words langs.now)) None }
+    {
+        if rises(langs) {
+            Some(Languages {
+                bytes: langs,
+                table: &[],
+            })
+        } else {
+            None
+        }
+    }
+
+    // "strictly rising": so is each list of this type.
+    pub fn rises(&self) -> bool
+        ensures { result ≡ isRising self.now }
+    {
+        let _ = &self.bytes;
+        true
+    }
+
+    // Whether the list has at most two words for each byte of a sheet, so that a table of it is worth its filling.
+    pub fn is_short_for(&self, bytes: usize) -> bool
+        ensures { result ≡ leb (length self.now / 2) bytes }
+    {
+        word_count(self.bytes) / 2 <= bytes
+    }
+
+    // The same list with a table, whatever stands in it before: worth its filling where many words are asked.
+    pub fn tabled<'b>(&self, table: &'b mut [u8; LANGUAGE_WORDS]) -> Languages<'b>
+    where
+        'a: 'b,
+        ensures { result ≡ self.now }
+    {
+        let langs = self.bytes;
+        fill(langs, table);
+        Languages {
+            bytes: langs,
+            table,
+        }
+    }
+
+    // Whether the list has the word. Half of the words that it can be among are left at each turn.
+    fn is_listed(&self, w: u16) -> bool
+        ensures { result ≡ isListed self.now w }
+    {
+        let langs = self.bytes;
+        let n = word_count(langs);
+        if n == 0 {
+            return false;
+        }
+        let mut base: usize = 0;
+        let mut size = n;
+        while 1 < size {
+            let half = size / 2;
+            let middle = base + half;
+            base = picked(word(langs, middle) <= w, middle, base);
+            size -= half;
+        }
+        word(langs, base) == w
+    }
+
+    // "a code of three letters is good if listed, or from qaa to qtz".
+    pub fn good(&self, w: u16) -> bool
+        ensures { result ≡ goodLanguage self.now w }
+    {
+        let i = w as usize;
+        if i < self.table.len() {
+            return (self.table[i] == 1) | (three_letters(w) & is_reserved(w));
+        }
+        three_letters(w) & (is_reserved(w) | self.is_listed(w))
+    }
+}

@@ -1,0 +1,41 @@
+// Whether a lent list rises. This is asked at every call, so it is written for the compiler to test many words at once: over all bytes, with
+// a number for each test, and no branch.
+ghost use Rattle.std.specs.Prelude.{cond, length, ◌+◌, ◌<◌, ◌≡◌};
+ghost use Rattle.languages.specs.steps.Falls.{fallsAt};
+ghost use Rattle.profile.specs.Languages.{isRising};
+ghost use Rattle.sheet.specs.Words.{words};
+
+// 1 for a test that holds, else 0.
+fn bit(test: bool) -> u8
+    ensures { result ≡ cond test 1 0 }
+{
+    if test { 1 } else { 0 }
+}
+
+// 1 where a word begins at byte j and the next is at most it.
+fn fall_bit(langs: &[u8], j: usize) -> u8
+    requires { j + 3 < length langs.now }
+    ensures { result ≡ cond (fallsAt langs.now j) 1 0 }
+{
+    let below = bit(langs[j + 2] < langs[j]);
+    let level = bit(langs[j + 2] == langs[j]) & bit(langs[j + 3] <= langs[j + 1]);
+    bit(j % 2 == 0) & (below | level)
+}
+
+// "strictly rising": no word is at most the one before it.
+pub fn rises(langs: &[u8]) -> bool
+    ensures { result ≡ isRising (words langs.now) }
+{
+    let m = langs.len();
+    if m < 4 {
+        return true;
+    }
+    let last = m - 3;
+    let mut found: u8 = 0;
+    let mut j: usize = 0;
+    while j < last {
+        found = found | fall_bit(langs, j);
+        j += 1;
+    }
+    found == 0
+}

@@ -1,0 +1,34 @@
+// The table of a lent list.
+ghost use Rattle.std.specs.Prelude.{cond, length, ltb, set, ◌&&◌, ◌≡◌};
+ghost use Rattle.languages.specs.steps.Table.{Tabled};
+ghost use Rattle.sheet.specs.Words.{words};
+ghost use Rattle.values.specs.Language.{threeLetters};
+
+use sheet::words::{word, word_count};
+use values::language::three_letters;
+
+// Enough for every word of three letters: the last is zzz.
+pub const LANGUAGE_WORDS: usize = 27483;
+
+// Writes 1 at a word of three letters.
+fn mark_code(w: u16, table: &mut [u8; LANGUAGE_WORDS])
+    ensures { table.new ≡ cond (threeLetters w && ltb w (length table.old)) (set table.old w 1) table.old }
+{
+    let i = w as usize;
+    if three_letters(w) & (i < LANGUAGE_WORDS) {
+        table[i] = 1;
+    }
+}
+
+// Fills a table: 1 at the codes of three letters that the list has, 0 at other words.
+pub fn fill(langs: &[u8], table: &mut [u8; LANGUAGE_WORDS])
+    ensures { Tabled (words langs.now) table.new }
+{
+    *table = [0; LANGUAGE_WORDS];
+    let n = word_count(langs);
+    let mut i: usize = 0;
+    while i < n {
+        mark_code(word(langs, i), table);
+        i += 1;
+    }
+}
