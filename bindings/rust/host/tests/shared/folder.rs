@@ -1,14 +1,22 @@
 //! Folders for programs to run in, which read the file `langs` there.
 
-use std::fs;
 use std::io::ErrorKind;
 use std::path::{Path, PathBuf};
+use std::{fs, thread};
 
 /// The name of the list that programs read.
 pub const LANGS: &str = "langs";
 
-/// A folder of the tests.
+/// A folder of the tests, which is gone after them, unless one failed.
 pub struct Folder(PathBuf);
+
+impl Drop for Folder {
+    fn drop(&mut self) {
+        if !thread::panicking() {
+            let _ = fs::remove_dir_all(&self.0);
+        }
+    }
+}
 
 impl Folder {
     /// An empty folder of this name.
