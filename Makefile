@@ -12,7 +12,7 @@ ctest:
 rusttest:
 	bindings/rust/run-test
 
-# time per sheet of the proved checker, of the second one written for speed and of the plain second one
+# time per sheet of the proved checker, of the second one written for speed and of the plain second one, and time of the gain of a factor
 bench:
 	tools/build host
 	cd bindings/rust && cargo bench --locked --offline --bench ratio

@@ -1,5 +1,6 @@
 /*
- * The proved checker of emission sheets, and the proved listing of a programme's start, for host players in C.
+ * The proved checker of emission sheets, the proved listing of a programme's start and the proved gain of a plain factor, for host players
+ * in C.
  * Link with crates/host/out/libhost.a, which `tools/build host` writes; it needs no other library.
  */
 #ifndef SHEET_H
@@ -13,13 +14,13 @@ extern "C" {
 #endif
 
 /*
- * Both calls are lent a list of language words right after the sheet, langs_len bytes: two for each word, high first, the words strictly
- * rising; an odd last byte is ignored. A word is 1024 times the first letter of a code of three letters plus 32 times the second plus the
- * third, a = 1 to z = 26. A sheet may use the codes of three letters that are listed, and those from qaa to qtz without a list; rule 6
- * refuses all others. examples/langs is the list of ISO 639-2. A list is judged before the sheet: if it is not strictly rising, that is
- * rule 33, whatever the sheet. No list of more than 65,536 words rises.
+ * Both calls on a sheet are lent a list of language words right after it, langs_len bytes: two for each word, high first, the words
+ * strictly rising; an odd last byte is ignored. A word is 1024 times the first letter of a code of three letters plus 32 times the second
+ * plus the third, a = 1 to z = 26. A sheet may use the codes of three letters that are listed, and those from qaa to qtz without a list;
+ * rule 6 refuses all others. examples/langs is the list of ISO 639-2. A list is judged before the sheet: if it is not strictly rising, that
+ * is rule 33, whatever the sheet. No list of more than 65,536 words rises.
  *
- * Every call uses the list that it is lent and no other: a sheet is accepted or not relative to that list. Sheet and list are only read
+ * Each of them uses the list that it is lent and no other: a sheet is accepted or not relative to that list. Sheet and list are only read
  * and may overlap.
  */
 
@@ -57,6 +58,17 @@ uint32_t sheet_check(const uint8_t *sheet, size_t sheet_len, const uint8_t *lang
  */
 int32_t sheet_start_listing(const uint8_t *sheet, size_t sheet_len, const uint8_t *langs, size_t langs_len, uint32_t programme,
                             uint8_t *buffer, size_t buffer_len);
+
+/*
+ * The gain of a plain factor in millionths: the least tenth of a dB that is not below it, -600 to 210, or
+ *
+ *     -32768      silence: the factor is 0
+ *     34000000    refusal 34: the factor is above 11220184, which is 21 dB
+ *
+ * 1 to 1000 give -600, 1000000 gives 0 and 1000001 gives 1. Every number is answered. Nothing is kept from call to call, so threads may
+ * call at the same time.
+ */
+int32_t gain_of_factor(uint32_t millionths);
 
 #ifdef __cplusplus
 }

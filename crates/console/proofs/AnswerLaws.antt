@@ -7,7 +7,6 @@ use native.Mathlib.Omega.{arith}
 use lib.IntN.{ℤ}
 use lib.ListN.{length, length-append}
 use Rattle.values.specs.declared.Gain.{Gain}
-use Rattle.values.specs.declared.Gain.TheVariants.{Silent, Tenths}
 use Rattle.profile.specs.Counting.{sum}
 use Rattle.profile.proofs.ListLaws.{length-concat}
 use Rattle.listener.specs.declared.Setting.{Setting}
@@ -16,8 +15,8 @@ use Rattle.listener.specs.declared.Answer.{Answer}
 use Rattle.listener.specs.declared.Answer.TheVariants.{Done, Refused}
 use Rattle.listener.specs.State.{stateObjects, setting, isResting, refusalNumber}
 use Rattle.text.proofs.BytesLaws.{join-length, none-length}
-use Rattle.text.proofs.DecimalLaws.{decimal-fits, signed-fits}
-use Rattle.console.specs.Answers.{answerLine, wordsText, tracksLine, activityText, gainText, nameText, valuesText, settingLine, objectLine, objectLines, stateLines}
+use Rattle.text.proofs.DecimalLaws.{decimal-fits, signed-fits, gain-fits}
+use Rattle.console.specs.Answers.{answerLine, wordsText, tracksLine, activityText, nameText, valuesText, settingLine, objectLine, objectLines, stateLines}
 
 pub answer-fits : (a : Answer) → length (answerLine a) ≤ 29
 unfolding answerLine
@@ -33,11 +32,6 @@ pub tracks-fit : (tracks : List ℕ) (a : Answer) → (a ≡ Done → length tra
 unfolding tracksLine
 tracks-fit tracks Done l = simp (join-length, none-length) (omega (arith, words-fit tracks, l refl))
 tracks-fit tracks (Refused r) l = omega (arith, answer-fits (Refused r))
-
-gain-fits : (g : Gain) → length (gainText g) ≤ 21
-unfolding gainText
-gain-fits Silent = omega arith
-gain-fits (Tenths z) = signed-fits z
 
 activity-fits : (active : Bool) → length (activityText active) ≤ 9
 unfolding activityText

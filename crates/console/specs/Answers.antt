@@ -2,7 +2,6 @@
 use Rattle.std.specs.Prelude.{ℕ, Bool, cond, List, [], ◌∷◌, ◌++◌, ℤ}
 use Rattle.sheet.specs.Words.{Sheet}
 use Rattle.values.specs.declared.Gain.{Gain}
-use Rattle.values.specs.declared.Gain.TheVariants.{Silent, Tenths}
 use Rattle.profile.specs.Counting.{concatBelow}
 use Rattle.listener.specs.declared.Setting.{Setting}
 use Rattle.listener.specs.declared.State.{State}
@@ -11,7 +10,7 @@ use Rattle.listener.specs.declared.Answer.TheVariants.{Done, Refused}
 use Rattle.listener.specs.State.{stateObjects, setting, isResting, refusalNumber}
 use Rattle.listener.specs.Listing.{listedTracks, enoughWords, listingAnswer}
 use Rattle.text.specs.Bytes.{ascii, join}
-use Rattle.text.specs.Decimal.{decimal, signedDecimal}
+use Rattle.text.specs.Decimal.{decimal, signedDecimal, gainText}
 
 -- `done`, or as in `refused 28`
 unfoldable pub answerLine : Answer → List ℕ
@@ -34,10 +33,6 @@ listingLine s langs st = tracksLine (listedTracks s st) (listingAnswer s langs s
 
 unfoldable pub activityText : Bool → List ℕ
 activityText active = cond active (ascii " active") (ascii " inactive")
-
-unfoldable pub gainText : Gain → List ℕ
-gainText Silent = ascii "silence"
-gainText (Tenths z) = signedDecimal z
 
 unfoldable pub nameText : ℕ → Bool → List ℕ
 nameText o active = join (ascii "object " ∷ decimal o ∷ activityText active ∷ [])

@@ -9,13 +9,13 @@ use Rattle.listener.specs.declared.Answer.TheVariants.{Done, Refused}
 use Rattle.listener.specs.declared.Refusal.TheVariants.{NotIncluded}
 use Rattle.listener.specs.State.{stateObjects, resting, setting, isResting}
 use Rattle.text.specs.Bytes.{ascii, same, join}
-use Rattle.text.specs.Decimal.{spelled, decimal, signedDecimal}
-use Rattle.text.specs.Numbers.{isDigit, digits, value, numberOf, positive, negative, tenthsOf, gainValueOf}
+use Rattle.text.specs.Decimal.{spelled, decimal, signedDecimal, gainText}
+use Rattle.text.specs.Numbers.{isDigit, digits, value, isNumber, numberOf, positive, negative, tenthsOf, gainValueOf}
 use Rattle.text.specs.Lines.{withoutReturn, said, isBlank, fieldsFrom, fields}
 use Rattle.console.specs.declared.commands.Call.TheVariants.{Programme, Object, Gain, Offset}
 use Rattle.console.specs.declared.commands.Command.TheVariants.{Call, List as Listing, State as Settings, Unknown}
 use Rattle.console.specs.Commands.{alone, withNumber, gainCommand, offsetCommand, withValue, commandBy, commandOf}
-use Rattle.console.specs.Answers.{answerLine, wordsText, tracksLine, activityText, gainText, nameText, valuesText, settingLine, objectLine, objectLines, stateLines}
+use Rattle.console.specs.Answers.{answerLine, wordsText, tracksLine, activityText, nameText, valuesText, settingLine, objectLine, objectLines, stateLines}
 
 pub answer-lines :
     answerLine Done ∷ answerLine (Refused NotIncluded) ∷ tracksLine (0 ∷ 1 ∷ 65535 ∷ []) Done ∷ tracksLine [] (Refused NotIncluded) ∷ []
@@ -70,5 +70,5 @@ pub commands-said :
     ∷ Unknown
     ∷ Unknown
     ∷ []
-unfolding commandOf commandBy alone withNumber gainCommand offsetCommand withValue fields fieldsFrom isBlank said withoutReturn numberOf tenthsOf gainValueOf positive negative digits value isDigit same
+unfolding commandOf commandBy alone withNumber gainCommand offsetCommand withValue fields fieldsFrom isBlank said withoutReturn isNumber numberOf tenthsOf gainValueOf positive negative digits value isDigit same
 commands-said = refl

@@ -1,6 +1,6 @@
 // Answers of the listener, tracks and states as text.
 ghost use Rattle.std.specs.Prelude.{◌≡◌};
-ghost use Rattle.console.specs.Answers.{activityText, answerLine, gainText, listingLine, nameText, objectLine, objectLines, stateLines, valuesText, wordsText};
+ghost use Rattle.console.specs.Answers.{activityText, answerLine, listingLine, nameText, objectLine, objectLines, stateLines, valuesText, wordsText};
 ghost use Rattle.sheet.specs.Words.{sheetOf, words};
 ghost use Rattle.text.specs.Buffer.{buffer as written, putText};
 
@@ -8,7 +8,7 @@ use crate::Lent;
 use listener::refusals::refusal_number;
 use listener::settings::is_resting;
 use listener::{Answer, MOST_ENTRIES, STATE_END, Setting, State};
-use text::writing::{put_number, put_signed, put_text};
+use text::writing::{put_gain, put_number, put_signed, put_text};
 use values::Gain;
 
 // `done`, or as in `refused 28`.
@@ -64,15 +64,6 @@ fn put_activity(buffer: &mut [u8], count: usize, active: bool) -> usize
         put_text(buffer, count, b" active")
     } else {
         put_text(buffer, count, b" inactive")
-    }
-}
-
-fn put_gain(buffer: &mut [u8], count: usize, gain: Gain) -> usize
-    ensures { written buffer.new result ≡ putText (written buffer.old count) (gainText gain) }
-{
-    match gain {
-        Gain::Silent => put_text(buffer, count, b"silence"),
-        Gain::Tenths(z) => put_signed(buffer, count, z),
     }
 }
 

@@ -1,3 +1,4 @@
 pub mod HostListing
 pub mod HostGuarantee
+pub mod HostGain
 pub mod steps

@@ -11,10 +11,12 @@ use lib.IntN.{ℤ, pos, negsuc}
 use lib.ListN.{length, length-append}
 use mir.Syntax.{w16}
 use mir.Val.{SFits}
+use Rattle.values.specs.declared.Gain.{Gain}
+use Rattle.values.specs.declared.Gain.TheVariants.{Silent, Tenths}
 use Rattle.values.specs.Signed.{wordOf}
 use Rattle.io.specs.Digits.{hex_digit_ascii, last_digits, IsDigitCount}
 use Rattle.text.specs.Bytes.{ascii, join}
-use Rattle.text.specs.Decimal.{digitByte, spelled, decimal, signedDecimal}
+use Rattle.text.specs.Decimal.{digitByte, spelled, decimal, signedDecimal, gainText}
 
 -- a digit's byte
 last : (n : ℕ) → hex_digit_ascii (n % 10) ∷ [] ≡ digitByte (n % 10)
@@ -94,3 +96,8 @@ signed-minus (pos n) f h = absurd (omega (arith, f.sfits))
 signed-minus (negsuc n) f h =
     let e : 65536 - (65535 - n) ≡ suc n = omega (arith, f.sfits) in
     rw (e, append-nil (decimal (suc n))) refl
+
+pub gain-fits : (g : Gain) → length (gainText g) ≤ 21
+unfolding gainText
+gain-fits Silent = omega arith
+gain-fits (Tenths z) = signed-fits z

@@ -1,21 +1,23 @@
 -- What the digits read so far say of a text's number. Assumes nothing.
 use Prim.Native.Nat.{ℕ, zero, suc, ◌+◌, ◌*◌, ◌-◌, ◌≤◌, ◌<◌}
 use mathlib.Core.Path.{◌≡◌, refl, sym}
-use mathlib.Core.Bool.{true, false}
+use mathlib.Core.Bool.{Bool, true, false, cond, ◌&&◌}
 use mathlib.Core.List.{List, [], ◌∷◌}
 use native.Mathlib.Numerals.{add-one}
 use native.Mathlib.Omega.{arith}
 use borrow.Author.Tests.{leb-true, lt-ltb, le-ltb, le-leb, lt-leb, eq-eqb, ne_eqb}
-use lib.Dec.{leb}
+use lib.Dec.{leb, ltb}
 use lib.IntN.{pos}
 use lib.ListN.{length, get_or, take, drop, length-drop}
 use mir.Syntax.{w16}
 use mir.Val.{to_z}
 use lib.Seq.{drop-cons, drop-length, take_all}
+use Rattle.std.specs.Prelude.{Some, None}
+use Rattle.std.proofs.lemmas.Option.{cond_some, none-some}
 use Rattle.text.proofs.BoolLaws.{and-both, and-false}
 use Rattle.text.specs.declared.numbers.Number.TheVariants.{Nothing, Of}
 use Rattle.text.specs.declared.numbers.Tenths.TheVariants as tenths
-use Rattle.text.specs.Numbers.{isDigit, digits, value, numberOf, minus, positive, negative, tenthsOf}
+use Rattle.text.specs.Numbers.{isDigit, digits, value, isNumber, numberOf, minus, positive, negative, tenthsOf}
 
 -- a digit's range
 pub digit-range : (b : ℕ) → isDigit b ≡ true → (48 ≤ b) × (b ≤ 57)
@@ -38,23 +40,23 @@ module _ (s : List ℕ) (i n : ℕ) (h : i < length s) (v : value n (drop i s) �
   unfolding digits
   judged e = rw (add-one) (rw e at (rw (drop-cons s i 0 h) at d))
 
-  pub stray : isDigit (get_or s i 0) ≡ false → 0 < length s → Nothing ≡ numberOf s
-  unfolding digits numberOf
-  stray e l = let f : false ≡ digits s = rw e at (rw (drop-cons s i 0 h) at d) in simp (lt-ltb 0 (length s) l, sym f)
+  pub stray : (most : ℕ) → isDigit (get_or s i 0) ≡ false → 0 < length s → isNumber most s ≡ false
+  unfolding digits isNumber
+  stray most e l = let f : false ≡ digits s = rw e at (rw (drop-cons s i 0 h) at d) in simp (lt-ltb 0 (length s) l, sym f)
 
-  pub above : 65535 < n * 10 + (get_or s i 0 - 48) → Nothing ≡ numberOf s
-  unfolding numberOf
-  above l =
-      let m : 65535 < value 0 s = omega (arith, valued, grows (drop (i + 1) s) (n * 10 + (get_or s i 0 - 48))) in
-      simp (lt-leb (value 0 s) 65535 m, and-false)
+  pub above : (most : ℕ) → most < n * 10 + (get_or s i 0 - 48) → isNumber most s ≡ false
+  unfolding isNumber
+  above most l =
+      let m : most < value 0 s = omega (arith, l, valued, grows (drop (i + 1) s) (n * 10 + (get_or s i 0 - 48))) in
+      simp (lt-leb (value 0 s) most m, and-false)
 
-pub empty : (s : List ℕ) → length s ≡ 0 → Nothing ≡ numberOf s
-unfolding numberOf
-empty s h = simp h
+pub empty : (most : ℕ) (s : List ℕ) → length s ≡ 0 → isNumber most s ≡ false
+unfolding isNumber
+empty most s h = simp h
 
 -- no text, no number
 pub nothing : (s : List ℕ) → length s ≡ 0 → tenths.Nothing ≡ tenthsOf s
-unfolding tenthsOf positive numberOf
+unfolding tenthsOf positive numberOf isNumber
 nothing [] h = refl
 nothing (b ∷ s) h = absurd (omega arith)
 
@@ -68,13 +70,35 @@ unfolding tenthsOf
 unsigned s h = simp (ne_eqb _ _ h)
 
 -- all digits are read
-pub finished : (s : List ℕ) (i n : ℕ) → i ≡ length s → 0 < length s → n ≤ 65535 → value n (drop i s) ≡ value 0 s → digits (drop i s) ≡ digits s → Of n ≡ numberOf s
-unfolding digits value numberOf
-finished s i n e h l v d =
+pub finished : (most : ℕ) (s : List ℕ) (i n : ℕ) → i ≡ length s → 0 < length s → n ≤ most → value n (drop i s) ≡ value 0 s → digits (drop i s) ≡ digits s
+    → (isNumber most s ≡ true) × (n ≡ value 0 s)
+unfolding digits value isNumber
+finished most s i n e h l v d =
     let z : drop i s ≡ [] = rw e (drop-length s) in
     let w : n ≡ value 0 s = rw z at v in
     let f : true ≡ digits s = rw z at d in
-    simp (lt-ltb 0 (length s) h, sym f, sym w, le-leb n 65535 l)
+    (simp (lt-ltb 0 (length s) h, sym f, sym w, le-leb n most l), w)
+
+-- what a text is where no number was read, and where one was
+absent : (b : Bool) (x : ℕ) → cond b (Some x) None ≡ None → b ≡ false
+absent true x h = absurd (none-some x (sym h))
+absent false x h = refl
+
+pub read-none : (s : List ℕ) → cond (isNumber 65535 s) (Some (value 0 s)) None ≡ None → Nothing ≡ numberOf s
+unfolding numberOf
+read-none s h = simp (absent (isNumber 65535 s) (value 0 s) h)
+
+pub read-some : (n : ℕ) (s : List ℕ) → cond (isNumber 65535 s) (Some (value 0 s)) None ≡ Some n → Of n ≡ numberOf s
+unfolding numberOf
+read-some n s h = let p = cond_some (isNumber 65535 s) (value 0 s) n h in rw (p.0, p.1) refl
+
+-- and it is small
+pub number-small : (most n : ℕ) (s : List ℕ) → cond (isNumber most s) (Some (value 0 s)) None ≡ Some n → n ≤ most
+unfolding isNumber
+number-small most n s h =
+    let p = cond_some (isNumber most s) (value 0 s) n h in
+    let l = leb-true (value 0 s) most (and-both (ltb 0 (length s) && digits s) (leb (value 0 s) most) p.0).1 in
+    rw p.1 at l
 
 -- a number and its negative as signed words
 pub plain : (n : ℕ) → n ≤ 32767 → to_z w16 n ≡ pos n

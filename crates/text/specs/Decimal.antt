@@ -1,5 +1,7 @@
--- Numbers as the programs write them: in decimal, without a leading zero, negative ones with a minus. Assumes nothing.
+-- Numbers and gains as the programs write them: in decimal, without a leading zero, negative ones with a minus. Assumes nothing.
 use Rattle.std.specs.Prelude.{ℕ, zero, suc, ◌+◌, ◌/◌, ◌%◌, cond, List, [], ◌∷◌, ◌++◌, ltb, ℤ, pos, negsuc}
+use Rattle.values.specs.declared.Gain.{Gain}
+use Rattle.values.specs.declared.Gain.TheVariants.{Silent, Tenths}
 use Rattle.text.specs.Bytes.{ascii}
 
 -- a digit's byte: 48 is "0"
@@ -19,3 +21,8 @@ decimal n = spelled 19 n
 unfoldable pub signedDecimal : ℤ → List ℕ
 signedDecimal (pos n) = decimal n
 signedDecimal (negsuc n) = ascii "-" ++ decimal (suc n)
+
+-- `silence`, or the number of tenths
+unfoldable pub gainText : Gain → List ℕ
+gainText Silent = ascii "silence"
+gainText (Tenths z) = signedDecimal z

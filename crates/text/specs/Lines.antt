@@ -22,7 +22,7 @@ said s = cond (leb (length s) 256) (withoutReturn s) []
 unfoldable pub isBlank : ℕ → Bool
 isBlank b = eqb b 32 || eqb b 9
 
--- a field that has ended, before the fields behind it: no bytes are no field
+-- what has ended, before what is behind it: no bytes are no field, and no line
 abbrev pub ended : List ℕ → List (List ℕ) → List (List ℕ)
 ended [] fs = fs
 ended (b ∷ f) fs = (b ∷ f) ∷ fs
@@ -35,3 +35,12 @@ fieldsFrom f (b ∷ s) = cond (isBlank b) (ended f (fieldsFrom [] s)) (fieldsFro
 -- the fields of a line: the runs of bytes that are not blank
 unfoldable pub fields : List ℕ → List (List ℕ)
 fields s = fieldsFrom [] s
+
+-- the lines of a text, of which l is what was read of the first
+unfoldable pub linesFrom : List ℕ → List ℕ → List (List ℕ)
+linesFrom l [] = ended l []
+linesFrom l (b ∷ s) = cond (eqb b 10) (l ∷ linesFrom [] s) (linesFrom (l ++ (b ∷ [])) s)
+
+-- the lines of a text: each ends before a newline, which is 10; the last may end without one, unless it is empty
+unfoldable pub lines : List ℕ → List (List ℕ)
+lines s = linesFrom [] s

@@ -1,5 +1,5 @@
 -- Decimal numbers, as the programs read them from a field of a line. Assumes nothing.
-use Rattle.std.specs.Prelude.{ℕ, zero, suc, ◌+◌, ◌*◌, ◌-◌, Bool, true, cond, ◌&&◌, List, [], ◌∷◌, eqb, leb, ltb, ℤ, pos, negsuc, length, get_or, drop}
+use Rattle.std.specs.Prelude.{ℕ, zero, suc, ◌+◌, ◌*◌, ◌-◌, Bool, true, cond, ◌&&◌, List, [], ◌∷◌, Option, Some, None, eqb, leb, ltb, ℤ, pos, negsuc, length, get_or, drop}
 use Rattle.text.specs.declared.numbers.Number.{Number}
 use Rattle.text.specs.declared.numbers.Number.TheVariants.{Nothing, Of}
 use Rattle.text.specs.declared.numbers.Tenths.{Tenths}
@@ -23,9 +23,17 @@ unfoldable pub value : ℕ → List ℕ → ℕ
 value n [] = n
 value n (b ∷ s) = value (n * 10 + (b - 48)) s
 
--- the number that a text stands for: nothing where it is no digit string, or above 65535
+-- a text is a number from 0 to `most`
+unfoldable pub isNumber : ℕ → List ℕ → Bool
+isNumber most s = ltb 0 (length s) && digits s && leb (value 0 s) most
+
+-- the number that a text stands for, of 16 bits: nothing where it is none
 unfoldable pub numberOf : List ℕ → Number
-numberOf s = cond (ltb 0 (length s) && digits s && leb (value 0 s) 65535) (Of (value 0 s)) Nothing
+numberOf s = cond (isNumber 65535 s) (Of (value 0 s)) Nothing
+
+-- of 32 bits
+unfoldable pub wideNumberOf : List ℕ → Option ℕ
+wideNumberOf s = cond (isNumber 4294967295 s) (Some (value 0 s)) None
 
 -- a number's negative: `negsuc n` is -(n + 1)
 abbrev pub minus : ℕ → ℤ

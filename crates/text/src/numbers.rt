@@ -1,6 +1,6 @@
 // Decimal numbers: digits, leading zeros among them, with a minus before them where the number may be negative.
-ghost use Rattle.std.specs.Prelude.{◌≡◌};
-ghost use Rattle.text.specs.Numbers.{gainValueOf, isDigit, numberOf, negative, positive, tenthsGain, tenthsOf};
+ghost use Rattle.std.specs.Prelude.{◌≡◌, None, Some, cond};
+ghost use Rattle.text.specs.Numbers.{gainValueOf, isDigit, isNumber, numberOf, negative, positive, tenthsGain, tenthsOf, value, wideNumberOf};
 
 use crate::lines::same;
 use values::Gain;
@@ -30,27 +30,44 @@ fn is_digit(b: u8) -> bool
     (b'0' <= b) & (b <= b'9')
 }
 
-// A number from 0 to 65535.
-pub fn number_of(text: &[u8]) -> Number
-    ensures { result ≡ numberOf text.now }
+// A number from 0 to `most`.
+fn number_up_to(text: &[u8], most: u32) -> Option<u32>
+    ensures { result ≡ cond (isNumber most text.now) (Some (value 0 text.now)) None }
 {
     if text.len() == 0 {
-        return Number::Nothing;
+        return None;
     }
-    let mut n: u32 = 0;
+    let mut n: u64 = 0;
     let mut i = 0;
     while i < text.len() {
         let b = text[i];
         if !is_digit(b) {
-            return Number::Nothing;
+            return None;
         }
-        n = n * 10 + (b - b'0') as u32;
-        if n > 65535 {
-            return Number::Nothing;
+        n = n * 10 + (b - b'0') as u64;
+        if n > most as u64 {
+            return None;
         }
         i += 1;
     }
-    Number::Of(n as u16)
+    Some(n as u32)
+}
+
+// A number from 0 to 65535.
+pub fn number_of(text: &[u8]) -> Number
+    ensures { result ≡ numberOf text.now }
+{
+    match number_up_to(text, 65535) {
+        None => Number::Nothing,
+        Some(n) => Number::Of(n as u16),
+    }
+}
+
+// A number of 32 bits.
+pub fn wide_number_of(text: &[u8]) -> Option<u32>
+    ensures { result ≡ wideNumberOf text.now }
+{
+    number_up_to(text, u32::MAX)
 }
 
 // The number itself, at most 32767.

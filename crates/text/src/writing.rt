@@ -1,9 +1,22 @@
-// Texts and numbers, written into a lent buffer behind what it has. What there is no room for is left out.
+// Bytes, texts, numbers and gains, written into a lent buffer behind what it has. What there is no room for is left out.
 ghost use Rattle.std.specs.Prelude.{◌≡◌};
-ghost use Rattle.text.specs.Buffer.{buffer as written, putText};
-ghost use Rattle.text.specs.Decimal.{decimal, signedDecimal};
+ghost use Rattle.text.specs.Buffer.{buffer as written, putByte, putText};
+ghost use Rattle.text.specs.Decimal.{decimal, gainText, signedDecimal};
 
+use values::Gain;
 use values::signed::word;
+
+// Writes a byte behind the first `count` bytes, and gives the new count.
+pub fn put_byte(buffer: &mut [u8], count: usize, byte: u8) -> usize
+    ensures { written buffer.new result ≡ putByte (written buffer.old count) byte }
+{
+    if count < buffer.len() {
+        buffer[count] = byte;
+        count + 1
+    } else {
+        count
+    }
+}
 
 // Writes a text behind the first `count` bytes, and gives the new count.
 pub fn put_text(buffer: &mut [u8], count: usize, text: &[u8]) -> usize
@@ -41,5 +54,15 @@ pub fn put_signed(buffer: &mut [u8], count: usize, z: i16) -> usize
     } else {
         let minus = put_text(buffer, count, b"-");
         put_number(buffer, minus, 65536 - w)
+    }
+}
+
+// `silence`, or the number of tenths.
+pub fn put_gain(buffer: &mut [u8], count: usize, gain: Gain) -> usize
+    ensures { written buffer.new result ≡ putText (written buffer.old count) (gainText gain) }
+{
+    match gain {
+        Gain::Silent => put_text(buffer, count, b"silence"),
+        Gain::Tenths(z) => put_signed(buffer, count, z),
     }
 }

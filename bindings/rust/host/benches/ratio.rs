@@ -7,6 +7,7 @@
 //!     cargo bench --bench ratio -- hostile            the hostile sheets, or those with any other text in their names
 //!     cargo bench --bench ratio -- growth             the growth of every family
 //!     cargo bench --bench ratio -- growth honest      the growth of the families with this text in their names
+//!     cargo bench --bench ratio -- factors            the gains of plain factors
 //!
 //! The honest sheets are lent examples/langs, where their names don't say another list.
 //!
@@ -14,6 +15,8 @@
 //! programs on the machine only ever add. Nothing is cleared between calls, so the buffer is warm.
 //! Each sheet has a process of its own, which is ended when a checker takes longer than the limit.
 
+#[path = "ratio/factors.rs"]
+mod factors;
 #[path = "ratio/growth.rs"]
 mod growth;
 #[path = "ratio/timer.rs"]
@@ -39,13 +42,16 @@ fn main() -> io::Result<()> {
     }
     let words: Vec<String> = env::args().skip(1).filter(|word| !word.starts_with('-')).collect();
     match words.split_first() {
-        Some((table, name)) if table == "growth" => growth::print_tables(&name.join(" ")),
-        Some(_) => print_table(&words.join(" ")),
+        Some((table, name)) if table == "growth" => growth::print_tables(&name.join(" "))?,
+        Some((table, [])) if table == "factors" => factors::print_table(),
+        Some(_) => print_table(&words.join(" "))?,
         None => {
             print_table("")?;
-            growth::print_tables("")
+            growth::print_tables("")?;
+            factors::print_table();
         }
     }
+    Ok(())
 }
 
 /// Prints a row for each sheet with the text in its name.

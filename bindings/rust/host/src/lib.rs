@@ -1,13 +1,15 @@
-//! The proved checker of emission sheets, and the proved listing of a programme's start, for
-//! players in Rust.
+//! The proved checker of emission sheets, the proved listing of a programme's start, and the proved
+//! gain of a plain factor, for players in Rust.
 //!
 //! The functions themselves are proved in `crates/host`; what stands here only declares
 //! them, lends them the bytes and reads the number they give. The declarations repeat
 //! `bindings/c/sheet.h` and aren't checked against the proved source.
 
+mod gain;
 mod listing;
 mod verdict;
 
+pub use gain::{FactorTooLarge, Gain};
 pub use listing::Refusal;
 pub use verdict::Verdict;
 
@@ -25,6 +27,10 @@ extern "C" {
         buffer: *mut u8,
         buffer_len: usize,
     ) -> i32;
+
+    /// The tenths of a dB, -32768 for silence, or 1,000,000 times the refusal's number.
+    #[link_name = "gain_of_factor"]
+    fn gain_number(millionths: u32) -> i32;
 }
 
 /// The verdict on a sheet with the list of language words that is lent beside it: any lengths, any
@@ -111,4 +117,31 @@ pub fn start_listing(
     };
     listing::of_answer(answer, bytes)
         .unwrap_or_else(|| panic!("sheet_start_listing gave {answer} for {bytes} bytes, no answer"))
+}
+
+/// The gain of a plain factor, which is given in millionths: the least tenth of a dB that is not
+/// below it, and silence for 0.
+///
+/// Every factor is answered: 1 to 1,000 give -600, 1,000,000 gives 0, 11,220,184 gives 210, and a
+/// factor above that is refused.
+///
+/// ```
+/// use host::{gain_of_factor, FactorTooLarge, Gain};
+///
+/// assert_eq!(gain_of_factor(0), Ok(Gain::Silent));
+/// assert_eq!(gain_of_factor(1_000), Ok(Gain::Tenths(-600)));
+/// assert_eq!(gain_of_factor(1_000_000), Ok(Gain::Tenths(0)));
+/// assert_eq!(gain_of_factor(1_000_001), Ok(Gain::Tenths(1)));
+/// assert_eq!(gain_of_factor(11_220_185), Err(FactorTooLarge));
+/// ```
+///
+/// # Panics
+///
+/// If the linked archive gives a number that is no answer, so isn't the proved one.
+#[inline]
+pub fn gain_of_factor(millionths: u32) -> Result<Gain, FactorTooLarge> {
+    // SAFETY: the call is given a number and follows no pointer.
+    let number = unsafe { gain_number(millionths) };
+    gain::of_number(number)
+        .unwrap_or_else(|| panic!("gain_of_factor gave {number} for {millionths}, no answer"))
 }

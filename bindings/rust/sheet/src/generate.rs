@@ -12,6 +12,8 @@ pub mod clauses;
 /// Small random sheets in which many lists overlap.
 pub mod crowded;
 mod damage;
+/// Factors, and lines of them.
+pub mod factors;
 /// Random sheets of which figures are told.
 pub mod figures;
 /// Honest sheets as large as they get.
@@ -26,6 +28,8 @@ pub mod random;
 pub mod scripts;
 /// The sheets that are kept as files.
 pub mod stored;
+/// The lines of factors that are kept as a file.
+pub mod stored_factors;
 /// The sheets that are kept as files for the figures.
 pub mod stored_figures;
 /// The scripts of listener calls that are kept as files.

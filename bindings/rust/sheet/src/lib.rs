@@ -1,13 +1,13 @@
 //! The emission sheet: a second checker and listener, and sheets to try checkers on.
 //!
-//! Written from document 01 (`01-scope.md`) and its readings (`READINGS.md`) alone, the figures
-//! and the language words from L1 and L2 of document 02 (`02-change-requests.md`) and their
-//! readings (`REQUESTS.md`) besides.
+//! Written from document 01 (`01-scope.md`) and its readings (`READINGS.md`) alone, the figures,
+//! the language words and the gains of plain factors from L1 to L3 of document 02
+//! (`02-change-requests.md`) and their readings (`REQUESTS.md`) besides.
 
 /// The second checker and the second listener.
 pub mod second;
 
-/// The second checker written for speed.
+/// The second checker, and the gain of a plain factor, written for speed.
 pub mod fast;
 
 /// A builder of sheets from records given as vectors.
@@ -21,3 +21,9 @@ pub mod demand_3;
 
 /// Scripts of listener calls.
 pub mod script;
+
+/// The words and numbers of a line.
+pub mod lines;
+
+/// Lines of factors, and their gains.
+pub mod factor_lines;

@@ -30,6 +30,7 @@ mod player;
 
 pub use answers::{read_answers, Said};
 pub use lends::Lends;
+pub(crate) use line::shown_gain;
 pub use line::Line;
 pub use met::Met;
 pub use player::{answers, bench_answers, lines, Player};

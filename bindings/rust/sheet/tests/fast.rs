@@ -1,9 +1,11 @@
-//! The fast checker against the plain one: the same verdict on every sheet.
+//! The fast checker against the plain one: the same verdict on every sheet; and the fast gain of a
+//! factor against the plain one.
 
 use std::fs;
 use std::path::Path;
 
 use sheet::generate::crowded::CrowdedSheets;
+use sheet::generate::factors::around_powers_of_two;
 use sheet::generate::languages::{each, LanguageSheets};
 use sheet::generate::{fixed_sheets, hostile, Generated, RandomSheets};
 use sheet::second::Verdict;
@@ -88,5 +90,17 @@ fn rule(verdict: Verdict) -> usize {
     match verdict {
         Verdict::Accepted => 0,
         Verdict::Broken { rule, .. } => usize::from(rule),
+    }
+}
+
+/// Factors that are all compared, some of them beyond the largest.
+const FACTORS: u32 = 11_230_000;
+
+#[test]
+fn the_fast_gain_of_a_factor_is_the_plain_one() {
+    for factor in (0..=FACTORS).chain(around_powers_of_two()) {
+        let [fast, plain] = [fast::factors::gain_of_factor, second::factors::gain_of_factor]
+            .map(|gain| gain(factor));
+        assert_eq!(fast, plain, "{factor}");
     }
 }

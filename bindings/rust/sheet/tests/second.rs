@@ -51,3 +51,11 @@ mod stored_figures;
 /// Lists of language words.
 #[path = "second/languages.rs"]
 mod languages;
+
+/// Gains of plain factors, and lines of them.
+#[path = "second/factors.rs"]
+mod factors;
+
+/// The lines of factors kept as a file.
+#[path = "second/stored_factors.rs"]
+mod stored_factors;

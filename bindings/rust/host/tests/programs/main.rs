@@ -3,18 +3,14 @@
 //! `sheetfigures`, with all sorts of files `langs` and at a user's slips. A test fails at the first
 //! difference and says it.
 
-#[path = "../shared/built.rs"]
-mod built;
-#[path = "../shared/difference.rs"]
-mod difference;
-#[path = "../shared/folder.rs"]
-mod folder;
-mod input;
 mod langs;
-mod run;
+#[path = "../shared/running.rs"]
+mod running;
 mod scripts;
 mod sheets;
 mod slips;
 mod stored;
 #[path = "../shared/verdicts.rs"]
 mod verdicts;
+
+use running::{folder, input, outputs, run};

@@ -1,9 +1,7 @@
 //! What the programs say to a user's slips: one line on standard error, and nothing else.
 
-use std::fs::File;
-use std::process::{Command, Stdio};
-
 use crate::input;
+use crate::outputs::{full, with_closed_output};
 use crate::run::{program, run, run_into};
 use crate::stored::sheet_a;
 
@@ -83,16 +81,4 @@ fn listen_with_a_full_output() {
     run.must_complain("standard output: ", "listen >/dev/full");
     assert!(!run.input_taken, "listen >/dev/full: reads on, all of {MANY_LINES} lines");
     println!("listen with a full output: 1 line, and the program ends");
-}
-
-/// A file on which every write fails.
-fn full() -> Stdio {
-    File::create("/dev/full").expect("there is /dev/full").into()
-}
-
-/// The program, without arguments, as a shell starts it with its standard output closed.
-fn with_closed_output(program: &Command) -> Command {
-    let mut shell = Command::new("sh");
-    shell.args(["-c", "exec \"$0\" >&-"]).arg(program.get_program());
-    shell
 }

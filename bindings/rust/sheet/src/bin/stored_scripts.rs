@@ -3,17 +3,13 @@
 //! listener answers in `stdout`.
 
 use std::path::Path;
-use std::{env, fs, io, process};
+use std::{fs, io};
 
+use sheet::generate::stored::given_folder;
 use sheet::generate::stored_scripts::{arguments, expected, list_files, scripts, sheet_files};
 
 fn main() -> io::Result<()> {
-    let folders: Vec<_> = env::args_os().skip(1).collect();
-    let [folder] = folders.as_slice() else {
-        eprintln!("usage: stored_scripts FOLDER");
-        process::exit(2);
-    };
-    write(Path::new(folder))
+    write(&given_folder("stored_scripts"))
 }
 
 fn write(folder: &Path) -> io::Result<()> {

@@ -5,7 +5,11 @@
 //! lie on the stack where it is small. Where many records share long lists, so that the
 //! lists have more entries together than section 6, questions about lists are answered
 //! from tables over section 6 (`runs`) instead of by walking.
+//!
+//! The gain of a plain factor stands apart from the checker, in `factors`.
 
+/// Gains of plain factors.
+pub mod factors;
 mod groups;
 mod languages;
 mod limits;

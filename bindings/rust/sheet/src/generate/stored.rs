@@ -2,8 +2,8 @@
 //! accepted sheets that look broken; and the lists lent beside them.
 
 use std::collections::HashSet;
-use std::path::Path;
-use std::{fs, io};
+use std::path::{Path, PathBuf};
+use std::{env, fs, io, process};
 
 use super::clauses::{common_list, Lent};
 use super::languages::lists;
@@ -94,6 +94,17 @@ pub fn write(folder: &Path, sheets: &[Generated], expected: String) -> io::Resul
     files(sheets, expected)
         .into_iter()
         .try_for_each(|(name, bytes)| fs::write(folder.join(name), bytes))
+}
+
+/// The folder that a program of this package is given, its only argument; without it the program
+/// says its usage and ends.
+pub fn given_folder(program: &str) -> PathBuf {
+    let arguments: Vec<_> = env::args_os().skip(1).collect();
+    let [folder] = arguments.as_slice() else {
+        eprintln!("usage: {program} FOLDER");
+        process::exit(2);
+    };
+    folder.into()
 }
 
 /// What `checktest` has to print on the sheets.

@@ -1,6 +1,7 @@
 //! Reads the answers to a script, whoever gave them.
 
-use super::line::{number, read_object};
+use super::line::read_object;
+use crate::lines::number;
 use crate::second::listener::State;
 
 /// What a listener said to a line of a script.

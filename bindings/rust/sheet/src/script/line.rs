@@ -1,15 +1,12 @@
 //! The lines of a script.
 
 use std::fmt;
-use std::str::FromStr;
 
 use super::{MOST_WORDS, SILENCE};
 use crate::generate::calls::Call;
+use crate::lines::{number, words};
 use crate::second::listener::{ObjectState, State, OBJECTS};
 use crate::second::values::Gain;
-
-/// The bytes of the longest line that has a meaning.
-const LONGEST_LINE: usize = 256;
 
 /// A line of a script that has a meaning.
 #[derive(Clone, Debug, PartialEq, Eq)]
@@ -35,10 +32,7 @@ pub enum Line {
 impl Line {
     /// The line that a text stands for, if it stands for one.
     pub fn read(text: &str) -> Option<Line> {
-        let said = Some(text).filter(|text| text.len() <= LONGEST_LINE)?;
-        let said = said.strip_suffix('\r').unwrap_or(said);
-        let words: Vec<&str> = said.split([' ', '\t']).filter(|word| !word.is_empty()).collect();
-        Some(match words[..] {
+        Some(match words(text)?[..] {
             ["programme", programme] => Line::Call(Call::ChooseProgramme(number(programme)?)),
             ["object", object] => Line::Call(Call::ChooseObject(number(object)?)),
             ["gain", object, gain] => Line::Call(Call::SetGain(number(object)?, read_gain(gain)?)),
@@ -112,12 +106,6 @@ impl fmt::Display for Line {
     }
 }
 
-/// A number in base ten: digits, leading zeros among them, with a minus before them where the type
-/// has negative numbers.
-pub(super) fn number<T: FromStr>(text: &str) -> Option<T> {
-    text.parse().ok().filter(|_| !text.starts_with('+'))
-}
-
 /// The words of a list, if there aren't too many.
 fn language_words(words: &[&str]) -> Option<Vec<u16>> {
     let few = Some(words).filter(|words| words.len() <= MOST_WORDS)?;
@@ -143,7 +131,7 @@ pub(super) fn read_object(activity: &str, gain: &str, offset: &str) -> Option<Ob
 }
 
 /// A gain as scripts and answers have it.
-pub(super) fn shown_gain(gain: Gain) -> String {
+pub(crate) fn shown_gain(gain: Gain) -> String {
     match gain {
         Gain::Silent => SILENCE.to_string(),
         Gain::Tenths(tenths) => tenths.to_string(),

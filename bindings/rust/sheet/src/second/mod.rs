@@ -2,9 +2,11 @@
 //! rule in checking order.
 //!
 //! As plain as possible: no record is decoded ahead, every rule reads the words of the
-//! sheet again, and every sentence quoted in these modules, but for `figures`, `languages` and
-//! rule 33, is document 01's.
+//! sheet again, and every sentence quoted in these modules, but for `factors`, `figures`,
+//! `languages` and rule 33, is document 01's.
 
+/// Gains of plain factors.
+pub mod factors;
 /// The figures that clashed.
 pub mod figures;
 /// Language words.
@@ -12,6 +14,7 @@ pub mod languages;
 pub(crate) mod limits;
 /// The listener above the checker.
 pub mod listener;
+pub(crate) mod naturals;
 /// The rules 1 to 24, and 33 before them.
 pub mod rules;
 pub(crate) mod terms;

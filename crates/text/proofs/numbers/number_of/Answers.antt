@@ -1,35 +1,14 @@
-use mathlib.Core.Path.{◌≡◌, sym, ◌∙◌}
+-- By whether a number was read. Assumes nothing.
+use mathlib.Core.Path.{sym, ◌∙◌}
 use native.Mathlib.Omega.{arith}
-use lib.ListN.{length}
-use Rattle.text.proofs.NumberLaws as laws
+use Rattle.text.proofs.NumberLaws.{number-small, read-none, read-some}
 use Rattle.text.proofs.numbers.number_of.Goals as goal
 
-pub returns-then-text-eq0 : goal.returns-then-text-eq0
-returns-then-text-eq0 c = laws.empty _ c.if-text-eq0.true
+pub overflow_cast-result : goal.overflow_cast-result
+overflow_cast-result c = let l = number-small 65535 c.in-Some.n c.args.text.now (sym c.number_up_to.ensures ∙ c.in-Some.is) in omega (arith, l)
 
-pub returns-then-not-is_digit : goal.returns-then-not-is_digit
-returns-then-not-is_digit c =
-    let inv = c.loop-i.invariant in laws.stray _ _ _ c.loop-i-test.true inv.3 inv.4 (sym c.is_digit.ensures ∙ c.if-not-is_digit.true) inv.1
+pub returns-in-None : goal.returns-in-None
+returns-in-None c = read-none c.args.text.now (sym c.number_up_to.ensures ∙ c.in-None.is)
 
-pub overflow_sub-n : goal.overflow_sub-n
-overflow_sub-n c = let r = laws.digit-range _ (sym c.is_digit.ensures ∙ c.if-not-is_digit.false) in omega arith
-
-pub overflow_cast-n : goal.overflow_cast-n
-overflow_cast-n c = let r = laws.digit-range _ (sym c.is_digit.ensures ∙ c.if-not-is_digit.false) in omega arith
-
-pub overflow_add-n : goal.overflow_add-n
-overflow_add-n c = let r = laws.digit-range _ (sym c.is_digit.ensures ∙ c.if-not-is_digit.false) in omega arith
-
-pub returns-then-n-gt65535 : goal.returns-then-n-gt65535
-returns-then-n-gt65535 c =
-    let inv = c.loop-i.invariant in laws.above _ _ _ c.loop-i-test.true inv.3 inv.4 c.if-n-gt65535.true
-
-pub loop-i-preserved : goal.loop-i-preserved
-loop-i-preserved c =
-    let inv = c.loop-i.invariant in let h = c.loop-i-test.true in let e = sym c.is_digit.ensures ∙ c.if-not-is_digit.false in
-    (omega arith, inv.1, c.if-n-gt65535.false, laws.valued _ _ _ h inv.3 inv.4, laws.judged _ _ _ h inv.3 inv.4 e)
-
-pub returns : goal.returns
-returns c =
-    let inv = c.loop-i.invariant in let e : c.loop-i.i ≡ length c.args.text.now = omega arith in
-    laws.finished _ _ _ e inv.1 inv.2 inv.3 inv.4
+pub returns-in-Some : goal.returns-in-Some
+returns-in-Some c = read-some c.in-Some.n c.args.text.now (sym c.number_up_to.ensures ∙ c.in-Some.is)

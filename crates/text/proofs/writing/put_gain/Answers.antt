@@ -2,9 +2,9 @@
 use mathlib.Core.Path.{◌≡◌}
 use mir.Syntax.{w16}
 use mir.Val.{to_z, of_z}
-use Rattle.console.specs.Answers.{gainText}
+use Rattle.text.specs.Decimal.{gainText}
 use borrow.Author.Rules.{rules}
-use Rattle.console.proofs.answers.put_gain.Goals as goal
+use Rattle.text.proofs.writing.put_gain.Goals as goal
 
 pub returns-in-Silent : goal.returns-in-Silent
 unfolding gainText

@@ -6,9 +6,9 @@ use std::process::{Child, Command, ExitStatus, Stdio};
 use std::thread;
 use std::time::{Duration, Instant};
 
-use crate::built;
-use crate::difference::first_difference;
-use crate::input::Input;
+use super::built;
+use super::difference::first_difference;
+use super::input::Input;
 
 /// How long a program may run.
 const DEADLINE: Duration = Duration::from_secs(60);
@@ -17,7 +17,8 @@ const PAUSE: Duration = Duration::from_micros(200);
 
 /// What a run of a program came to.
 pub struct Run {
-    status: ExitStatus,
+    /// How the program ended.
+    pub status: ExitStatus,
     time: Duration,
     output: String,
     errors: String,

@@ -1,0 +1,5 @@
+pub mod LengthLaws
+pub mod ReadingLaws
+pub mod KeptLaws
+pub mod InputLaws
+pub mod Theorems

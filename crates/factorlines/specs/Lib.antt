@@ -1,0 +1,2 @@
+pub mod FactorLines
+pub mod Reading

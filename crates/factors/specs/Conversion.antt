@@ -1,0 +1,31 @@
+-- The gain of a factor. Document 02, L3: "Some consoles export linear gain, in millionths. A converter gives the least tenth of a dB that is
+-- not below it: 0 is silence, 1 to 1,000 give -600, 1,000,000 gives 0, 1,000,001 gives 1. [..] Errors: 34, the factor is above 11,220,184."
+-- That the tenth is the least one in decibels too, and a legal gain, is said in Promises. Assumes nothing.
+use Rattle.std.specs.Prelude.{ℕ, cond, eqb, leb, ℤ}
+use Rattle.std.specs.List.{position_or_len}
+use Rattle.values.specs.declared.Gain.{Gain}
+use Rattle.values.specs.declared.Gain.TheVariants.{Silent, Tenths}
+use Rattle.factors.specs.declared.Conversion.{Conversion}
+use Rattle.factors.specs.declared.Conversion.TheVariants.{Gives, FactorTooHigh}
+use Rattle.factors.specs.Table.{entries}
+use Rattle.factors.specs.Decibels.{tenthAt}
+
+-- "11,220,184", the last entry
+abbrev pub mostFactor : ℕ
+mostFactor = 11220184
+
+-- the number of the refusal: "34, the factor is above 11,220,184"
+abbrev pub factorTooHigh : ℕ
+factorTooHigh = 34
+
+-- "the least tenth of a dB that is not below it": that of the first entry that is not below the factor
+unfoldable pub leastTenth : ℕ → ℤ
+leastTenth f = tenthAt (position_or_len (λ n. leb f n) entries)
+
+-- "0 is silence"
+unfoldable pub factorGain : ℕ → Gain
+factorGain f = cond (eqb f 0) Silent (Tenths (leastTenth f))
+
+-- the answer to a factor of f millionths
+unfoldable pub conversion : ℕ → Conversion
+conversion f = cond (leb f mostFactor) (Gives (factorGain f)) FactorTooHigh

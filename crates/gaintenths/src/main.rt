@@ -1,0 +1,47 @@
+// Reads factors in millionths from standard input, one a line, and answers each with its gain: `silence`, the tenths of a dB as in `-600`,
+// `refused 34` where the factor is above 11,220,184, or `?` where the line is no number of 32 bits.
+#![tactic(auto)]
+
+use factorlines::reading::{ANSWERS_ROOM, READ_ROOM, answer_last, answer_read};
+use std::io::{Input, Read};
+use text::lines::{ROOM, part};
+use text::output::{say_failure, write_output};
+use text::reading::arg_count;
+
+// Answers until the input ends, a read fails or an answer can't be written. A proved loop has to end, and nothing says that the input
+// does: so this one counts its turns, to a number that no run comes to.
+fn answer_all<R: Input + Print + Eprint>(rt: &R) {
+    let mut input = rt.reader();
+    let mut read = [0u8; READ_ROOM];
+    let mut line = [0u8; ROOM];
+    let mut answers = [0u8; ANSWERS_ROOM];
+    let mut kept = 0;
+    for _ in 0..u64::MAX {
+        match input.read(&mut read) {
+            Ok(0) => {
+                let n = answer_last(&line, kept, &mut answers);
+                write_output(rt, part(&answers, 0, n));
+                return;
+            }
+            Ok(n) => {
+                let next = answer_read(&mut line, kept, &read, n, &mut answers);
+                if !write_output(rt, part(&answers, 0, next.answers)) {
+                    return;
+                }
+                kept = next.line;
+            }
+            Err(error) => {
+                say_failure(rt, "standard input", error);
+                return;
+            }
+        }
+    }
+}
+
+fn main(rt: HostRuntime) {
+    if arg_count(&rt) > 1 {
+        let _ = eprintln!(rt; "usage: gaintenths <FILE");
+        return;
+    }
+    answer_all(&rt);
+}

@@ -1,0 +1,7 @@
+-- It is the number up to the largest of 32 bits. Assumes nothing.
+use Rattle.text.specs.Numbers.{wideNumberOf}
+use Rattle.text.proofs.numbers.wide_number_of.Goals as goal
+
+pub returns : goal.returns
+unfolding wideNumberOf
+returns c = c.number_up_to.ensures
