@@ -10,7 +10,7 @@ use lib.ListN.{length, length-append, length-set, take}
 use lib.Seq.{take-suc-set, length-take-le}
 use Rattle.text.specs.Lines.{part, said}
 use Rattle.text.specs.Buffer.{Buffer, buffer, putByte}
-use Rattle.factorlines.specs.FactorLines.{answerLine, factorOf, factorLine}
+use Rattle.factorlines.specs.FactorLines.{factorAnswer, factorOf, factorLine}
 use Rattle.factorlines.specs.Reading.{kept}
 
 -- the buffer has the bytes l of a line, which are at most 256, or the line is longer, and so is what the buffer has
@@ -93,4 +93,4 @@ count-some b x l h = ⊎_elim (λ s. let y : Short b (x ∷ l) = s in omega (ari
 -- the answer to it
 pub kept-answer : (b : Buffer) (l : List ℕ) → Holds b l → factorLine (kept b) ≡ factorLine l
 unfolding factorLine
-kept-answer b l h = ap (λ s. answerLine (factorOf s)) (kept-says b l h)
+kept-answer b l h = ap (λ s. factorAnswer (factorOf s)) (kept-says b l h)

@@ -16,7 +16,7 @@ use Rattle.text.specs.Decimal.{decimal, spelled}
 use Rattle.text.specs.Lines.{part, said}
 use Rattle.text.specs.Buffer.{buffer, putByte}
 use Rattle.text.proofs.DecimalLaws.{gain-fits}
-use Rattle.factorlines.specs.FactorLines.{conversionText, answerLine, factorOf, factorLine}
+use Rattle.factorlines.specs.FactorLines.{conversionText, factorAnswer, factorOf, factorLine}
 use Rattle.factorlines.specs.Reading.{Reading, reading, kept, afterByte, afterRead}
 
 conversion-fits : (c : Conversion) → length (conversionText c) ≤ 21
@@ -24,8 +24,8 @@ unfolding conversionText decimal spelled
 conversion-fits (Gives g) = gain-fits g
 conversion-fits FactorTooHigh = omega arith
 
-answer-fits : (f : Option ℕ) → length (answerLine f) ≤ 22
-unfolding answerLine
+answer-fits : (f : Option ℕ) → length (factorAnswer f) ≤ 22
+unfolding factorAnswer
 answer-fits None = omega arith
 answer-fits (Some f) = simp length-append (omega (arith, conversion-fits (conversion f)))
 

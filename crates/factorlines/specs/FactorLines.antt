@@ -22,13 +22,13 @@ conversionText (Gives g) = gainText g
 conversionText FactorTooHigh = ascii "refused " ++ decimal factorTooHigh
 
 -- the answer for a factor, and for none
-unfoldable pub answerLine : Option ℕ → List ℕ
-answerLine None = ascii "?\n"
-answerLine (Some f) = conversionText (conversion f) ++ ascii "\n"
+unfoldable pub factorAnswer : Option ℕ → List ℕ
+factorAnswer None = ascii "?\n"
+factorAnswer (Some f) = conversionText (conversion f) ++ ascii "\n"
 
 -- the answer to a line
 unfoldable pub factorLine : List ℕ → List ℕ
-factorLine line = answerLine (factorOf (said line))
+factorLine line = factorAnswer (factorOf (said line))
 
 -- what the program writes for an input
 unfoldable pub factorLines : List ℕ → List ℕ
@@ -38,5 +38,5 @@ factorLines input = join (map factorLine (lines input))
 pub factor-lines :
     factorLines (ascii "0\n1\n 1000000 \n1000001\r\n\n-1\n1 2\n011220184\n11220185\n4294967295\n4294967296\n1000")
     ≡ ascii "silence\n-600\n0\n1\n?\n?\n?\n210\nrefused 34\nrefused 34\n?\n-600\n"
-unfolding factorLines factorLine answerLine conversionText factorOf entries tenthAt leastTenth factorGain conversion isDigit digits value isNumber wideNumberOf spelled decimal signedDecimal gainText withoutReturn said isBlank fieldsFrom fields linesFrom lines join
+unfolding factorLines factorLine factorAnswer conversionText factorOf entries tenthAt leastTenth factorGain conversion isDigit digits value isNumber wideNumberOf spelled decimal signedDecimal gainText withoutReturn said isBlank fieldsFrom fields linesFrom lines join
 factor-lines = refl

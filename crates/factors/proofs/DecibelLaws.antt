@@ -17,7 +17,7 @@ use Rattle.factors.specs.Decibels.{exponent, isWithin, isLargest, tenthAt}
 use Rattle.factors.specs.Conversion.{mostFactor, leastTenth}
 use Rattle.factors.specs.Promises.{IsTenth, Within, Above, EntryLargest, LeastTenth}
 use Rattle.factors.proofs.TableLaws.{all-there, entry-largest}
-use Rattle.factors.proofs.TenthLaws.{exponent-at, tenth-legal, entry-at, place-of, earlier}
+use Rattle.factors.proofs.TenthLaws.{exponent-at, tenth-legal, entry-at, tenth-place, earlier}
 
 -- a lower factor is within what a higher one is, and a higher one is above what a lower one is
 lower : (m n : ℕ) (d : ℤ) → m ≤ n → Within n d → Within m d
@@ -82,7 +82,7 @@ module _ (f : ℕ) (most : f ≤ mostFactor) where
   -- of a lower tenth
   before : (e : ℤ) → IsTenth e → lt_z e (leastTenth f) ≡ true → (k : ℕ) × ((k < placeOf f) × (tenthAt k ≡ e))
   unfolding leastTenth
-  before e t h = let p = place-of e t in (p.0, (earlier p.0 (placeOf f) (rw p.1.1 h), p.1.1))
+  before e t h = let p = tenth-place e t in (p.0, (earlier p.0 (placeOf f) (rw p.1.1 h), p.1.1))
 
   one-less : lt_z (negsuc 599) (leastTenth f) ≡ true → 10 ^ (exponent (leastTenth f) - 1) < f ^ 200 * 10 ^ 600
   unfolding leastTenth tenthAt

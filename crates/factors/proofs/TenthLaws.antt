@@ -63,13 +63,13 @@ entry-at k =
     (λ h. let e : 600 + (k - 600) ≡ k = omega arith in rw e refl)
 
 -- and each tenth has its place
-pub place-of : (d : ℤ) → IsTenth d → (k : ℕ) × ((k < 811) × (tenthAt k ≡ d))
+pub tenth-place : (d : ℤ) → IsTenth d → (k : ℕ) × ((k < 811) × (tenthAt k ≡ d))
 unfolding legalGain
-place-of (pos n) h =
+tenth-place (pos n) h =
     let l : n ≤ 210 = leb-true n 210 h in
     let e : 600 + n - 600 ≡ n = omega arith in
     (600 + n, (omega arith, rw (from-nought (600 + n) (omega arith), e) refl))
-place-of (negsuc n) h =
+tenth-place (negsuc n) h =
     let l : n ≤ 599 = leb-true n 599 (and_parts _ _ h).0 in
     let e : 599 - (599 - n) ≡ n = omega arith in
     (599 - n, (omega arith, rw (below-nought (599 - n) (omega arith), e) refl))

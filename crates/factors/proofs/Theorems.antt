@@ -17,7 +17,7 @@ use Rattle.factors.specs.Conversion.{mostFactor, leastTenth, factorGain, convers
 use Rattle.factors.specs.Cases.{Case, cases, cases-hold}
 use Rattle.factors.specs.Promises.{IsTenth, entryOf, EntryLargest, LeastTenth}
 use Rattle.factors.proofs.TableLaws.{rule-kept, all-there, entries-rise}
-use Rattle.factors.proofs.TenthLaws.{entry-at, place-of, earlier}
+use Rattle.factors.proofs.TenthLaws.{entry-at, tenth-place, earlier}
 use Rattle.factors.proofs.DecibelLaws.{tenth-largest, least-tenth}
 use Rattle.factors.proofs.ConversionLaws.{answered, refused, tenths, lowest-tenth, gain-legal, no-lower, least-once}
 
@@ -31,12 +31,12 @@ table-passes-its-test = rule-kept
 
 -- "for each tenth d from -600 to 210 the largest n where n to the power 200, times 10 to the power 600, is at most 10 to the power (1800 + d)"
 pub entries-are-the-largest : (d : ℤ) → IsTenth d → EntryLargest d
-entries-are-the-largest d t = let p = place-of d t in rw (← p.1.1) (tenth-largest p.0 p.1.0)
+entries-are-the-largest d t = let p = tenth-place d t in rw (← p.1.1) (tenth-largest p.0 p.1.0)
 
 -- the entries rise
 pub entries-rise-by-tenths : (d e : ℤ) → IsTenth d → IsTenth e → lt_z d e ≡ true → entryOf d < entryOf e
 entries-rise-by-tenths d e t u h =
-    let p = place-of d t in let q = place-of e u in
+    let p = tenth-place d t in let q = tenth-place e u in
     let l : p.0 < q.0 = earlier p.0 q.0 (rw (p.1.1, q.1.1) h) in
     rw (← p.1.1, ← q.1.1, entry-at p.0, entry-at q.0) (entries-rise p.0 q.0 l (rw all-there q.1.0))
 
