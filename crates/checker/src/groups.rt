@@ -3,9 +3,9 @@ ghost use Rattle.std.specs.Prelude.{ℕ, ◌<◌, ◌≤◌, false, true, ◌≡
 ghost use Rattle.checker.specs.steps.Kept.{KeptBelow};
 ghost use Rattle.grouping.specs.steps.Groups.{GroupsApart, OneSpan};
 ghost use Rattle.profile.specs.Rules.{rule21};
-ghost use Rattle.sheet.specs.Fields.{complementList, objects, programmes};
+ghost use Rattle.sheet.specs.Fields.{complement_list, objects, programmes};
 ghost use Rattle.sheet.specs.Layout.{count, number};
-ghost use Rattle.sheet.specs.Words.{sheetOf};
+ghost use Rattle.sheet.specs.Words.{sheet_of};
 
 use grouping::Wanted;
 use grouping::programmes::kept_from;
@@ -18,7 +18,7 @@ use tables::reads::all_once;
 
 // Whether no group has more than two members. Then rule 21 can't be broken: of two members one or all are included.
 fn groups_of_two(s: &[u8]) -> bool
-    ensures { result ≡ true → (l : ℕ) → l < count (sheetOf s.now) objects → number (sheetOf s.now) objects l complementList ≤ 1 }
+    ensures { result ≡ true → (l : ℕ) → l < count (sheet_of s.now) objects → number (sheet_of s.now) objects l complement_list ≤ 1 }
 {
     let n = count(s, OBJECTS);
     let mut l: u16 = 0;
@@ -33,7 +33,7 @@ fn groups_of_two(s: &[u8]) -> bool
 
 // Whether each value set can be seen to be in one span. No sheet has more than 4,678.
 fn sets_once(s: &[u8]) -> bool
-    ensures { result ≡ true → OneSpan (sheetOf s.now) }
+    ensures { result ≡ true → OneSpan (sheet_of s.now) }
 {
     let mut spanned: [u16; 4680] = [0; 4680];
     count_namings(s, Naming::SetSpans, &mut spanned);
@@ -42,7 +42,7 @@ fn sets_once(s: &[u8]) -> bool
 
 // How many programmes from the first on can be seen to keep rule 21, where those before `from` do. No sheet has more than 2,046 objects.
 pub fn grouped_programmes(s: &[u8], from: u16) -> u16
-    ensures { KeptBelow (sheetOf s.now) from → GroupsApart (sheetOf s.now) → (p : ℕ) → p < result → rule21 (sheetOf s.now) programmes p ≡ false }
+    ensures { KeptBelow (sheet_of s.now) from → GroupsApart (sheet_of s.now) → (p : ℕ) → p < result → rule21 (sheet_of s.now) programmes p ≡ false }
 {
     let n = count(s, PROGRAMMES);
     if n <= from {
@@ -78,7 +78,7 @@ pub fn grouped_programmes(s: &[u8], from: u16) -> u16
 // How many can be seen to keep both rules, in one pass for the two. The leaders serve to find sets that are alike; then their table is one
 // of those that the pass writes.
 pub fn kept_programmes(s: &[u8]) -> u16
-    ensures { GroupsApart (sheetOf s.now) → KeptBelow (sheetOf s.now) result }
+    ensures { GroupsApart (sheet_of s.now) → KeptBelow (sheet_of s.now) result }
 {
     let m = count(s, OBJECTS) as usize;
     if 2048 < m {

@@ -1,7 +1,7 @@
 // Which tables a rule is lent, and filling them.
 ghost use Rattle.std.specs.Prelude.{length, ◌≡◌};
-ghost use Rattle.checker.specs.steps.Tables.{Right, firstTable, secondTable};
-ghost use Rattle.sheet.specs.Words.{sheetOf};
+ghost use Rattle.checker.specs.steps.Tables.{Right, first_table, second_table};
+ghost use Rattle.sheet.specs.Words.{sheet_of};
 ghost use Rattle.tables.specs.steps.Marks.{Standing};
 
 use crate::Table;
@@ -16,7 +16,7 @@ use tables::marks::{count_namings, first_namers};
 
 // The first table that a rule is lent for the records of a section.
 pub fn first_table(rule: u8, section: u8) -> Table
-    ensures { result ≡ firstTable rule section }
+    ensures { result ≡ first_table rule section }
 {
     match rule {
         5 => Table::Lacking(first_target(section)),
@@ -46,7 +46,7 @@ pub fn first_table(rule: u8, section: u8) -> Table
 
 // The second one.
 pub fn second_table(rule: u8, section: u8) -> Table
-    ensures { result ≡ secondTable rule section }
+    ensures { result ≡ second_table rule section }
 {
     match rule {
         5 => Table::Lacking(second_target(section)),
@@ -61,7 +61,7 @@ pub fn second_table(rule: u8, section: u8) -> Table
 
 // Fills a table of noughts.
 pub fn fill_table(s: &[u8], langs: &Languages, which: Table, table: &mut [u16])
-    ensures { (length table.new ≡ length table.old) × (Standing (λ x. 0) table.old → Right (sheetOf s.now) langs.now which table.new) }
+    ensures { (length table.new ≡ length table.old) × (Standing (λ x. 0) table.old → Right (sheet_of s.now) langs.now which table.new) }
 {
     match which {
         Table::Nothing => {}

@@ -2,12 +2,12 @@
 ghost use Rattle.std.specs.Prelude.{length, ◌≡◌};
 ghost use Rattle.checker.specs.Checked.{checked};
 ghost use Rattle.checker.specs.steps.Kept.{KeptBelow, Unbroken};
-ghost use Rattle.checker.specs.steps.Rows.{KindsFrom, ruleVerdict};
-ghost use Rattle.checker.specs.steps.Tables.{Right, firstTable, secondTable};
+ghost use Rattle.checker.specs.steps.Rows.{KindsFrom, rule_verdict};
+ghost use Rattle.checker.specs.steps.Tables.{Right, first_table, second_table};
 ghost use Rattle.grouping.specs.steps.Groups.{GroupsApart};
 ghost use Rattle.profile.specs.Counting.{lowest};
 ghost use Rattle.profile.specs.Verdict.{breaks, verdict};
-ghost use Rattle.sheet.specs.Words.{sheetOf};
+ghost use Rattle.sheet.specs.Words.{sheet_of};
 
 use crate::RuleRow;
 use crate::groups::{grouped_programmes, kept_programmes};
@@ -35,8 +35,8 @@ fn broken_below(
     from: u16,
     n: u16,
 ) -> u16
-    requires { Unbroken (sheetOf s.now) langs.now rule section from }
-    ensures { (length marks.new ≡ length marks.old) × (Right (sheetOf s.now) langs.now (firstTable rule section) first.now → Right (sheetOf s.now) langs.now (secondTable rule section) second.now → result ≡ lowest (breaks (sheetOf s.now) langs.now rule section) n) }
+    requires { Unbroken (sheet_of s.now) langs.now rule section from }
+    ensures { (length marks.new ≡ length marks.old) × (Right (sheet_of s.now) langs.now (first_table rule section) first.now → Right (sheet_of s.now) langs.now (second_table rule section) second.now → result ≡ lowest (breaks (sheet_of s.now) langs.now rule section) n) }
 {
     let mut k: u16 = from;
     while k < n {
@@ -50,7 +50,7 @@ fn broken_below(
 
 // The same with empty tables: each relation is found by its own search.
 fn plainly(s: &[u8], langs: &Languages, rule: u8, section: u8, n: u16) -> u16
-    ensures { result ≡ lowest (breaks (sheetOf s.now) langs.now rule section) n }
+    ensures { result ≡ lowest (breaks (sheet_of s.now) langs.now rule section) n }
 {
     let none: [u16; 1] = [0];
     let mut marks: [u16; 1] = [0];
@@ -61,8 +61,8 @@ fn plainly(s: &[u8], langs: &Languages, rule: u8, section: u8, n: u16) -> u16
 // With tables over the records of a section, where the records before `from` keep the rule. No sheet has more contents, or objects, than
 // a table has words.
 fn by_tables(s: &[u8], langs: &Languages, rule: u8, section: u8, from: u16, n: u16) -> u16
-    requires { Unbroken (sheetOf s.now) langs.now rule section from }
-    ensures { result ≡ lowest (breaks (sheetOf s.now) langs.now rule section) n }
+    requires { Unbroken (sheet_of s.now) langs.now rule section from }
+    ensures { result ≡ lowest (breaks (sheet_of s.now) langs.now rule section) n }
 {
     if n <= from {
         return n;
@@ -87,7 +87,7 @@ fn crowded(s: &[u8], section: u8) -> bool {
 
 // With tables over the references, where the section's lists have many entries. No sheet has more references.
 fn by_lists(s: &[u8], langs: &Languages, rule: u8, section: u8, n: u16) -> u16
-    ensures { result ≡ lowest (breaks (sheetOf s.now) langs.now rule section) n }
+    ensures { result ≡ lowest (breaks (sheet_of s.now) langs.now rule section) n }
 {
     if !crowded(s, section) {
         return plainly(s, langs, rule, section, n);
@@ -114,8 +114,8 @@ fn by_lists(s: &[u8], langs: &Languages, rule: u8, section: u8, n: u16) -> u16
 // way stand in several arms, so that the compiler keeps the functions with large tables apart (docs/SPEED.md). The programmes before
 // `kept` keep rules 21 and 22, and rule 21 comes where rule 19 is kept.
 fn lowest_broken(s: &[u8], langs: &Languages, rule: u8, section: u8, n: u16, kept: u16) -> u16
-    requires { KeptBelow (sheetOf s.now) kept × (rule ≡ 21 → GroupsApart (sheetOf s.now)) }
-    ensures { result ≡ lowest (breaks (sheetOf s.now) langs.now rule section) n }
+    requires { KeptBelow (sheet_of s.now) kept × (rule ≡ 21 → GroupsApart (sheet_of s.now)) }
+    ensures { result ≡ lowest (breaks (sheet_of s.now) langs.now rule section) n }
 {
     if (s.len() < 1024) | (n == 0) {
         return plainly(s, langs, rule, section, n);
@@ -144,8 +144,8 @@ fn lowest_broken(s: &[u8], langs: &Languages, rule: u8, section: u8, n: u16, kep
 
 // The verdict by one rule alone.
 fn rule_verdict(s: &[u8], langs: &Languages, row: RuleRow, kept: u16) -> Verdict
-    requires { KeptBelow (sheetOf s.now) kept × (row.0 ≡ 21 → GroupsApart (sheetOf s.now)) × KindsFrom row.0 0 row.1 }
-    ensures { result ≡ ruleVerdict (sheetOf s.now) langs.now row.0 }
+    requires { KeptBelow (sheet_of s.now) kept × (row.0 ≡ 21 → GroupsApart (sheet_of s.now)) × KindsFrom row.0 0 row.1 }
+    ensures { result ≡ rule_verdict (sheet_of s.now) langs.now row.0 }
 {
     let rule = row.0;
     let mut kinds = row.1;
@@ -167,8 +167,8 @@ fn rule_verdict(s: &[u8], langs: &Languages, row: RuleRow, kept: u16) -> Verdict
 
 // How many programmes are known to keep rules 21 and 22, when a rule comes: before rule 21 one pass tells.
 fn kept_at(s: &[u8], rule: u8, kept: u16) -> u16
-    requires { KeptBelow (sheetOf s.now) kept × (rule ≡ 21 → GroupsApart (sheetOf s.now)) }
-    ensures { KeptBelow (sheetOf s.now) result }
+    requires { KeptBelow (sheet_of s.now) kept × (rule ≡ 21 → GroupsApart (sheet_of s.now)) }
+    ensures { KeptBelow (sheet_of s.now) result }
 {
     if rule == 21 {
         return kept_programmes(s);
@@ -178,7 +178,7 @@ fn kept_at(s: &[u8], rule: u8, kept: u16) -> u16
 
 // The verdict by the search: the rules in their order.
 fn first_broken(sheet: &[u8], langs: &Languages) -> Verdict
-    ensures { result ≡ verdict (sheetOf sheet.now) langs.now }
+    ensures { result ≡ verdict (sheet_of sheet.now) langs.now }
 {
     let mut kept: u16 = 0;
     let mut i: usize = 0;
@@ -198,7 +198,7 @@ fn first_broken(sheet: &[u8], langs: &Languages) -> Verdict
 // The verdict by the screening with the tables of a number, or else by the search. It is called from several places, so that the compiler
 // keeps it apart and a small sheet does not pay for its tables (docs/SPEED.md).
 fn sized_verdict(sheet: &[u8], langs: &Languages, tables: u8) -> Verdict
-    ensures { result ≡ verdict (sheetOf sheet.now) langs.now }
+    ensures { result ≡ verdict (sheet_of sheet.now) langs.now }
 {
     if passes(sheet, langs, tables) {
         return Verdict::Accepted;
@@ -208,7 +208,7 @@ fn sized_verdict(sheet: &[u8], langs: &Languages, tables: u8) -> Verdict
 
 // The same with a table of the list.
 fn tabled_verdict(sheet: &[u8], langs: &Languages, tables: u8) -> Verdict
-    ensures { result ≡ verdict (sheetOf sheet.now) langs.now }
+    ensures { result ≡ verdict (sheet_of sheet.now) langs.now }
 {
     let mut table = [0u8; LANGUAGE_WORDS];
     let tabled = langs.tabled(&mut table);
@@ -218,7 +218,7 @@ fn tabled_verdict(sheet: &[u8], langs: &Languages, tables: u8) -> Verdict
 // The verdict under a list that rises. Most accepted sheets pass the screening; for the others the search decides. A large sheet may have
 // many words to look up: it gets a table of the list, unless the list is long for it.
 fn verdict_under(sheet: &[u8], langs: &Languages) -> Verdict
-    ensures { result ≡ verdict (sheetOf sheet.now) langs.now }
+    ensures { result ≡ verdict (sheet_of sheet.now) langs.now }
 {
     let n = sheet.len();
     if n < 1024 {

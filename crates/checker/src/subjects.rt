@@ -1,9 +1,9 @@
 // The rules in checking order, which records can be a rule's place, and whether one breaks it.
 ghost use Rattle.std.specs.Prelude.{length, ◌≡◌};
-ghost use Rattle.checker.specs.steps.Tables.{Right, firstTable, secondTable};
-ghost use Rattle.checker.specs.steps.Rows.{rowAt, subjectsOf};
+ghost use Rattle.checker.specs.steps.Tables.{Right, first_table, second_table};
+ghost use Rattle.checker.specs.steps.Rows.{row_at, subjects_of};
 ghost use Rattle.profile.specs.Verdict.{breaks};
-ghost use Rattle.sheet.specs.Words.{sheetOf};
+ghost use Rattle.sheet.specs.Words.{sheet_of};
 
 use crate::RuleRow;
 use languages::list::Languages;
@@ -53,7 +53,7 @@ const RULES: [RuleRow; RULE_COUNT] = [
 
 // The rule at a position, 0 without subjects past the last.
 pub fn rule_at(i: usize) -> RuleRow
-    ensures { result ≡ rowAt i }
+    ensures { result ≡ row_at i }
 {
     if i < RULE_COUNT {
         RULES[i]
@@ -64,7 +64,7 @@ pub fn rule_at(i: usize) -> RuleRow
 
 // How many records of a section a rule can have as its place, by the section's digit.
 pub fn subjects(s: &[u8], section: u8, kind: u16) -> u16
-    ensures { result ≡ subjectsOf (sheetOf s.now) section kind }
+    ensures { result ≡ subjects_of (sheet_of s.now) section kind }
 {
     match kind {
         1 => 1,
@@ -85,7 +85,7 @@ pub fn breaks(
     section: u8,
     k: u16,
 ) -> bool
-    ensures { (length marks.new ≡ length marks.old) × (Right (sheetOf s.now) langs.now (firstTable rule section) first.now → Right (sheetOf s.now) langs.now (secondTable rule section) second.now → result ≡ breaks (sheetOf s.now) langs.now rule section k) }
+    ensures { (length marks.new ≡ length marks.old) × (Right (sheet_of s.now) langs.now (first_table rule section) first.now → Right (sheet_of s.now) langs.now (second_table rule section) second.now → result ≡ breaks (sheet_of s.now) langs.now rule section k) }
 {
     match rule {
         1 => rule1(s, section, k),

@@ -8,68 +8,68 @@ use lib.IntN.{ℤ}
 use lib.ListN.{length, length-append}
 use Rattle.values.specs.declared.Gain.{Gain}
 use Rattle.profile.specs.Counting.{sum}
-use Rattle.profile.proofs.ListLaws.{length-concat}
+use Rattle.profile.proofs.ListLaws.{length_concat}
 use Rattle.listener.specs.declared.Setting.{Setting}
 use Rattle.listener.specs.declared.State.{State}
 use Rattle.listener.specs.declared.Answer.{Answer}
 use Rattle.listener.specs.declared.Answer.TheVariants.{Done, Refused}
-use Rattle.listener.specs.State.{stateObjects, setting, isResting, refusalNumber}
-use Rattle.text.proofs.BytesLaws.{join-length, none-length}
-use Rattle.text.proofs.DecimalLaws.{decimal-fits, signed-fits, gain-fits}
-use Rattle.console.specs.Answers.{answerLine, wordsText, tracksLine, activityText, nameText, valuesText, settingLine, objectLine, objectLines, stateLines}
+use Rattle.listener.specs.State.{state_objects, setting, is_resting, refusal_number}
+use Rattle.text.proofs.BytesLaws.{join_length, none_length}
+use Rattle.text.proofs.DecimalLaws.{decimal_fits, signed_fits, gain_fits_lem}
+use Rattle.console.specs.Answers.{answer_line, words_text, tracks_line, activity_text, name_text, values_text, setting_line, object_line, object_lines, state_lines}
 
-pub answer-fits : (a : Answer) → length (answerLine a) ≤ 29
-unfolding answerLine
-answer-fits Done = omega arith
-answer-fits (Refused r) = simp (join-length, none-length) (omega (arith, decimal-fits (refusalNumber r)))
+pub answer_fits : (a : Answer) → length (answer_line a) ≤ 29
+unfolding answer_line
+answer_fits Done = omega arith
+answer_fits (Refused r) = simp (join_length, none_length) (omega (arith, decimal_fits (refusal_number r)))
 
-words-fit : (ws : List ℕ) → length (wordsText ws) ≤ 21 * length ws
-unfolding wordsText
-words-fit [] = omega arith
-words-fit (w ∷ ws) = simp length-append (omega (arith, decimal-fits w, words-fit ws))
+words_fit : (ws : List ℕ) → length (words_text ws) ≤ 21 * length ws
+unfolding words_text
+words_fit [] = omega arith
+words_fit (w ∷ ws) = simp length-append (omega (arith, decimal_fits w, words_fit ws))
 
-pub tracks-fit : (tracks : List ℕ) (a : Answer) → (a ≡ Done → length tracks ≤ 28) → length (tracksLine tracks a) ≤ 600
-unfolding tracksLine
-tracks-fit tracks Done l = simp (join-length, none-length) (omega (arith, words-fit tracks, l refl))
-tracks-fit tracks (Refused r) l = omega (arith, answer-fits (Refused r))
+pub tracks_fit : (tracks : List ℕ) (a : Answer) → (a ≡ Done → length tracks ≤ 28) → length (tracks_line tracks a) ≤ 600
+unfolding tracks_line
+tracks_fit tracks Done l = simp (join_length, none_length) (omega (arith, words_fit tracks, l refl))
+tracks_fit tracks (Refused r) l = omega (arith, answer_fits (Refused r))
 
-activity-fits : (active : Bool) → length (activityText active) ≤ 9
-unfolding activityText
-activity-fits true = omega arith
-activity-fits false = omega arith
+activity_fits : (active : Bool) → length (activity_text active) ≤ 9
+unfolding activity_text
+activity_fits true = omega arith
+activity_fits false = omega arith
 
-name-fits : (o : ℕ) (active : Bool) → length (nameText o active) ≤ 36
-unfolding nameText
-name-fits o active = simp (join-length, none-length) (omega (arith, decimal-fits o, activity-fits active))
+name_fits : (o : ℕ) (active : Bool) → length (name_text o active) ≤ 36
+unfolding name_text
+name_fits o active = simp (join_length, none_length) (omega (arith, decimal_fits o, activity_fits active))
 
-values-fit : (g : Gain) (z : ℤ) → length (valuesText g z) ≤ 57
-unfolding valuesText
-values-fit g z = simp (join-length, none-length) (omega (arith, gain-fits g, signed-fits z))
+values_fit : (g : Gain) (z : ℤ) → length (values_text g z) ≤ 57
+unfolding values_text
+values_fit g z = simp (join_length, none_length) (omega (arith, gain_fits_lem g, signed_fits z))
 
-setting-fits : (o : ℕ) (x : Setting) → length (settingLine o x) ≤ 93
-unfolding settingLine
-setting-fits o x = simp (join-length, none-length) (omega (arith, name-fits o x.active, values-fit x.gain x.offset))
+setting_fits : (o : ℕ) (x : Setting) → length (setting_line o x) ≤ 93
+unfolding setting_line
+setting_fits o x = simp (join_length, none_length) (omega (arith, name_fits o x.active, values_fit x.gain x.offset))
 
-object-fits : (o : ℕ) (x : Setting) → length (objectLine o x) ≤ 93
-unfolding objectLine
-object-fits o x =
-    (elim (isResting x) as (λ b. length (cond b [] (settingLine o x)) ≤ 93) [
+object_fits : (o : ℕ) (x : Setting) → length (object_line o x) ≤ 93
+unfolding object_line
+object_fits o x =
+    (elim (is_resting x) as (λ b. length (cond b [] (setting_line o x)) ≤ 93) [
       | true ↦ omega arith
-      | false ↦ setting-fits o x
+      | false ↦ setting_fits o x
     ])
 
-sum-fits : (f : ℕ → ℕ) (k n : ℕ) → ((i : ℕ) → f i ≤ k) → sum f n ≤ n * k
+sum_fits : (f : ℕ → ℕ) (k n : ℕ) → ((i : ℕ) → f i ≤ k) → sum f n ≤ n * k
 unfolding sum
-sum-fits f k zero h = omega arith
-sum-fits f k (suc n) h = omega (arith, sum-fits f k n h, h n)
+sum_fits f k zero h = omega arith
+sum_fits f k (suc n) h = omega (arith, sum_fits f k n h, h n)
 
-pub state-fits : (st : State) → length (stateLines st) ≤ 8192
-unfolding stateLines objectLines
-state-fits st =
-    simp (join-length, none-length)
+pub state_fits : (st : State) → length (state_lines st) ≤ 8192
+unfolding state_lines object_lines
+state_fits st =
+    simp (join_length, none_length)
     (omega (
       arith,
-      decimal-fits st.programme,
-      length-concat (λ o. objectLine o (setting st o)) stateObjects,
-      sum-fits (λ o. length (objectLine o (setting st o))) 93 stateObjects (λ o. object-fits o (setting st o)),
+      decimal_fits st.programme,
+      length_concat (λ o. object_line o (setting st o)) state_objects,
+      sum_fits (λ o. length (object_line o (setting st o))) 93 state_objects (λ o. object_fits o (setting st o)),
     ))

@@ -11,33 +11,33 @@ use Rattle.profile.specs.declared.Verdict.TheVariants.{Accepted}
 use Rattle.profile.specs.Verdict.{verdict}
 use Rattle.listener.specs.declared.State.{State}
 use Rattle.listener.specs.Calls.{opened}
-use Rattle.guarantee.specs.Run.{reply, run, after, lastChosen}
+use Rattle.guarantee.specs.Run.{reply, run, after, last_chosen}
 use Rattle.guarantee.specs.Guarantee.{Promises}
 use Rattle.guarantee.proofs.Guaranteed.{listening}
 use Rattle.text.specs.Buffer.{Buffer}
-use Rattle.text.proofs.BufferLaws.{put-append}
+use Rattle.text.proofs.BufferLaws.{put_append}
 use Rattle.console.specs.declared.commands.Command.{Command}
 use Rattle.console.specs.declared.commands.Command.TheVariants as command
-use Rattle.console.specs.Bench.{callOf, stateAfter, obeyed, callsOf, answeredLine, answeredPart}
+use Rattle.console.specs.Bench.{call_of, state_after, obeyed, calls_of, answered_line, answered_part}
 
 -- commands do to the state what the calls among them do
-obeyed-run : (s : Sheet) (langs : List ℕ) (st : State) (cs : List Command) → run s langs st (callsOf cs) ≡ obeyed s langs st cs
-unfolding run callsOf obeyed stateAfter
-obeyed-run s langs st [] = refl
-obeyed-run s langs st (command.Call c ∷ cs) = obeyed-run s langs (reply s langs st (callOf c)).state cs
-obeyed-run s langs st (command.List ∷ cs) = obeyed-run s langs st cs
-obeyed-run s langs st (command.State ∷ cs) = obeyed-run s langs st cs
-obeyed-run s langs st (command.Unknown ∷ cs) = obeyed-run s langs st cs
+obeyed_run : (s : Sheet) (langs : List ℕ) (st : State) (cs : List Command) → run s langs st (calls_of cs) ≡ obeyed s langs st cs
+unfolding run calls_of obeyed state_after
+obeyed_run s langs st [] = refl
+obeyed_run s langs st (command.Call c ∷ cs) = obeyed_run s langs (reply s langs st (call_of c)).state cs
+obeyed_run s langs st (command.List ∷ cs) = obeyed_run s langs st cs
+obeyed_run s langs st (command.State ∷ cs) = obeyed_run s langs st cs
+obeyed_run s langs st (command.Unknown ∷ cs) = obeyed_run s langs st cs
 
 -- demand 3: for a sheet accepted at level 1 or 2, after every list of commands from its opening
-pub bench-listening : (s : Sheet) (langs : List ℕ) → verdict s langs ≡ Accepted → (level s ≡ 1) ⊎ (level s ≡ 2) → (cs : List Command)
-    → Promises s langs (lastChosen s langs (callsOf cs)) (obeyed s langs (opened s langs).state cs)
+pub bench_listening : (s : Sheet) (langs : List ℕ) → verdict s langs ≡ Accepted → (level s ≡ 1) ⊎ (level s ≡ 2) → (cs : List Command)
+    → Promises s langs (last_chosen s langs (calls_of cs)) (obeyed s langs (opened s langs).state cs)
 unfolding after
-bench-listening s langs accepted at cs =
-    subst (λ (st : State). Promises s langs (lastChosen s langs (callsOf cs)) st) (obeyed-run s langs (opened s langs).state cs) (listening s langs accepted at (callsOf cs)).promises
+bench_listening s langs accepted at cs =
+    subst (λ (st : State). Promises s langs (last_chosen s langs (calls_of cs)) st) (obeyed_run s langs (opened s langs).state cs) (listening s langs accepted at (calls_of cs)).promises
 
--- a line that is read in two parts is answeredPart as if it were read at once
-pub cut-anywhere : (s : Sheet) (langs : List ℕ) (st : State) (line : Buffer) (a b : List ℕ) (whole : Bool)
-    → answeredPart s langs st line (a ++ b) whole ≡ answeredPart s langs (answeredPart s langs st line a false).state (answeredPart s langs st line a false).line b whole
-unfolding answeredPart answeredLine
-cut-anywhere s langs st line a b whole = ap (λ (l : Buffer). answeredLine s langs st l whole) (put-append line a b)
+-- a line that is read in two parts is answered_part as if it were read at once
+pub cut_anywhere : (s : Sheet) (langs : List ℕ) (st : State) (line : Buffer) (a b : List ℕ) (whole : Bool)
+    → answered_part s langs st line (a ++ b) whole ≡ answered_part s langs (answered_part s langs st line a false).state (answered_part s langs st line a false).line b whole
+unfolding answered_part answered_line
+cut_anywhere s langs st line a b whole = ap (λ (l : Buffer). answered_line s langs st l whole) (put_append line a b)

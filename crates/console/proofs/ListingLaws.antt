@@ -9,54 +9,54 @@ use Rattle.sheet.specs.Words.{Sheet}
 use Rattle.listener.specs.declared.State.{State}
 use Rattle.listener.specs.declared.Answer.TheVariants.{Done}
 use Rattle.listener.specs.declared.Listing.{Listing}
-use Rattle.listener.specs.Calls.{notOpen, notSound}
-use Rattle.listener.specs.Listing.{Entry, entries, listedTracks, enoughWords, tooFewWords, listingAnswer, listed, buffered}
-use Rattle.listener.proofs.TakenLaws.{told-answer, told-number, told-length, told-tracks}
-use Rattle.guarantee.proofs.RunLaws.{done-ground}
-use Rattle.console.specs.Answers.{listingLine}
-use Rattle.console.proofs.AnswerLaws.{tracks-fit}
+use Rattle.listener.specs.Calls.{not_open, not_sound}
+use Rattle.listener.specs.Listing.{Entry, entries, listed_tracks, enough_words, too_few_words, listing_answer, listed, buffered}
+use Rattle.listener.proofs.TakenLaws.{told_answer, told_number, told_length, told_tracks}
+use Rattle.guarantee.proofs.RunLaws.{done_ground}
+use Rattle.console.specs.Answers.{listing_line}
+use Rattle.console.proofs.AnswerLaws.{tracks_fit}
 
 -- a listing that is done had enough words
-done-room : (s : Sheet) (langs : List ℕ) (st : State) (words : ℕ) → listingAnswer s langs st words ≡ Done → length (entries s st) ≤ words
-unfolding listingAnswer tooFewWords
-done-room s langs st words d =
-    let sound = (done-ground (notOpen s langs) _ d).1 in
-    let room = (done-ground (notSound s st) _ sound).1 in
-    ltb-false words (length (entries s st)) (done-ground (tooFewWords s st words) _ room).0
+done_room : (s : Sheet) (langs : List ℕ) (st : State) (words : ℕ) → listing_answer s langs st words ≡ Done → length (entries s st) ≤ words
+unfolding listing_answer too_few_words
+done_room s langs st words d =
+    let sound = (done_ground (not_open s langs) _ d).1 in
+    let room = (done_ground (not_sound s st) _ sound).1 in
+    ltb-false words (length (entries s st)) (done_ground (too_few_words s st words) _ room).0
 
-tracks-number : (s : Sheet) (st : State) → length (listedTracks s st) ≡ length (entries s st)
-unfolding listedTracks
-tracks-number s st = length-map (entries s st) (λ (e : Entry). e.track)
+tracks_number : (s : Sheet) (st : State) → length (listed_tracks s st) ≡ length (entries s st)
+unfolding listed_tracks
+tracks_number s st = length-map (entries s st) (λ (e : Entry). e.track)
 
-tracks-room : (s : Sheet) (langs : List ℕ) (st : State) → listingAnswer s langs st enoughWords ≡ Done → length (listedTracks s st) ≤ enoughWords
-tracks-room s langs st d = rw (tracks-number s st) (done-room s langs st enoughWords d)
+tracks_room : (s : Sheet) (langs : List ℕ) (st : State) → listing_answer s langs st enough_words ≡ Done → length (listed_tracks s st) ≤ enough_words
+tracks_room s langs st d = rw (tracks_number s st) (done_room s langs st enough_words d)
 
-module _ (s : Sheet) (langs : List ℕ) (st : State) (r : Listing) (words : List ℕ) (e : r ≡ listed s langs st enoughWords) (f : words ≡ buffered s langs st (replicate enoughWords 0)) where
-  pub listing-answer : r.answer ≡ listingAnswer s langs st enoughWords
+module _ (s : Sheet) (langs : List ℕ) (st : State) (r : Listing) (words : List ℕ) (e : r ≡ listed s langs st enough_words) (f : words ≡ buffered s langs st (replicate enough_words 0)) where
+  pub listing_answer_lem : r.answer ≡ listing_answer s langs st enough_words
   unfolding listed
-  listing-answer = told-answer r (length (entries s st)) (listingAnswer s langs st enoughWords) e
+  listing_answer_lem = told_answer r (length (entries s st)) (listing_answer s langs st enough_words) e
 
   module _ (d : r.answer ≡ Done) where
-    answer-done : listingAnswer s langs st enoughWords ≡ Done
-    answer-done = sym listing-answer ∙ d
+    answer_done : listing_answer s langs st enough_words ≡ Done
+    answer_done = sym listing_answer_lem ∙ d
 
-    pub listing-tracks : take r.entries words ≡ listedTracks s st
+    pub listing_tracks : take r.entries words ≡ listed_tracks s st
     unfolding listed buffered
-    listing-tracks =
-        told-tracks r (length (entries s st)) (listingAnswer s langs st enoughWords) e words (replicate enoughWords 0) (listedTracks s st) f answer-done
-        (tracks-number s st) (done-room s langs st enoughWords answer-done)
+    listing_tracks =
+        told_tracks r (length (entries s st)) (listing_answer s langs st enough_words) e words (replicate enough_words 0) (listed_tracks s st) f answer_done
+        (tracks_number s st) (done_room s langs st enough_words answer_done)
 
-    pub listing-room : r.entries ≤ length words
+    pub listing_room : r.entries ≤ length words
     unfolding listed buffered
-    listing-room =
-        let n = told-number r (length (entries s st)) (listingAnswer s langs st enoughWords) e answer-done in
-        let l = told-length r (length (entries s st)) (listingAnswer s langs st enoughWords) e words (replicate enoughWords 0) (listedTracks s st) f answer-done in
-        rw (n, l) (done-room s langs st enoughWords answer-done)
+    listing_room =
+        let n = told_number r (length (entries s st)) (listing_answer s langs st enough_words) e answer_done in
+        let l = told_length r (length (entries s st)) (listing_answer s langs st enough_words) e words (replicate enough_words 0) (listed_tracks s st) f answer_done in
+        rw (n, l) (done_room s langs st enough_words answer_done)
 
-    pub listing-length : r.entries ≡ length (take r.entries words)
-    listing-length = sym (length-take-le r.entries words listing-room)
+    pub listing_length : r.entries ≡ length (take r.entries words)
+    listing_length = sym (length-take-le r.entries words listing_room)
 
 -- the line of a listing
-pub listing-fits : (s : Sheet) (langs : List ℕ) (st : State) → length (listingLine s langs st) ≤ 600
-unfolding listingLine
-listing-fits s langs st = tracks-fit (listedTracks s st) (listingAnswer s langs st enoughWords) (tracks-room s langs st)
+pub listing_fits : (s : Sheet) (langs : List ℕ) (st : State) → length (listing_line s langs st) ≤ 600
+unfolding listing_line
+listing_fits s langs st = tracks_fit (listed_tracks s st) (listing_answer s langs st enough_words) (tracks_room s langs st)

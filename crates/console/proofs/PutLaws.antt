@@ -6,31 +6,31 @@ use native.Mathlib.Omega.{arith}
 use native.Mathlib.Numerals.{add-one}
 use lib.ListN.{length, get_or, drop, drop_of_length-le}
 use lib.Seq.{drop-cons}
-use Rattle.profile.specs.Counting.{concatBelow}
+use Rattle.profile.specs.Counting.{concat_below}
 use Rattle.text.specs.Bytes.{ascii}
 use Rattle.text.specs.Decimal.{decimal}
-use Rattle.text.specs.Buffer.{Buffer, putText}
-use Rattle.text.proofs.BufferLaws.{put-append}
-use Rattle.console.specs.Answers.{wordsText}
+use Rattle.text.specs.Buffer.{Buffer, put_text}
+use Rattle.text.proofs.BufferLaws.{put_append}
+use Rattle.console.specs.Answers.{words_text}
 
 -- a word and those left
 module _ (ws : List ℕ) (i : ℕ) where
-  pub word-put : (b space next end : Buffer) → i < length ws → space ≡ putText b (ascii " ") → next ≡ putText space (decimal (get_or ws i 0))
-      → putText b (wordsText (drop i ws)) ≡ end → putText next (wordsText (drop (i + 1) ws)) ≡ end
-  unfolding wordsText
-  word-put b space next end h e f g =
-      let rest = wordsText (drop (suc i) ws) in
+  pub word_put : (b space next end : Buffer) → i < length ws → space ≡ put_text b (ascii " ") → next ≡ put_text space (decimal (get_or ws i 0))
+      → put_text b (words_text (drop i ws)) ≡ end → put_text next (words_text (drop (i + 1) ws)) ≡ end
+  unfolding words_text
+  word_put b space next end h e f g =
+      let rest = words_text (drop (suc i) ws) in
       let number = decimal (get_or ws i 0) in
       let more : i + 1 ≡ suc i = omega arith in
       rw (more, f, e)
-      (sym (put-append (putText b (ascii " ")) number rest) ∙ sym (put-append b (ascii " ") (number ++ rest)) ∙ (rw (drop-cons ws i 0 h) at g))
+      (sym (put_append (put_text b (ascii " ")) number rest) ∙ sym (put_append b (ascii " ") (number ++ rest)) ∙ (rw (drop-cons ws i 0 h) at g))
 
   -- none is left
-  pub words-put : (b end : Buffer) → length ws ≤ i → putText b (wordsText (drop i ws)) ≡ end → b ≡ end
-  unfolding wordsText putText
-  words-put b end h e = rw (drop_of_length-le ws h) at e
+  pub words_put : (b end : Buffer) → length ws ≤ i → put_text b (words_text (drop i ws)) ≡ end → b ≡ end
+  unfolding words_text put_text
+  words_put b end h e = rw (drop_of_length-le ws h) at e
 
 -- what the numbers below o give, and o
-pub object-put : (f : ℕ → List ℕ) (o : ℕ) (b now next : Buffer) → now ≡ putText b (concatBelow f o) → next ≡ putText now (f o) → next ≡ putText b (concatBelow f (o + 1))
-unfolding concatBelow
-object-put f o b now next e g = rw (add-one, put-append b (concatBelow f o) (f o), ← e) g
+pub object_put : (f : ℕ → List ℕ) (o : ℕ) (b now next : Buffer) → now ≡ put_text b (concat_below f o) → next ≡ put_text now (f o) → next ≡ put_text b (concat_below f (o + 1))
+unfolding concat_below
+object_put f o b now next e g = rw (add-one, put_append b (concat_below f o) (f o), ← e) g

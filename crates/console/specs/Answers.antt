@@ -2,59 +2,59 @@
 use Rattle.std.specs.Prelude.{ℕ, Bool, cond, List, [], ◌∷◌, ◌++◌, ℤ}
 use Rattle.sheet.specs.Words.{Sheet}
 use Rattle.values.specs.declared.Gain.{Gain}
-use Rattle.profile.specs.Counting.{concatBelow}
+use Rattle.profile.specs.Counting.{concat_below}
 use Rattle.listener.specs.declared.Setting.{Setting}
 use Rattle.listener.specs.declared.State.{State}
 use Rattle.listener.specs.declared.Answer.{Answer}
 use Rattle.listener.specs.declared.Answer.TheVariants.{Done, Refused}
-use Rattle.listener.specs.State.{stateObjects, setting, isResting, refusalNumber}
-use Rattle.listener.specs.Listing.{listedTracks, enoughWords, listingAnswer}
+use Rattle.listener.specs.State.{state_objects, setting, is_resting, refusal_number}
+use Rattle.listener.specs.Listing.{listed_tracks, enough_words, listing_answer}
 use Rattle.text.specs.Bytes.{ascii, join}
-use Rattle.text.specs.Decimal.{decimal, signedDecimal, gainText}
+use Rattle.text.specs.Decimal.{decimal, signed_decimal, gain_text}
 
 -- `done`, or as in `refused 28`
-unfoldable pub answerLine : Answer → List ℕ
-answerLine Done = ascii "done\n"
-answerLine (Refused r) = join (ascii "refused " ∷ decimal (refusalNumber r) ∷ ascii "\n" ∷ [])
+unfoldable pub answer_line : Answer → List ℕ
+answer_line Done = ascii "done\n"
+answer_line (Refused r) = join (ascii "refused " ∷ decimal (refusal_number r) ∷ ascii "\n" ∷ [])
 
 -- each word behind a space
-unfoldable pub wordsText : List ℕ → List ℕ
-wordsText [] = []
-wordsText (w ∷ ws) = ascii " " ++ decimal w ++ wordsText ws
+unfoldable pub words_text : List ℕ → List ℕ
+words_text [] = []
+words_text (w ∷ ws) = ascii " " ++ decimal w ++ words_text ws
 
 -- as in `tracks 0 1 5`, or why not
-unfoldable pub tracksLine : List ℕ → Answer → List ℕ
-tracksLine tracks Done = join (ascii "tracks" ∷ wordsText tracks ∷ ascii "\n" ∷ [])
-tracksLine tracks (Refused r) = answerLine (Refused r)
+unfoldable pub tracks_line : List ℕ → Answer → List ℕ
+tracks_line tracks Done = join (ascii "tracks" ∷ words_text tracks ∷ ascii "\n" ∷ [])
+tracks_line tracks (Refused r) = answer_line (Refused r)
 
 -- the listing of a state
-unfoldable pub listingLine : Sheet → List ℕ → State → List ℕ
-listingLine s langs st = tracksLine (listedTracks s st) (listingAnswer s langs st enoughWords)
+unfoldable pub listing_line : Sheet → List ℕ → State → List ℕ
+listing_line s langs st = tracks_line (listed_tracks s st) (listing_answer s langs st enough_words)
 
-unfoldable pub activityText : Bool → List ℕ
-activityText active = cond active (ascii " active") (ascii " inactive")
+unfoldable pub activity_text : Bool → List ℕ
+activity_text active = cond active (ascii " active") (ascii " inactive")
 
-unfoldable pub nameText : ℕ → Bool → List ℕ
-nameText o active = join (ascii "object " ∷ decimal o ∷ activityText active ∷ [])
+unfoldable pub name_text : ℕ → Bool → List ℕ
+name_text o active = join (ascii "object " ∷ decimal o ∷ activity_text active ∷ [])
 
-unfoldable pub valuesText : Gain → ℤ → List ℕ
-valuesText gain offset = join (ascii " gain " ∷ gainText gain ∷ ascii " offset " ∷ signedDecimal offset ∷ ascii "\n" ∷ [])
+unfoldable pub values_text : Gain → ℤ → List ℕ
+values_text gain offset = join (ascii " gain " ∷ gain_text gain ∷ ascii " offset " ∷ signed_decimal offset ∷ ascii "\n" ∷ [])
 
 -- as in `object 3 active gain -60 offset 0`
-unfoldable pub settingLine : ℕ → Setting → List ℕ
-settingLine o x = join (nameText o x.active ∷ valuesText x.gain x.offset ∷ [])
+unfoldable pub setting_line : ℕ → Setting → List ℕ
+setting_line o x = join (name_text o x.active ∷ values_text x.gain x.offset ∷ [])
 
 -- an object at rest has no line
-unfoldable pub objectLine : ℕ → Setting → List ℕ
-objectLine o x = cond (isResting x) [] (settingLine o x)
+unfoldable pub object_line : ℕ → Setting → List ℕ
+object_line o x = cond (is_resting x) [] (setting_line o x)
 
-unfoldable pub objectLines : State → List ℕ
-objectLines st = concatBelow (λ o. objectLine o (setting st o)) stateObjects
+unfoldable pub object_lines : State → List ℕ
+object_lines st = concat_below (λ o. object_line o (setting st o)) state_objects
 
 -- the programme, then each object that is not at rest
-unfoldable pub stateLines : State → List ℕ
-stateLines st = join (ascii "programme " ∷ decimal st.programme ∷ ascii "\n" ∷ objectLines st ∷ [])
+unfoldable pub state_lines : State → List ℕ
+state_lines st = join (ascii "programme " ∷ decimal st.programme ∷ ascii "\n" ∷ object_lines st ∷ [])
 
 -- the answer to a line that is no command
-unfoldable pub unknownLine : List ℕ
-unknownLine = ascii "?\n"
+unfoldable pub unknown_line : List ℕ
+unknown_line = ascii "?\n"

@@ -2,40 +2,40 @@
 use Prim.Native.String.{String}
 use Rattle.std.specs.Prelude.{◌≡◌, refl, true, false, [], ◌∷◌, map, pos, negsuc, set, replicate}
 use Rattle.values.specs.declared.Gain.TheVariants.{Silent, Tenths}
-use Rattle.values.specs.Gain.{atMost}
-use Rattle.profile.specs.Counting.{concatBelow}
-use Rattle.granted.specs.Fitting.{sameGain, sameOffset}
+use Rattle.values.specs.Gain.{at_most}
+use Rattle.profile.specs.Counting.{concat_below}
+use Rattle.granted.specs.Fitting.{same_gain, same_offset}
 use Rattle.listener.specs.declared.Answer.TheVariants.{Done, Refused}
 use Rattle.listener.specs.declared.Refusal.TheVariants.{NotIncluded}
-use Rattle.listener.specs.State.{stateObjects, resting, setting, isResting}
+use Rattle.listener.specs.State.{state_objects, resting, setting, is_resting}
 use Rattle.text.specs.Bytes.{ascii, same, join}
-use Rattle.text.specs.Decimal.{spelled, decimal, signedDecimal, gainText}
-use Rattle.text.specs.Numbers.{isDigit, digits, value, isNumber, numberOf, positive, negative, tenthsOf, gainValueOf}
-use Rattle.text.specs.Lines.{withoutReturn, said, isBlank, fieldsFrom, fields}
+use Rattle.text.specs.Decimal.{spelled, decimal, signed_decimal, gain_text}
+use Rattle.text.specs.Numbers.{is_digit, digits, value, is_number, number_of, positive, negative, tenths_of, gain_value_of}
+use Rattle.text.specs.Lines.{without_return, said, is_blank, fields_from, fields}
 use Rattle.console.specs.declared.commands.Call.TheVariants.{Programme, Object, Gain, Offset}
 use Rattle.console.specs.declared.commands.Command.TheVariants.{Call, List as Listing, State as Settings, Unknown}
-use Rattle.console.specs.Commands.{alone, withNumber, gainCommand, offsetCommand, withValue, commandBy, commandOf}
-use Rattle.console.specs.Answers.{answerLine, wordsText, tracksLine, activityText, nameText, valuesText, settingLine, objectLine, objectLines, stateLines}
+use Rattle.console.specs.Commands.{alone, with_number, gain_command, offset_command, with_value, command_by, command_of}
+use Rattle.console.specs.Answers.{answer_line, words_text, tracks_line, activity_text, name_text, values_text, setting_line, object_line, object_lines, state_lines}
 
-pub answer-lines :
-    answerLine Done ∷ answerLine (Refused NotIncluded) ∷ tracksLine (0 ∷ 1 ∷ 65535 ∷ []) Done ∷ tracksLine [] (Refused NotIncluded) ∷ []
+pub answer_lines :
+    answer_line Done ∷ answer_line (Refused NotIncluded) ∷ tracks_line (0 ∷ 1 ∷ 65535 ∷ []) Done ∷ tracks_line [] (Refused NotIncluded) ∷ []
     ≡ ascii "done\n" ∷ ascii "refused 28\n" ∷ ascii "tracks 0 1 65535\n" ∷ ascii "refused 28\n" ∷ []
-unfolding answerLine tracksLine wordsText join decimal spelled
-answer-lines = refl
+unfolding answer_line tracks_line words_text join decimal spelled
+answer_lines = refl
 
-pub state-lines :
-    stateLines (record {
+pub state_lines_lem :
+    state_lines (record {
       programme = 9;
       objects =
-          set (set (replicate stateObjects resting) 3 (record { active = true; gain = Tenths (negsuc 59); offset = pos 0 })) 83
+          set (set (replicate state_objects resting) 3 (record { active = true; gain = Tenths (negsuc 59); offset = pos 0 })) 83
           (record { active = false; gain = Silent; offset = negsuc 0 });
     })
     ≡ ascii "programme 9\nobject 3 active gain -60 offset 0\nobject 83 inactive gain silence offset -1\n"
-unfolding stateLines objectLines objectLine settingLine nameText valuesText activityText gainText join decimal spelled signedDecimal concatBelow setting isResting sameGain sameOffset atMost
-state-lines = refl
+unfolding state_lines object_lines object_line setting_line name_text values_text activity_text gain_text join decimal spelled signed_decimal concat_below setting is_resting same_gain same_offset at_most
+state_lines_lem = refl
 
-pub commands-said :
-    map (λ (line : String). commandOf (said (ascii line)))
+pub commands_said :
+    map (λ (line : String). command_of (said (ascii line)))
     ("programme 3"
     ∷ " \tobject  00065535 \r"
     ∷ "gain 0 -32768"
@@ -70,5 +70,5 @@ pub commands-said :
     ∷ Unknown
     ∷ Unknown
     ∷ []
-unfolding commandOf commandBy alone withNumber gainCommand offsetCommand withValue fields fieldsFrom isBlank said withoutReturn isNumber numberOf tenthsOf gainValueOf positive negative digits value isDigit same
-commands-said = refl
+unfolding command_of command_by alone with_number gain_command offset_command with_value fields fields_from is_blank said without_return is_number number_of tenths_of gain_value_of positive negative digits value is_digit same
+commands_said = refl

@@ -1,8 +1,8 @@
 // Answers of the listener, tracks and states as text.
 ghost use Rattle.std.specs.Prelude.{◌≡◌};
-ghost use Rattle.console.specs.Answers.{activityText, answerLine, listingLine, nameText, objectLine, objectLines, stateLines, valuesText, wordsText};
-ghost use Rattle.sheet.specs.Words.{sheetOf, words};
-ghost use Rattle.text.specs.Buffer.{buffer as written, putText};
+ghost use Rattle.console.specs.Answers.{activity_text, answer_line, listing_line, name_text, object_line, object_lines, state_lines, values_text, words_text};
+ghost use Rattle.sheet.specs.Words.{sheet_of, words};
+ghost use Rattle.text.specs.Buffer.{buffer as written, put_text};
 
 use crate::Lent;
 use listener::refusals::refusal_number;
@@ -13,7 +13,7 @@ use values::Gain;
 
 // `done`, or as in `refused 28`.
 pub fn put_answer(buffer: &mut [u8], count: usize, answer: Answer) -> usize
-    ensures { written buffer.new result ≡ putText (written buffer.old count) (answerLine answer) }
+    ensures { written buffer.new result ≡ put_text (written buffer.old count) (answer_line answer) }
 {
     match answer {
         Answer::Done => put_text(buffer, count, b"done\n"),
@@ -27,7 +27,7 @@ pub fn put_answer(buffer: &mut [u8], count: usize, answer: Answer) -> usize
 
 // Each word behind a space.
 pub fn put_words(buffer: &mut [u8], count: usize, words: &[u16]) -> usize
-    ensures { written buffer.new result ≡ putText (written buffer.old count) (wordsText words.now) }
+    ensures { written buffer.new result ≡ put_text (written buffer.old count) (words_text words.now) }
 {
     let mut n = count;
     let mut i = 0;
@@ -41,7 +41,7 @@ pub fn put_words(buffer: &mut [u8], count: usize, words: &[u16]) -> usize
 
 // As in `tracks 0 1 5`, or why not.
 pub fn put_listing(buffer: &mut [u8], count: usize, lent: Lent, state: State) -> usize
-    ensures { written buffer.new result ≡ putText (written buffer.old count) (listingLine (sheetOf lent.entry.sheet.now) (words lent.entry.langs.now) state) }
+    ensures { written buffer.new result ≡ put_text (written buffer.old count) (listing_line (sheet_of lent.entry.sheet.now) (words lent.entry.langs.now) state) }
 {
     let mut words = [0u16; MOST_ENTRIES];
     let listing = state.list(lent.sheet, lent.langs, &mut words);
@@ -58,7 +58,7 @@ pub fn put_listing(buffer: &mut [u8], count: usize, lent: Lent, state: State) ->
 }
 
 fn put_activity(buffer: &mut [u8], count: usize, active: bool) -> usize
-    ensures { written buffer.new result ≡ putText (written buffer.old count) (activityText active) }
+    ensures { written buffer.new result ≡ put_text (written buffer.old count) (activity_text active) }
 {
     if active {
         put_text(buffer, count, b" active")
@@ -69,7 +69,7 @@ fn put_activity(buffer: &mut [u8], count: usize, active: bool) -> usize
 
 // The beginning of an object's line.
 fn put_name(buffer: &mut [u8], count: usize, o: u16, active: bool) -> usize
-    ensures { written buffer.new result ≡ putText (written buffer.old count) (nameText o active) }
+    ensures { written buffer.new result ≡ put_text (written buffer.old count) (name_text o active) }
 {
     let mut n = put_text(buffer, count, b"object ");
     n = put_number(buffer, n, o as u64);
@@ -78,7 +78,7 @@ fn put_name(buffer: &mut [u8], count: usize, o: u16, active: bool) -> usize
 
 // Its end.
 fn put_values(buffer: &mut [u8], count: usize, gain: Gain, offset: i16) -> usize
-    ensures { written buffer.new result ≡ putText (written buffer.old count) (valuesText gain offset) }
+    ensures { written buffer.new result ≡ put_text (written buffer.old count) (values_text gain offset) }
 {
     let mut n = put_text(buffer, count, b" gain ");
     n = put_gain(buffer, n, gain);
@@ -89,7 +89,7 @@ fn put_values(buffer: &mut [u8], count: usize, gain: Gain, offset: i16) -> usize
 
 // As in `object 3 active gain -60 offset 0`; an object at rest has no line.
 fn put_setting(buffer: &mut [u8], count: usize, o: u16, x: Setting) -> usize
-    ensures { written buffer.new result ≡ putText (written buffer.old count) (objectLine o x) }
+    ensures { written buffer.new result ≡ put_text (written buffer.old count) (object_line o x) }
 {
     if is_resting(x) {
         return count;
@@ -101,7 +101,7 @@ fn put_setting(buffer: &mut [u8], count: usize, o: u16, x: Setting) -> usize
 
 // Each object that is not at rest.
 fn put_objects(buffer: &mut [u8], count: usize, state: State) -> usize
-    ensures { written buffer.new result ≡ putText (written buffer.old count) (objectLines state) }
+    ensures { written buffer.new result ≡ put_text (written buffer.old count) (object_lines state) }
 {
     let mut n = count;
     let mut o: u16 = 0;
@@ -115,7 +115,7 @@ fn put_objects(buffer: &mut [u8], count: usize, state: State) -> usize
 
 // The programme, then each object that is not at rest.
 pub fn put_state(buffer: &mut [u8], count: usize, state: State) -> usize
-    ensures { written buffer.new result ≡ putText (written buffer.old count) (stateLines state) }
+    ensures { written buffer.new result ≡ put_text (written buffer.old count) (state_lines state) }
 {
     let mut n = put_text(buffer, count, b"programme ");
     n = put_number(buffer, n, state.programme as u64);

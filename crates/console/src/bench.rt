@@ -1,10 +1,10 @@
 // The listening bench: a command is a call of the listener or a question, and its answer is written into a lent buffer.
 ghost use Rattle.std.specs.Prelude.{◌≡◌};
-ghost use Rattle.console.specs.Answers.{answerLine};
-ghost use Rattle.console.specs.Bench.{answerTo, callOf, answeredPart, stateAfter};
+ghost use Rattle.console.specs.Answers.{answer_line};
+ghost use Rattle.console.specs.Bench.{answer_to, call_of, answered_part, state_after};
 ghost use Rattle.guarantee.specs.Run.{reply};
 ghost use Rattle.listener.specs.Calls.{opened};
-ghost use Rattle.sheet.specs.Words.{sheetOf, words};
+ghost use Rattle.sheet.specs.Words.{sheet_of, words};
 ghost use Rattle.text.specs.Buffer.{TextFilled, buffer as written};
 
 use crate::Lent;
@@ -27,8 +27,8 @@ pub struct Answered {
 
 // Opens the sheet.
 pub fn opened(lent: Lent, answer: &mut [u8; ANSWER_ROOM]) -> Answered
-    ensures state_value { result.state ≡ (opened (sheetOf lent.entry.sheet.now) (words lent.entry.langs.now)).state }
-    ensures text_filled { TextFilled answer.old (answerLine (opened (sheetOf lent.entry.sheet.now) (words lent.entry.langs.now)).answer) result.count answer.new }
+    ensures state_value { result.state ≡ (opened (sheet_of lent.entry.sheet.now) (words lent.entry.langs.now)).state }
+    ensures text_filled { TextFilled answer.old (answer_line (opened (sheet_of lent.entry.sheet.now) (words lent.entry.langs.now)).answer) result.count answer.new }
 {
     let opening = open(lent.sheet, lent.langs);
     let told = opening.answer;
@@ -39,7 +39,7 @@ pub fn opened(lent: Lent, answer: &mut [u8; ANSWER_ROOM]) -> Answered
 
 // What a call hands back.
 fn reply_to(lent: Lent, state: State, call: Call) -> Reply
-    ensures { result ≡ reply (sheetOf lent.entry.sheet.now) (words lent.entry.langs.now) state (callOf call) }
+    ensures { result ≡ reply (sheet_of lent.entry.sheet.now) (words lent.entry.langs.now) state (call_of call) }
 {
     match call {
         Call::Programme(p) => state.choose_programme(lent.sheet, lent.langs, p),
@@ -51,8 +51,8 @@ fn reply_to(lent: Lent, state: State, call: Call) -> Reply
 
 // Answers a command, and gives the state after it.
 pub fn obey(lent: Lent, state: State, command: Command, answer: &mut [u8; ANSWER_ROOM]) -> Answered
-    ensures state_value { result.state ≡ stateAfter (sheetOf lent.entry.sheet.now) (words lent.entry.langs.now) state command }
-    ensures text_filled { TextFilled answer.old (answerTo (sheetOf lent.entry.sheet.now) (words lent.entry.langs.now) state command) result.count answer.new }
+    ensures state_value { result.state ≡ state_after (sheet_of lent.entry.sheet.now) (words lent.entry.langs.now) state command }
+    ensures text_filled { TextFilled answer.old (answer_to (sheet_of lent.entry.sheet.now) (words lent.entry.langs.now) state command) result.count answer.new }
 {
     match command {
         Command::Call(call) => {
@@ -94,9 +94,9 @@ pub fn answer_part(
     whole: bool,
     answer: &mut [u8; ANSWER_ROOM],
 ) -> Bench
-    ensures state_value { result.state ≡ (answeredPart (sheetOf lent.entry.sheet.now) (words lent.entry.langs.now) bench.state (written line.old bench.line) more.now whole).state }
-    ensures line_after { written line.new result.line ≡ (answeredPart (sheetOf lent.entry.sheet.now) (words lent.entry.langs.now) bench.state (written line.old bench.line) more.now whole).line }
-    ensures text_filled { TextFilled answer.old (answeredPart (sheetOf lent.entry.sheet.now) (words lent.entry.langs.now) bench.state (written line.old bench.line) more.now whole).answer result.answer answer.new }
+    ensures state_value { result.state ≡ (answered_part (sheet_of lent.entry.sheet.now) (words lent.entry.langs.now) bench.state (written line.old bench.line) more.now whole).state }
+    ensures line_after { written line.new result.line ≡ (answered_part (sheet_of lent.entry.sheet.now) (words lent.entry.langs.now) bench.state (written line.old bench.line) more.now whole).line }
+    ensures text_filled { TextFilled answer.old (answered_part (sheet_of lent.entry.sheet.now) (words lent.entry.langs.now) bench.state (written line.old bench.line) more.now whole).answer result.answer answer.new }
 {
     let count = put_text(line, bench.line, more);
     let state = bench.state;

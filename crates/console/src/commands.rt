@@ -2,7 +2,7 @@
 //     programme N | object N | gain N V | offset N V | list | state
 // N is 0 to 65535, V is -32768 to 32767 tenths, or `silence` for a gain. Any other line is unknown.
 ghost use Rattle.std.specs.Prelude.{◌≡◌};
-ghost use Rattle.console.specs.Commands.{alone, commandOf, gainCommand, offsetCommand, withNumber, withValue};
+ghost use Rattle.console.specs.Commands.{alone, command_of, gain_command, offset_command, with_number, with_value};
 
 use text::lines::{field, field_count, same};
 use text::numbers::{GainValue, Number, Tenths, gain_value_of, number_of, tenths_of};
@@ -27,7 +27,7 @@ pub enum Command {
 
 // The command that a line says.
 pub fn command_of(line: &[u8]) -> Command
-    ensures { result ≡ commandOf line.now }
+    ensures { result ≡ command_of line.now }
 {
     let n = field_count(line);
     if n == 1 {
@@ -57,7 +57,7 @@ fn alone(name: &[u8]) -> Command
 
 // `programme N` and `object N`.
 fn with_number(name: &[u8], n: Number) -> Command
-    ensures { result ≡ withNumber name.now n }
+    ensures { result ≡ with_number name.now n }
 {
     let Number::Of(k) = n else {
         return Command::Unknown;
@@ -73,7 +73,7 @@ fn with_number(name: &[u8], n: Number) -> Command
 
 // `gain N V` and `offset N V`.
 fn with_value(name: &[u8], n: Number, value: &[u8]) -> Command
-    ensures { result ≡ withValue name.now n value.now }
+    ensures { result ≡ with_value name.now n value.now }
 {
     let Number::Of(k) = n else {
         return Command::Unknown;
@@ -88,7 +88,7 @@ fn with_value(name: &[u8], n: Number, value: &[u8]) -> Command
 }
 
 fn gain_command(k: u16, value: GainValue) -> Command
-    ensures { result ≡ gainCommand k value }
+    ensures { result ≡ gain_command k value }
 {
     match value {
         GainValue::Nothing => Command::Unknown,
@@ -97,7 +97,7 @@ fn gain_command(k: u16, value: GainValue) -> Command
 }
 
 fn offset_command(k: u16, value: Tenths) -> Command
-    ensures { result ≡ offsetCommand k value }
+    ensures { result ≡ offset_command k value }
 {
     match value {
         Tenths::Nothing => Command::Unknown,

@@ -7,49 +7,49 @@ use native.Mathlib.Omega.{arith}
 use borrow.Author.Tests.{eq-eqb, ne_eqb}
 use lib.Dec.{eqb}
 use Rattle.text.specs.Bytes.{join}
-use Rattle.text.specs.Lines.{linesFrom}
-use Rattle.text.specs.Buffer.{Buffer, buffer, putByte}
-use Rattle.factorlines.specs.FactorLines.{factorLine}
-use Rattle.factorlines.specs.Reading.{Reading, reading, kept, afterByte, afterRead, lastAnswer, writtenFor}
-use Rattle.factorlines.proofs.KeptLaws.{Holds, holds-none, holds-more, count-none, count-some, kept-answer}
+use Rattle.text.specs.Lines.{lines_from}
+use Rattle.text.specs.Buffer.{Buffer, buffer, put_byte}
+use Rattle.factorlines.specs.FactorLines.{factor_line}
+use Rattle.factorlines.specs.Reading.{Reading, reading, kept, after_byte, after_read, last_answer, written_for}
+use Rattle.factorlines.proofs.KeptLaws.{Holds, holds_none, holds_more, count_none, count_some, kept_answer}
 
 -- the answers to the lines of a text, of whose first line l was read
 abbrev answers : List ℕ → List ℕ → List ℕ
-answers l s = join (map factorLine (linesFrom l s))
+answers l s = join (map factor_line (lines_from l s))
 
 -- at the end of the input
-last-answered : (line : Buffer) (l : List ℕ) → Holds line l → lastAnswer line ≡ answers l []
-unfolding lastAnswer linesFrom join
-last-answered line [] h = rw (eq-eqb line.count 0 (count-none line h)) refl
-last-answered line (b ∷ l) h =
-    let some = count-some line b l h in
-    rw (ne_eqb line.count 0 (λ e. let z : line.count ≡ 0 = e in omega (arith, some, z)), kept-answer line (b ∷ l) h) (sym (append-nil (factorLine (b ∷ l))))
+last_answered : (line : Buffer) (l : List ℕ) → Holds line l → last_answer line ≡ answers l []
+unfolding last_answer lines_from join
+last_answered line [] h = rw (eq-eqb line.count 0 (count_none line h)) refl
+last_answered line (b ∷ l) h =
+    let some = count_some line b l h in
+    rw (ne_eqb line.count 0 (λ e. let z : line.count ≡ 0 = e in omega (arith, some, z)), kept_answer line (b ∷ l) h) (sym (append-nil (factor_line (b ∷ l))))
 
 -- what is written for a read and those behind it
 abbrev output : Reading → List ℕ → List (List ℕ) → List ℕ
-output r s reads = (afterRead r s).answers ++ writtenFor (afterRead r s).line reads
+output r s reads = (after_read r s).answers ++ written_for (after_read r s).line reads
 
 -- a byte, which ends the line or is one more of it
 module _ (reads : List (List ℕ)) (s : List ℕ)
     (rest : (line : Buffer) (l x : List ℕ) → Holds line l → output (reading line x) s reads ≡ x ++ answers l (s ++ join reads)) where
   byte : (t : Bool) (b : ℕ) (line : Buffer) (l x : List ℕ) → Holds line l
-      → output (cond t (reading (buffer line.bytes 0) (x ++ factorLine (kept line))) (reading (putByte line b) x)) s reads
-      ≡ x ++ join (map factorLine (cond t (l ∷ linesFrom [] (s ++ join reads)) (linesFrom (l ++ (b ∷ [])) (s ++ join reads))))
+      → output (cond t (reading (buffer line.bytes 0) (x ++ factor_line (kept line))) (reading (put_byte line b) x)) s reads
+      ≡ x ++ join (map factor_line (cond t (l ∷ lines_from [] (s ++ join reads)) (lines_from (l ++ (b ∷ [])) (s ++ join reads))))
   unfolding join
   byte true b line l x h =
-      rest (buffer line.bytes 0) [] (x ++ factorLine (kept line)) (holds-none line.bytes h.room)
-      ∙ rw (kept-answer line l h) (append_assoc x (factorLine l) (answers [] (s ++ join reads)))
-  byte false b line l x h = rest (putByte line b) (l ++ (b ∷ [])) x (holds-more line l b h)
+      rest (buffer line.bytes 0) [] (x ++ factor_line (kept line)) (holds_none line.bytes h.room)
+      ∙ rw (kept_answer line l h) (append_assoc x (factor_line l) (answers [] (s ++ join reads)))
+  byte false b line l x h = rest (put_byte line b) (l ++ (b ∷ [])) x (holds_more line l b h)
 
 -- a read
-module _ (reads : List (List ℕ)) (behind : (line : Buffer) (l : List ℕ) → Holds line l → writtenFor line reads ≡ answers l (join reads)) where
-  read-answered : (s : List ℕ) (line : Buffer) (l x : List ℕ) → Holds line l → output (reading line x) s reads ≡ x ++ answers l (s ++ join reads)
-  unfolding afterRead afterByte linesFrom
-  read-answered [] line l x h = ap (λ t. x ++ t) (behind line l h)
-  read-answered (b ∷ s) line l x h = byte reads s (read-answered s) (eqb b 10) b line l x h
+module _ (reads : List (List ℕ)) (behind : (line : Buffer) (l : List ℕ) → Holds line l → written_for line reads ≡ answers l (join reads)) where
+  read_answered : (s : List ℕ) (line : Buffer) (l x : List ℕ) → Holds line l → output (reading line x) s reads ≡ x ++ answers l (s ++ join reads)
+  unfolding after_read after_byte lines_from
+  read_answered [] line l x h = ap (λ t. x ++ t) (behind line l h)
+  read_answered (b ∷ s) line l x h = byte reads s (read_answered s) (eqb b 10) b line l x h
 
 -- all reads
-pub input-answered : (reads : List (List ℕ)) (line : Buffer) (l : List ℕ) → Holds line l → writtenFor line reads ≡ answers l (join reads)
-unfolding writtenFor join
-input-answered [] line l h = last-answered line l h
-input-answered (s ∷ reads) line l h = read-answered reads (input-answered reads) s line l [] h
+pub input_answered : (reads : List (List ℕ)) (line : Buffer) (l : List ℕ) → Holds line l → written_for line reads ≡ answers l (join reads)
+unfolding written_for join
+input_answered [] line l h = last_answered line l h
+input_answered (s ∷ reads) line l h = read_answered reads (input_answered reads) s line l [] h

@@ -1,10 +1,10 @@
 -- An input that comes in reads of any length. The line that is being read is kept in a buffer of 257 bytes, by which one of more than 256 is
--- known. That what is written is `factorLines` of the whole input, however it is cut into reads, is `whole-input` (proofs/Theorems.antt).
+-- known. That what is written is `factor_lines` of the whole input, however it is cut into reads, is `whole_input` (proofs/Theorems.antt).
 -- Assumes nothing.
 use Rattle.std.specs.Prelude.{ℕ, cond, List, [], ◌∷◌, ◌++◌, eqb}
 use Rattle.text.specs.Lines.{part}
-use Rattle.text.specs.Buffer.{Buffer, buffer, putByte}
-use Rattle.factorlines.specs.FactorLines.{factorLine}
+use Rattle.text.specs.Buffer.{Buffer, buffer, put_byte}
+use Rattle.factorlines.specs.FactorLines.{factor_line}
 
 -- the line that is being read, and the answers to the lines before it
 pub record Reading : Type 0 where
@@ -19,18 +19,18 @@ abbrev pub kept : Buffer → List ℕ
 kept line = part line.bytes 0 line.count
 
 -- a newline, which is 10, ends the line, and it is answered; another byte is one more of the line
-unfoldable pub afterByte : Reading → ℕ → Reading
-afterByte r b = cond (eqb b 10) (reading (buffer r.line.bytes 0) (r.answers ++ factorLine (kept r.line))) (reading (putByte r.line b) r.answers)
+unfoldable pub after_byte : Reading → ℕ → Reading
+after_byte r b = cond (eqb b 10) (reading (buffer r.line.bytes 0) (r.answers ++ factor_line (kept r.line))) (reading (put_byte r.line b) r.answers)
 
-unfoldable pub afterRead : Reading → List ℕ → Reading
-afterRead r [] = r
-afterRead r (b ∷ s) = afterRead (afterByte r b) s
+unfoldable pub after_read : Reading → List ℕ → Reading
+after_read r [] = r
+after_read r (b ∷ s) = after_read (after_byte r b) s
 
 -- at the end of the input a line without a newline is answered, unless it is empty
-unfoldable pub lastAnswer : Buffer → List ℕ
-lastAnswer line = cond (eqb line.count 0) [] (factorLine (kept line))
+unfoldable pub last_answer : Buffer → List ℕ
+last_answer line = cond (eqb line.count 0) [] (factor_line (kept line))
 
 -- what is written for an input that comes in these reads
-unfoldable pub writtenFor : Buffer → List (List ℕ) → List ℕ
-writtenFor line [] = lastAnswer line
-writtenFor line (s ∷ reads) = (afterRead (reading line []) s).answers ++ writtenFor (afterRead (reading line []) s).line reads
+unfoldable pub written_for : Buffer → List (List ℕ) → List ℕ
+written_for line [] = last_answer line
+written_for line (s ∷ reads) = (after_read (reading line []) s).answers ++ written_for (after_read (reading line []) s).line reads

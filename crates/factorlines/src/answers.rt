@@ -1,7 +1,7 @@
 // The answer to a line.
 ghost use Rattle.std.specs.Prelude.{◌≡◌};
-ghost use Rattle.factorlines.specs.FactorLines.{conversionText, factorLine, factorOf};
-ghost use Rattle.text.specs.Buffer.{buffer as written, putText};
+ghost use Rattle.factorlines.specs.FactorLines.{conversion_text, factor_line, factor_of};
+ghost use Rattle.text.specs.Buffer.{buffer as written, put_text};
 
 use factors::convert::gain_of_factor;
 use factors::{Conversion, FACTOR_TOO_HIGH};
@@ -11,7 +11,7 @@ use text::writing::{put_gain, put_number, put_text};
 
 // The factor that a line says: its only field, if that is a number of 32 bits.
 fn factor_of(text: &[u8]) -> Option<u32>
-    ensures { result ≡ factorOf text.now }
+    ensures { result ≡ factor_of text.now }
 {
     if field_count(text) == 1 {
         wide_number_of(field(text, 0))
@@ -22,7 +22,7 @@ fn factor_of(text: &[u8]) -> Option<u32>
 
 // As in `-600`, `silence` or `refused 34`.
 fn put_conversion(answers: &mut [u8], count: usize, conversion: Conversion) -> usize
-    ensures { written answers.new result ≡ putText (written answers.old count) (conversionText conversion) }
+    ensures { written answers.new result ≡ put_text (written answers.old count) (conversion_text conversion) }
 {
     match conversion {
         Conversion::Gives(gain) => put_gain(answers, count, gain),
@@ -35,7 +35,7 @@ fn put_conversion(answers: &mut [u8], count: usize, conversion: Conversion) -> u
 
 // Writes the answer to a line behind the answers before it.
 pub fn put_factor_line(answers: &mut [u8], count: usize, line: &[u8]) -> usize
-    ensures { written answers.new result ≡ putText (written answers.old count) (factorLine line.now) }
+    ensures { written answers.new result ≡ put_text (written answers.old count) (factor_line line.now) }
 {
     match factor_of(said(line)) {
         None => put_text(answers, count, b"?\n"),

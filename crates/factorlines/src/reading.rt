@@ -1,6 +1,6 @@
 // An input that comes in reads of any length: the lines that end in one are answered, the beginning of the next is kept.
 ghost use Rattle.std.specs.Prelude.{[], ◌≡◌};
-ghost use Rattle.factorlines.specs.Reading.{afterRead, lastAnswer, reading};
+ghost use Rattle.factorlines.specs.Reading.{after_read, last_answer, reading};
 ghost use Rattle.text.specs.Buffer.{TextFilled, buffer as written};
 ghost use Rattle.text.specs.Lines.{part};
 
@@ -29,8 +29,8 @@ pub fn answer_read(
     count: usize,
     answers: &mut [u8; ANSWERS_ROOM],
 ) -> Progress
-    ensures line_after { written line.new result.line ≡ (afterRead (reading (written line.old kept) []) (part read.now 0 count)).line }
-    ensures text_filled { TextFilled answers.old (afterRead (reading (written line.old kept) []) (part read.now 0 count)).answers result.answers answers.new }
+    ensures line_after { written line.new result.line ≡ (after_read (reading (written line.old kept) []) (part read.now 0 count)).line }
+    ensures text_filled { TextFilled answers.old (after_read (reading (written line.old kept) []) (part read.now 0 count)).answers result.answers answers.new }
 {
     let bytes = part(read, 0, count);
     let mut at = kept;
@@ -53,7 +53,7 @@ pub fn answer_read(
 
 // At the end of the input a line without a newline is answered, unless it is empty.
 pub fn answer_last(line: &[u8; ROOM], kept: usize, answers: &mut [u8; ANSWERS_ROOM]) -> usize
-    ensures { TextFilled answers.old (lastAnswer (written line.now kept)) result answers.new }
+    ensures { TextFilled answers.old (last_answer (written line.now kept)) result answers.new }
 {
     if kept == 0 {
         return 0;

@@ -15,15 +15,15 @@ abbrev pub Between : List ℕ → ℕ → ℕ → ℕ → Type 0
 Between ns f base size = ((k : ℕ) → k < base → get_or ns k 0 < f) × ((k : ℕ) → base + size ≤ k → k < length ns → f ≤ get_or ns k 0)
 
 -- all places at first
-pub between-all : (ns : List ℕ) (f n : ℕ) → length ns ≡ n → Between ns f 0 n
-between-all ns f n e = (λ k h. absurd (omega arith), λ k h l. absurd (omega (arith, e)))
+pub between_all : (ns : List ℕ) (f n : ℕ) → length ns ≡ n → Between ns f 0 n
+between_all ns f n e = (λ k h. absurd (omega arith), λ k h l. absurd (omega (arith, e)))
 
 module _ (ns : List ℕ) (rising : (i j : ℕ) → i ≤ j → j < length ns → get_or ns i 0 ≤ get_or ns j 0) where
   -- a turn of the search: half of the places are left
-  pub between-half : (f base size half : ℕ) → 1 ≤ half → half + half ≤ size → base + size ≤ length ns → Between ns f base size
+  pub between_half : (f base size half : ℕ) → 1 ≤ half → half + half ≤ size → base + size ≤ length ns → Between ns f base size
       → (cond (ltb (get_or ns (base + half) 0) f) (base + half) base + (size - half) ≤ length ns)
       × Between ns f (cond (ltb (get_or ns (base + half) 0) f) (base + half) base) (size - half)
-  between-half f base size half one h l b =
+  between_half f base size half one h l b =
       (elim (ltb (get_or ns (base + half) 0) f) as (λ t. ltb (get_or ns (base + half) 0) f ≡ t → (cond t (base + half) base + (size - half) ≤ length ns) × Between ns f (cond t (base + half) base) (size - half)) [
         | true ↦ λ q. (
           omega arith,
@@ -42,9 +42,9 @@ module _ (ns : List ℕ) (rising : (i j : ℕ) → i ≤ j → j < length ns →
       ]) refl
 
   -- one place is left: it is that, or the next one
-  pub between-one : (f base : ℕ) → base < length ns → Between ns f base 1
+  pub between_one : (f base : ℕ) → base < length ns → Between ns f base 1
       → cond (ltb (get_or ns base 0) f) (base + 1) base ≡ position_or_len (λ n. leb f n) ns
-  between-one f base l b =
+  between_one f base l b =
       (elim (ltb (get_or ns base 0) f) as (λ t. ltb (get_or ns base 0) f ≡ t → cond t (base + 1) base ≡ position_or_len (λ n. leb f n) ns) [
         | true ↦ λ q. sym (position_or_len_is (λ n. leb f n) ns (base + 1) 0 (omega arith)
             (λ k m. lt-leb f (get_or ns k 0) (omega (arith, ltb-true _ _ q, rising k base (omega arith) l)))

@@ -5,8 +5,8 @@ use Rattle.values.specs.declared.Gain.TheVariants.{Silent, Tenths}
 use Rattle.factors.specs.declared.Conversion.{Conversion}
 use Rattle.factors.specs.declared.Conversion.TheVariants.{Gives, FactorTooHigh}
 use Rattle.factors.specs.Table.{entries}
-use Rattle.factors.specs.Decibels.{tenthAt}
-use Rattle.factors.specs.Conversion.{leastTenth, factorGain, conversion}
+use Rattle.factors.specs.Decibels.{tenth_at}
+use Rattle.factors.specs.Conversion.{least_tenth, factor_gain, conversion}
 
 pub record Case : Type 0 where
   pub factor : ℕ
@@ -34,6 +34,6 @@ cases =
     ∷ case 4294967295 FactorTooHigh
     ∷ []
 
-pub cases-hold : map (λ (c : Case). conversion c.factor) cases ≡ map (λ (c : Case). c.answer) cases
-unfolding entries tenthAt leastTenth factorGain conversion
-cases-hold = refl
+pub cases_hold : map (λ (c : Case). conversion c.factor) cases ≡ map (λ (c : Case). c.answer) cases
+unfolding entries tenth_at least_tenth factor_gain conversion
+cases_hold = refl

@@ -8,24 +8,24 @@ use Rattle.values.specs.declared.Gain.TheVariants.{Silent, Tenths}
 use Rattle.factors.specs.declared.Conversion.{Conversion}
 use Rattle.factors.specs.declared.Conversion.TheVariants.{Gives, FactorTooHigh}
 use Rattle.factors.specs.Table.{entries}
-use Rattle.factors.specs.Decibels.{tenthAt}
+use Rattle.factors.specs.Decibels.{tenth_at}
 
 -- "11,220,184", the last entry
-abbrev pub mostFactor : ℕ
-mostFactor = 11220184
+abbrev pub most_factor : ℕ
+most_factor = 11220184
 
 -- the number of the refusal: "34, the factor is above 11,220,184"
-abbrev pub factorTooHigh : ℕ
-factorTooHigh = 34
+abbrev pub factor_too_high : ℕ
+factor_too_high = 34
 
 -- "the least tenth of a dB that is not below it": that of the first entry that is not below the factor
-unfoldable pub leastTenth : ℕ → ℤ
-leastTenth f = tenthAt (position_or_len (λ n. leb f n) entries)
+unfoldable pub least_tenth : ℕ → ℤ
+least_tenth f = tenth_at (position_or_len (λ n. leb f n) entries)
 
 -- "0 is silence"
-unfoldable pub factorGain : ℕ → Gain
-factorGain f = cond (eqb f 0) Silent (Tenths (leastTenth f))
+unfoldable pub factor_gain : ℕ → Gain
+factor_gain f = cond (eqb f 0) Silent (Tenths (least_tenth f))
 
 -- the answer to a factor of f millionths
 unfoldable pub conversion : ℕ → Conversion
-conversion f = cond (leb f mostFactor) (Gives (factorGain f)) FactorTooHigh
+conversion f = cond (leb f most_factor) (Gives (factor_gain f)) FactorTooHigh

@@ -9,27 +9,27 @@ exponent (pos n) = 1800 + n
 exponent (negsuc n) = 1799 - n
 
 -- "n to the power 200, times 10 to the power 600, is at most 10 to the power (1800 + d)"
-unfoldable pub isWithin : ℕ → ℤ → Bool
-isWithin n d = leb (n ^ 200 * 10 ^ 600) (10 ^ exponent d)
+unfoldable pub is_within : ℕ → ℤ → Bool
+is_within n d = leb (n ^ 200 * 10 ^ 600) (10 ^ exponent d)
 
 -- "the largest n": n is, and n + 1 is not
-unfoldable pub isLargest : ℕ → ℤ → Bool
-isLargest n d = isWithin n d && not (isWithin (n + 1) d)
+unfoldable pub is_largest : ℕ → ℤ → Bool
+is_largest n d = is_within n d && not (is_within (n + 1) d)
 
 -- the tenth of a place in the table: -600 has the place 0
-unfoldable pub tenthAt : ℕ → ℤ
-tenthAt k = cond (ltb k 600) (negsuc (599 - k)) (pos (k - 600))
+unfoldable pub tenth_at : ℕ → ℤ
+tenth_at k = cond (ltb k 600) (negsuc (599 - k)) (pos (k - 600))
 
 -- each entry is the largest n of its tenth; the first of these entries has the place k
-unfoldable pub largestFrom : ℕ → List ℕ → Bool
-largestFrom k [] = true
-largestFrom k (n ∷ ns) = isLargest n (tenthAt k) && largestFrom (suc k) ns
+unfoldable pub largest_from : ℕ → List ℕ → Bool
+largest_from k [] = true
+largest_from k (n ∷ ns) = is_largest n (tenth_at k) && largest_from (suc k) ns
 
 -- the rule of the table
-unfoldable pub keepsRule : List ℕ → Bool
-keepsRule ns = largestFrom 0 ns
+unfoldable pub keeps_rule : List ℕ → Bool
+keeps_rule ns = largest_from 0 ns
 
 -- each entry is above the one before, which is m for the first
-unfoldable pub risesFrom : ℕ → List ℕ → Bool
-risesFrom m [] = true
-risesFrom m (n ∷ ns) = ltb m n && risesFrom n ns
+unfoldable pub rises_from : ℕ → List ℕ → Bool
+rises_from m [] = true
+rises_from m (n ∷ ns) = ltb m n && rises_from n ns

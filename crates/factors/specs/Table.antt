@@ -1,6 +1,6 @@
 -- The table of linear gains. Document 02, L3: "It rests on a fixed table of 811 entries, for each tenth d from -600 to 210 the largest n where
 -- n to the power 200, times 10 to the power 600, is at most 10 to the power (1800 + d)." That these are the numbers is shown by
--- one test over all of them (Decibels, `keepsRule`). Assumes nothing.
+-- one test over all of them (Decibels, `keeps_rule`). Assumes nothing.
 use Rattle.std.specs.Prelude.{ℕ, List, [], ◌∷◌}
 
 -- the entries of -600, -599 and so on to 210

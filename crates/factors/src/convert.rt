@@ -1,7 +1,7 @@
 // "A converter gives the least tenth of a dB that is not below it".
 ghost use Rattle.std.specs.List.{position_or_len};
 ghost use Rattle.std.specs.Prelude.{cond, leb, ◌≡◌, ◌≤◌};
-ghost use Rattle.factors.specs.Conversion.{conversion, leastTenth};
+ghost use Rattle.factors.specs.Conversion.{conversion, least_tenth};
 ghost use Rattle.factors.specs.Table.{entries};
 
 use crate::Conversion;
@@ -37,7 +37,7 @@ fn first_not_below(factor: u32) -> usize
 
 // The tenth of that place, which is 600 more; `!n` is -(n + 1).
 fn least_tenth(factor: u32) -> i16
-    ensures { result ≡ leastTenth factor }
+    ensures { result ≡ least_tenth factor }
 {
     let place = first_not_below(factor);
     if place < 600 {

@@ -2,10 +2,10 @@
 use Rattle.std.proofs.Common.{◌≡◌, refl, List, [], ◌∷◌, ◌++◌}
 use Rattle.figures.specs.declared.Figure.{Figure}
 use Rattle.figures.specs.declared.Figures.{Figures}
-use Rattle.figures.specs.Lists.{firstFigures, withFigure}
+use Rattle.figures.specs.Lists.{first_figures, with_figure}
 
 -- a list behind another
-pub first-append : (given : Figures) (xs ys : List Figure) → firstFigures given (xs ++ ys) ≡ firstFigures (firstFigures given xs) ys
-unfolding firstFigures
-first-append given [] ys = refl
-first-append given (x ∷ xs) ys = first-append (withFigure given x) xs ys
+pub first_append : (given : Figures) (xs ys : List Figure) → first_figures given (xs ++ ys) ≡ first_figures (first_figures given xs) ys
+unfolding first_figures
+first_append given [] ys = refl
+first_append given (x ∷ xs) ys = first_append (with_figure given x) xs ys

@@ -10,46 +10,46 @@ use lib.IntN.{pos}
 use borrow.Author.Tests.{eq-eqb, not-true, both_ways}
 use Rattle.sheet.specs.Words.{Sheet, word}
 use Rattle.sheet.specs.Layout.{count, field, number, entry}
-use Rattle.sheet.specs.Fields.{objects, complementList, interact}
-use Rattle.values.specs.Signed.{signedOf, wordOf}
-use Rattle.values.proofs.Words.{word-of-signed}
+use Rattle.sheet.specs.Fields.{objects, complement_list, interact}
+use Rattle.values.specs.Signed.{signed_of, word_of}
+use Rattle.values.proofs.Words.{word_of_signed}
 use Rattle.profile.specs.declared.Place.{Place}
 use Rattle.profile.specs.declared.Place.TheVariants.{Object}
 use Rattle.profile.specs.declared.Verdict.TheVariants.{Broken}
 use Rattle.profile.specs.Counting.{any}
 use Rattle.profile.specs.Relations.{kind}
 use Rattle.profile.specs.Rules.{rule20, differs}
-use Rattle.profile.specs.Verdict.{sectionOf, recordOf, verdict, breaks, subjects, subjectKind}
+use Rattle.profile.specs.Verdict.{section_of, record_of, verdict, breaks, subjects, subject_kind}
 use Rattle.profile.specs.FirstBroken.{BrokenAt}
-use Rattle.profile.proofs.BoolLaws.{or-either}
-use Rattle.profile.proofs.SumLaws.{any-one}
-use Rattle.profile.proofs.GroupLaws.{any-witness}
-use Rattle.profile.proofs.VerdictLaws.{broken-first}
+use Rattle.profile.proofs.BoolLaws.{or_either}
+use Rattle.profile.proofs.SumLaws.{any_one}
+use Rattle.profile.proofs.GroupLaws.{any_witness}
+use Rattle.profile.proofs.VerdictLaws.{broken_first}
 use Rattle.figures.specs.declared.FigureNumber.TheVariants.{Derived}
 use Rattle.figures.specs.declared.Clash.{Clash}
 use Rattle.figures.specs.Clashes.{printed}
-use Rattle.figures.specs.Members.{comparedAt, comparedCount, wordClash, kindClash, wordClashes, memberClash, leaderClash}
-use Rattle.figures.specs.Figures.{figuresOf, figures}
+use Rattle.figures.specs.Members.{compared_at, compared_count, word_clash, kind_clash, word_clashes, member_clash, leader_clash}
+use Rattle.figures.specs.Figures.{figures_of, figures}
 use Rattle.figures.specs.Promises.{Stands, MemberDiffers}
-use Rattle.figures.proofs.FoundLaws.{first-found, second-found, below-found, earlier-keeps, below-keeps, told-figures, broken-figures}
-use Rattle.figures.proofs.KeptLaws.{complement-index, five-twenty}
+use Rattle.figures.proofs.FoundLaws.{first_found, second_found, below_found, earlier_keeps, below_keeps, told_figures, broken_figures}
+use Rattle.figures.proofs.KeptLaws.{complement_index, five_twenty}
 
 -- Two figures of a leader l and a member q that differ
 record Differ (s : Sheet) (l q : ℕ) (x : Clash) : Type 0 where
-  leader-of : (x.first.section ≡ objects) × (x.first.index ≡ l)
-  member-of : (x.second.section ≡ objects) × (x.second.index ≡ q)
-  same-word : ((i : ℕ) × ((i < comparedCount) × (Stands s x.first (comparedAt i) × Stands s x.second (comparedAt i))))
+  leader_of_lem : (x.first.section ≡ objects) × (x.first.index ≡ l)
+  member_of : (x.second.section ≡ objects) × (x.second.index ≡ q)
+  same_word : ((i : ℕ) × ((i < compared_count) × (Stands s x.first (compared_at i) × Stands s x.second (compared_at i))))
       ⊎ ((x.first.number ≡ Derived (kind s x.first.index)) × (x.second.number ≡ Derived (kind s x.second.index)))
   unequal : printed x.first.number ≡ printed x.second.number → ⊥
 
 -- unequal words are unequal as signed numbers
-unequal-words : (w x : ℕ) → w < 65536 → x < 65536 → not (eqb w x) ≡ true → signedOf w ≡ signedOf x → ⊥
-unequal-words w x l m e h =
-    let same : w ≡ x = sym (word-of-signed w l) ∙ ap wordOf h ∙ word-of-signed x m in
+unequal_words : (w x : ℕ) → w < 65536 → x < 65536 → not (eqb w x) ≡ true → signed_of w ≡ signed_of x → ⊥
+unequal_words w x l m e h =
+    let same : w ≡ x = sym (word_of_signed w l) ∙ ap word_of h ∙ word_of_signed x m in
     both_ways (eqb w x) (not-true _ e) (eq-eqb w x same)
 
-unequal-numbers : (w x : ℕ) → not (eqb w x) ≡ true → pos w ≡ pos x → ⊥
-unequal-numbers w x e h =
+unequal_numbers : (w x : ℕ) → not (eqb w x) ≡ true → pos w ≡ pos x → ⊥
+unequal_numbers w x e h =
     let same : w ≡ x = cc in
     both_ways (eqb w x) (not-true _ e) (eq-eqb w x same)
 
@@ -66,105 +66,105 @@ turn false false false true = refl
 turn false false false false = refl
 
 -- the seven words from interact on are the words that are compared
-seven : (p : ℕ → Bool) → any (λ f. p (interact + f)) 7 ≡ any (λ i. p (comparedAt i)) comparedCount
+seven : (p : ℕ → Bool) → any (λ f. p (interact + f)) 7 ≡ any (λ i. p (compared_at i)) compared_count
 unfolding any
 seven p = ap (λ (t : Bool). t || p 12 || p 13) (turn (p 7 || p 8) (p 9) (p 10) (p 11))
 
 module _ (s : Sheet) (fit : (i : ℕ) → word s i < 65536) (l q : ℕ) (m : l < count s objects) (n : q < count s objects) where
-  word-differs : (i : ℕ) → i < comparedCount → (wordClash s l q (comparedAt i)).found ≡ true → Differ s l q (wordClash s l q (comparedAt i))
-  unfolding wordClash
-  word-differs i k e =
+  word_differs : (i : ℕ) → i < compared_count → (word_clash s l q (compared_at i)).found ≡ true → Differ s l q (word_clash s l q (compared_at i))
+  unfolding word_clash
+  word_differs i k e =
       record {
-        leader-of = (refl, refl);
-        member-of = (refl, refl);
-        same-word = inl (i, (k, (record { inside = m; word = refl }, record { inside = n; word = refl })));
-        unequal = unfold field in unequal-words _ _ (fit _) (fit _) e;
+        leader_of_lem = (refl, refl);
+        member_of = (refl, refl);
+        same_word = inl (i, (k, (record { inside = m; word = refl }, record { inside = n; word = refl })));
+        unequal = unfold field in unequal_words _ _ (fit _) (fit _) e;
       }
 
-  kind-differs : (kindClash s l q).found ≡ true → Differ s l q (kindClash s l q)
-  unfolding kindClash
-  kind-differs e =
+  kind_differs : (kind_clash s l q).found ≡ true → Differ s l q (kind_clash s l q)
+  unfolding kind_clash
+  kind_differs e =
       record {
-        leader-of = (refl, refl);
-        member-of = (refl, refl);
-        same-word = inr (refl, refl);
-        unequal = unequal-numbers _ _ e;
+        leader_of_lem = (refl, refl);
+        member_of = (refl, refl);
+        same_word = inr (refl, refl);
+        unequal = unequal_numbers _ _ e;
       }
 
-  clash-differs : (memberClash s l q).found ≡ true → Differ s l q (memberClash s l q)
-  unfolding memberClash wordClashes
-  clash-differs e = earlier-keeps (Differ s l q) _ _ (below-keeps (Differ s l q) (λ i. wordClash s l q (comparedAt i)) comparedCount word-differs) kind-differs e
+  clash_differs : (member_clash s l q).found ≡ true → Differ s l q (member_clash s l q)
+  unfolding member_clash word_clashes
+  clash_differs e = earlier_keeps (Differ s l q) _ _ (below_keeps (Differ s l q) (λ i. word_clash s l q (compared_at i)) compared_count word_differs) kind_differs e
 
 module _ (s : Sheet) where
   -- a leader and a member that differ have a clash
-  words-found : (l q : ℕ) → any (λ f. not (eqb (field s objects l (interact + f)) (field s objects q (interact + f)))) 7 ≡ true → (wordClashes s l q).found ≡ true
-  unfolding wordClash wordClashes
-  words-found l q h =
-      below-found (λ i. wordClash s l q (comparedAt i)) comparedCount ∙ sym (seven (λ at. not (eqb (field s objects l at) (field s objects q at)))) ∙ h
+  words_found : (l q : ℕ) → any (λ f. not (eqb (field s objects l (interact + f)) (field s objects q (interact + f)))) 7 ≡ true → (word_clashes s l q).found ≡ true
+  unfolding word_clash word_clashes
+  words_found l q h =
+      below_found (λ i. word_clash s l q (compared_at i)) compared_count ∙ sym (seven (λ at. not (eqb (field s objects l at) (field s objects q at)))) ∙ h
 
-  kind-found : (l q : ℕ) → not (eqb (kind s l) (kind s q)) ≡ true → (kindClash s l q).found ≡ true
-  unfolding kindClash
-  kind-found l q h = h
+  kind_found : (l q : ℕ) → not (eqb (kind s l) (kind s q)) ≡ true → (kind_clash s l q).found ≡ true
+  unfolding kind_clash
+  kind_found l q h = h
 
-  differs-found : (l q : ℕ) → differs s l q ≡ true → (memberClash s l q).found ≡ true
-  unfolding differs memberClash
-  differs-found l q e =
-      ⊎_elim (λ h. first-found _ _ (words-found l q h)) (λ h. second-found _ _ (kind-found l q h))
-      (or-either (any (λ f. not (eqb (field s objects l (interact + f)) (field s objects q (interact + f)))) 7) (not (eqb (kind s l) (kind s q))) e)
+  differs_found : (l q : ℕ) → differs s l q ≡ true → (member_clash s l q).found ≡ true
+  unfolding differs member_clash
+  differs_found l q e =
+      ⊎_elim (λ h. first_found _ _ (words_found l q h)) (λ h. second_found _ _ (kind_found l q h))
+      (or_either (any (λ f. not (eqb (field s objects l (interact + f)) (field s objects q (interact + f)))) 7) (not (eqb (kind s l) (kind s q))) e)
 
   -- so has a leader that breaks rule 20
-  leader-found : (section l : ℕ) → rule20 s section l ≡ true → (leaderClash s l).found ≡ true
-  unfolding rule20 leaderClash
-  leader-found section l e =
-      let w = any-witness (λ i. differs s l (entry s objects l complementList i)) (number s objects l complementList) e in
-      below-found (λ i. memberClash s l (entry s objects l complementList i)) (number s objects l complementList)
-      ∙ any-one (λ i. (memberClash s l (entry s objects l complementList i)).found) (number s objects l complementList) w.0 w.1 (differs-found l (entry s objects l complementList w.0) w.2)
+  leader_found : (section l : ℕ) → rule20 s section l ≡ true → (leader_clash s l).found ≡ true
+  unfolding rule20 leader_clash
+  leader_found section l e =
+      let w = any_witness (λ i. differs s l (entry s objects l complement_list i)) (number s objects l complement_list) e in
+      below_found (λ i. member_clash s l (entry s objects l complement_list i)) (number s objects l complement_list)
+      ∙ any_one (λ i. (member_clash s l (entry s objects l complement_list i)).found) (number s objects l complement_list) w.0 w.1 (differs_found l (entry s objects l complement_list w.0) w.2)
 
 -- a place that rule 20 can have
-object-place : (s : Sheet) (place : Place) → recordOf place < subjects s 20 (sectionOf place) → recordOf place < count s objects
-unfolding subjects subjectKind
-object-place s (Object k) l = l
-object-place s place l = absurd (omega arith)
+object_place : (s : Sheet) (place : Place) → record_of place < subjects s 20 (section_of place) → record_of place < count s objects
+unfolding subjects subject_kind
+object_place s (Object k) l = l
+object_place s place l = absurd (omega arith)
 
-rule20-broken : (s : Sheet) (langs : List ℕ) (section k : ℕ) → breaks s langs 20 section k ≡ true → rule20 s section k ≡ true
+rule20_broken : (s : Sheet) (langs : List ℕ) (section k : ℕ) → breaks s langs 20 section k ≡ true → rule20 s section k ≡ true
 unfolding breaks
-rule20-broken s langs section k e = e
+rule20_broken s langs section k e = e
 
-figures-twenty : (s : Sheet) (langs : List ℕ) (place : Place) → verdict s langs ≡ Broken 20 place → (leaderClash s (recordOf place)).found ≡ true
-    → figures s langs ≡ (leaderClash s (recordOf place)).first ∷ (leaderClash s (recordOf place)).second ∷ []
-unfolding figuresOf
-figures-twenty s langs place e h = broken-figures s langs 20 place e ∙ told-figures (leaderClash s (recordOf place)) h
+figures_twenty : (s : Sheet) (langs : List ℕ) (place : Place) → verdict s langs ≡ Broken 20 place → (leader_clash s (record_of place)).found ≡ true
+    → figures s langs ≡ (leader_clash s (record_of place)).first ∷ (leader_clash s (record_of place)).second ∷ []
+unfolding figures_of
+figures_twenty s langs place e h = broken_figures s langs 20 place e ∙ told_figures (leader_clash s (record_of place)) h
 
 -- a clash of a leader with one that it lists
 record Listed (s : Sheet) (l : ℕ) (x : Clash) : Type 0 where
   place : ℕ
-  is-listed : place < number s objects l complementList
-  differ : Differ s l (entry s objects l complementList place) x
+  is_listed_lem : place < number s objects l complement_list
+  differ : Differ s l (entry s objects l complement_list place) x
 
-leader-listed : (s : Sheet) → ((i : ℕ) → word s i < 65536) → (l : ℕ) → l < count s objects
-    → ((i : ℕ) → l < count s objects → i < number s objects l complementList → entry s objects l complementList i < count s objects)
-    → (leaderClash s l).found ≡ true → Listed s l (leaderClash s l)
-unfolding leaderClash
-leader-listed s fit l m n e =
-    below-keeps (Listed s l) (λ i. memberClash s l (entry s objects l complementList i)) (number s objects l complementList)
-    (λ i k h. record { place = i; is-listed = k; differ = clash-differs s fit l (entry s objects l complementList i) m (n i m k) h }) e
+leader_listed : (s : Sheet) → ((i : ℕ) → word s i < 65536) → (l : ℕ) → l < count s objects
+    → ((i : ℕ) → l < count s objects → i < number s objects l complement_list → entry s objects l complement_list i < count s objects)
+    → (leader_clash s l).found ≡ true → Listed s l (leader_clash s l)
+unfolding leader_clash
+leader_listed s fit l m n e =
+    below_keeps (Listed s l) (λ i. member_clash s l (entry s objects l complement_list i)) (number s objects l complement_list)
+    (λ i k h. record { place = i; is_listed_lem = k; differ = clash_differs s fit l (entry s objects l complement_list i) m (n i m k) h }) e
 
-pub member-differs : (s : Sheet) (langs : List ℕ) (place : Place) → ((i : ℕ) → word s i < 65536) → verdict s langs ≡ Broken 20 place → MemberDiffers s langs (recordOf place)
-member-differs s langs place fit e =
-    let b : BrokenAt s langs 20 (sectionOf place) (recordOf place) = (broken-first s langs 20 place e).here in
-    let l : ℕ = recordOf place in
-    let m : l < count s objects = object-place s place b.subject in
-    let h : (leaderClash s l).found ≡ true = leader-found s (sectionOf place) l (rule20-broken s langs (sectionOf place) l b.broken) in
-    let x : Listed s l (leaderClash s l) = leader-listed s fit l m (complement-index s langs 20 place e five-twenty l) h in
+pub member_differs : (s : Sheet) (langs : List ℕ) (place : Place) → ((i : ℕ) → word s i < 65536) → verdict s langs ≡ Broken 20 place → MemberDiffers s langs (record_of place)
+member_differs s langs place fit e =
+    let b : BrokenAt s langs 20 (section_of place) (record_of place) = (broken_first s langs 20 place e).here in
+    let l : ℕ = record_of place in
+    let m : l < count s objects = object_place s place b.subject in
+    let h : (leader_clash s l).found ≡ true = leader_found s (section_of place) l (rule20_broken s langs (section_of place) l b.broken) in
+    let x : Listed s l (leader_clash s l) = leader_listed s fit l m (complement_index s langs 20 place e five_twenty l) h in
     record {
       place = x.place;
-      first = (leaderClash s l).first;
-      second = (leaderClash s l).second;
-      listed = figures-twenty s langs place e h;
-      is-listed = x.is-listed;
-      leader-of = x.differ.leader-of;
-      member-of = x.differ.member-of;
-      inside = (m, complement-index s langs 20 place e five-twenty l x.place m x.is-listed);
-      same-word = x.differ.same-word;
+      first = (leader_clash s l).first;
+      second = (leader_clash s l).second;
+      listed = figures_twenty s langs place e h;
+      is_listed_lem = x.is_listed_lem;
+      leader_of_lem = x.differ.leader_of_lem;
+      member_of = x.differ.member_of;
+      inside = (m, complement_index s langs 20 place e five_twenty l x.place m x.is_listed_lem);
+      same_word = x.differ.same_word;
       unequal = x.differ.unequal;
     }

@@ -7,28 +7,28 @@ use Rattle.sheet.specs.Words.{Sheet}
 use Rattle.profile.specs.declared.Place.{Place}
 use Rattle.profile.specs.declared.Verdict.{Verdict}
 use Rattle.profile.specs.declared.Verdict.TheVariants.{Accepted, Broken}
-use Rattle.profile.specs.Verdict.{sectionOf, recordOf, verdict}
+use Rattle.profile.specs.Verdict.{section_of, record_of, verdict}
 use Rattle.figures.specs.declared.Figure.{Figure}
 use Rattle.figures.specs.declared.Clash.{Clash}
-use Rattle.figures.specs.Ranges.{rangeClashes}
-use Rattle.figures.specs.Members.{leaderClash}
-use Rattle.figures.specs.Shares.{shareList}
+use Rattle.figures.specs.Ranges.{range_clashes}
+use Rattle.figures.specs.Members.{leader_clash}
+use Rattle.figures.specs.Shares.{share_list}
 
 -- the two figures of a clash
-unfoldable pub clashFigures : Clash → List Figure
-clashFigures x = cond x.found (x.first ∷ x.second ∷ []) []
+unfoldable pub clash_figures : Clash → List Figure
+clash_figures x = cond x.found (x.first ∷ x.second ∷ []) []
 
 -- the figures of a rule that is broken at a place
-unfoldable pub figuresOf : Sheet → ℕ → Place → List Figure
-figuresOf s rule place =
-    cond (eqb rule 18) (clashFigures (rangeClashes s (sectionOf place) (recordOf place)))
-    (cond (eqb rule 20) (clashFigures (leaderClash s (recordOf place))) (cond (eqb rule 24) (shareList s) []))
+unfoldable pub figures_of : Sheet → ℕ → Place → List Figure
+figures_of s rule place =
+    cond (eqb rule 18) (clash_figures (range_clashes s (section_of place) (record_of place)))
+    (cond (eqb rule 20) (clash_figures (leader_clash s (record_of place))) (cond (eqb rule 24) (share_list s) []))
 
 -- the figures by a verdict
-unfoldable pub figuresBy : Sheet → Verdict → List Figure
-figuresBy s Accepted = []
-figuresBy s (Broken rule place) = figuresOf s rule place
+unfoldable pub figures_by : Sheet → Verdict → List Figure
+figures_by s Accepted = []
+figures_by s (Broken rule place) = figures_of s rule place
 
 -- the figures of a sheet: each with the section and the record where it stands, in the order in which they are told
 unfoldable pub figures : Sheet → List ℕ → List Figure
-figures s langs = figuresBy s (verdict s langs)
+figures s langs = figures_by s (verdict s langs)

@@ -3,44 +3,44 @@
 use Rattle.std.specs.Prelude.{ℕ, not, List, [], ◌∷◌, eqb, get_or}
 use Rattle.sheet.specs.Words.{Sheet}
 use Rattle.sheet.specs.Layout.{field, number, entry}
-use Rattle.sheet.specs.Fields.{objects, complementList, interact, objectGain, objectGainMinimum, objectGainMaximum, objectOffset, objectOffsetMinimum, objectOffsetMaximum}
+use Rattle.sheet.specs.Fields.{objects, complement_list, interact, object_gain, object_gain_minimum, object_gain_maximum, object_offset, object_offset_minimum, object_offset_maximum}
 use Rattle.profile.specs.Relations.{kind}
 use Rattle.figures.specs.declared.Figure.{Figure}
 use Rattle.figures.specs.declared.FigureNumber.TheVariants.{Derived}
 use Rattle.figures.specs.declared.Clash.{Clash}
-use Rattle.figures.specs.Clashes.{inObject, told, clash, earlier, firstBelow}
+use Rattle.figures.specs.Clashes.{in_object, told, clash, earlier, first_below}
 
 -- "interact, gain, offset, the four range words", in this order
 abbrev pub compared : List ℕ
 compared =
-    interact ∷ objectGain ∷ objectOffset ∷ objectGainMinimum ∷ objectGainMaximum ∷ objectOffsetMinimum ∷ objectOffsetMaximum ∷ []
+    interact ∷ object_gain ∷ object_offset ∷ object_gain_minimum ∷ object_gain_maximum ∷ object_offset_minimum ∷ object_offset_maximum ∷ []
 
-abbrev pub comparedAt : ℕ → ℕ
-comparedAt i = get_or compared i 0
+abbrev pub compared_at : ℕ → ℕ
+compared_at i = get_or compared i 0
 
 -- how many words are compared
-abbrev pub comparedCount : ℕ
-comparedCount = 7
+abbrev pub compared_count : ℕ
+compared_count = 7
 
 -- a word of leader l against that of member q
-unfoldable pub wordClash : Sheet → ℕ → ℕ → ℕ → Clash
-wordClash s l q at = clash (not (eqb (field s objects l at) (field s objects q at))) (told s (inObject l at)) (told s (inObject q at))
+unfoldable pub word_clash : Sheet → ℕ → ℕ → ℕ → Clash
+word_clash s l q at = clash (not (eqb (field s objects l at) (field s objects q at))) (told s (in_object l at)) (told s (in_object q at))
 
 -- "or kind": it stands under the object
-abbrev pub kindFigure : Sheet → ℕ → Figure
-kindFigure s o = record { section = objects; index = o; number = Derived (kind s o) }
+abbrev pub kind_figure : Sheet → ℕ → Figure
+kind_figure s o = record { section = objects; index = o; number = Derived (kind s o) }
 
-unfoldable pub kindClash : Sheet → ℕ → ℕ → Clash
-kindClash s l q = clash (not (eqb (kind s l) (kind s q))) (kindFigure s l) (kindFigure s q)
+unfoldable pub kind_clash : Sheet → ℕ → ℕ → Clash
+kind_clash s l q = clash (not (eqb (kind s l) (kind s q))) (kind_figure s l) (kind_figure s q)
 
 -- the first unequal word
-unfoldable pub wordClashes : Sheet → ℕ → ℕ → Clash
-wordClashes s l q = firstBelow (λ i. wordClash s l q (comparedAt i)) comparedCount
+unfoldable pub word_clashes : Sheet → ℕ → ℕ → Clash
+word_clashes s l q = first_below (λ i. word_clash s l q (compared_at i)) compared_count
 
 -- what a leader and a member differ in first
-unfoldable pub memberClash : Sheet → ℕ → ℕ → Clash
-memberClash s l q = earlier (wordClashes s l q) (kindClash s l q)
+unfoldable pub member_clash : Sheet → ℕ → ℕ → Clash
+member_clash s l q = earlier (word_clashes s l q) (kind_clash s l q)
 
 -- the first clash of a leader, "by member in list order"
-unfoldable pub leaderClash : Sheet → ℕ → Clash
-leaderClash s l = firstBelow (λ i. memberClash s l (entry s objects l complementList i)) (number s objects l complementList)
+unfoldable pub leader_clash : Sheet → ℕ → Clash
+leader_clash s l = first_below (λ i. member_clash s l (entry s objects l complement_list i)) (number s objects l complement_list)

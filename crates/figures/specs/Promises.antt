@@ -6,21 +6,21 @@ use mathlib.Core.Logic.{◌⊎◌}
 use lib.Signed.{le_z}
 use Rattle.sheet.specs.Words.{Sheet}
 use Rattle.sheet.specs.Layout.{level, count, field, number, entry}
-use Rattle.sheet.specs.Fields.{objects, valueSets, complementList, setOwn}
+use Rattle.sheet.specs.Fields.{objects, value_sets, complement_list, set_own}
 use Rattle.values.specs.declared.Sort.{Sort}
 use Rattle.values.specs.declared.Sort.TheVariants.{Gains, Offsets}
 use Rattle.values.specs.declared.Gain.{Gain}
 use Rattle.values.specs.declared.Gain.TheVariants.{Silent, Tenths}
-use Rattle.values.specs.Gain.{atMost}
-use Rattle.values.specs.Values.{isAbsent}
-use Rattle.profile.specs.Limits.{limit, countedLimit}
-use Rattle.profile.specs.Relations.{kind, owner, share, objectValue, objectMinimum, objectMaximum, setValue, setMinimum, setMaximum}
+use Rattle.values.specs.Gain.{at_most}
+use Rattle.values.specs.Values.{is_absent}
+use Rattle.profile.specs.Limits.{limit, counted_limit}
+use Rattle.profile.specs.Relations.{kind, owner, share, object_value, object_minimum, object_maximum, set_value, set_minimum, set_maximum}
 use Rattle.figures.specs.declared.FigureNumber.{FigureNumber}
 use Rattle.figures.specs.declared.FigureNumber.TheVariants.{Word, Derived}
 use Rattle.figures.specs.declared.Figure.{Figure}
-use Rattle.figures.specs.Clashes.{printed, noFigure}
-use Rattle.figures.specs.Members.{comparedAt, comparedCount}
-use Rattle.figures.specs.Shares.{hasShare}
+use Rattle.figures.specs.Clashes.{printed, no_figure}
+use Rattle.figures.specs.Members.{compared_at, compared_count}
+use Rattle.figures.specs.Shares.{has_share}
 use Rattle.figures.specs.Figures.{figures}
 
 -- the figure is the word at a position of its record, and the sheet has that record
@@ -29,27 +29,27 @@ pub record Stands (s : Sheet) (x : Figure) (at : ℕ) : Type 0 where
   pub word : x.number ≡ Word (field s x.section x.index at)
 
 -- "either silence (-32768) or a number of tenths": the gain that a printed number stands for
-abbrev pub isSilence : ℤ → Bool
-isSilence (pos n) = false
-isSilence (negsuc n) = eqb n 32767
+abbrev pub is_silence : ℤ → Bool
+is_silence (pos n) = false
+is_silence (negsuc n) = eqb n 32767
 
-abbrev pub printedGain : ℤ → Gain
-printedGain z = cond (isSilence z) Silent (Tenths z)
+abbrev pub printed_gain : ℤ → Gain
+printed_gain z = cond (is_silence z) Silent (Tenths z)
 
 -- one printed number is at most another, by the order of gains ("silence is below every number") or of offsets
 abbrev pub AtMost : Sort → ℤ → ℤ → Type 0
-AtMost Gains y z = atMost (printedGain y) (printedGain z) ≡ true
+AtMost Gains y z = at_most (printed_gain y) (printed_gain z) ≡ true
 AtMost Offsets y z = le_z y z ≡ true
 
 -- where an object or a value set has the value of a sort, its minimum and its maximum
-abbrev pub valueAt : ℕ → Sort → ℕ
-valueAt section t = cond (eqb section objects) (objectValue t) (setValue t)
+abbrev pub value_at : ℕ → Sort → ℕ
+value_at section t = cond (eqb section objects) (object_value t) (set_value t)
 
-abbrev pub minimumAt : ℕ → Sort → ℕ
-minimumAt section t = cond (eqb section objects) (objectMinimum t) (setMinimum t)
+abbrev pub minimum_at : ℕ → Sort → ℕ
+minimum_at section t = cond (eqb section objects) (object_minimum t) (set_minimum t)
 
-abbrev pub maximumAt : ℕ → Sort → ℕ
-maximumAt section t = cond (eqb section objects) (objectMaximum t) (setMaximum t)
+abbrev pub maximum_at : ℕ → Sort → ℕ
+maximum_at section t = cond (eqb section objects) (object_maximum t) (set_maximum t)
 
 -- the figure is a word that is there: "In gain, offset and range words 32767 means absent"
 abbrev pub IsThere : Figure → Type 0
@@ -60,23 +60,23 @@ abbrev pub OfObject : ℕ → Figure → Type 0
 OfObject o x = (x.section ≡ objects) × (x.index ≡ o)
 
 abbrev pub OfSet : ℕ → Figure → Type 0
-OfSet v x = (x.section ≡ valueSets) × (x.index ≡ v)
+OfSet v x = (x.section ≡ value_sets) × (x.index ≡ v)
 
 -- the value of set v, which is object o's: the set's own word where that is there, the object's where it is absent
 abbrev pub SetValue : Sheet → ℕ → ℕ → Sort → Figure → Type 0
 SetValue s o v t value =
-    (OfSet v value × (isAbsent (field s valueSets v (setValue t)) ≡ false)) ⊎ (OfObject o value × (isAbsent (field s valueSets v (setValue t)) ≡ true))
+    (OfSet v value × (is_absent (field s value_sets v (set_value t)) ≡ false)) ⊎ (OfObject o value × (is_absent (field s value_sets v (set_value t)) ≡ true))
 
 -- and the bound beside it: the set's where its own is 1; the object's where its own is not 1, or where the value is the set's own word
 abbrev pub SetBound : Sheet → ℕ → ℕ → Figure → Figure → Type 0
 SetBound s o v value bound =
-    (OfSet v bound × (field s valueSets v setOwn ≡ 1)) ⊎ (OfObject o bound × ((field s valueSets v setOwn ≡ 1 → ⊥) ⊎ OfSet v value))
+    (OfSet v bound × (field s value_sets v set_own ≡ 1)) ⊎ (OfObject o bound × ((field s value_sets v set_own ≡ 1 → ⊥) ⊎ OfSet v value))
 
 -- whose two figures break rule 18 at record k of a section: at an object both are its own; at a value set they are the set's or its object's
 abbrev pub BreakAt : Sheet → ℕ → ℕ → Sort → Figure → Figure → Type 0
 BreakAt s section k t value bound =
     ((section ≡ objects) × (OfObject k value × OfObject k bound))
-    ⊎ ((section ≡ valueSets) × (SetValue s (owner s k) k t value × SetBound s (owner s k) k value bound))
+    ⊎ ((section ≡ value_sets) × (SetValue s (owner s k) k t value × SetBound s (owner s k) k value bound))
 
 -- 18: "the value, then the bound". Two figures, a value and the minimum or the maximum of its sort, which the rule sets side by side at
 -- record k of the section; both are there, and the value is below that minimum or above that maximum
@@ -86,11 +86,11 @@ pub record RangeLeft (s : Sheet) (langs : List ℕ) (section k : ℕ) : Type 0 w
   pub bound : Figure
   pub listed : figures s langs ≡ value ∷ bound ∷ []
   pub place : BreakAt s section k sort value bound
-  pub value-stands : Stands s value (valueAt value.section sort)
-  pub value-there : IsThere value
-  pub bound-there : IsThere bound
-  pub outside : (Stands s bound (minimumAt bound.section sort) × (AtMost sort (printed bound.number) (printed value.number) → ⊥))
-      ⊎ (Stands s bound (maximumAt bound.section sort) × (AtMost sort (printed value.number) (printed bound.number) → ⊥))
+  pub value_stands : Stands s value (value_at value.section sort)
+  pub value_there : IsThere value
+  pub bound_there : IsThere bound
+  pub outside : (Stands s bound (minimum_at bound.section sort) × (AtMost sort (printed bound.number) (printed value.number) → ⊥))
+      ⊎ (Stands s bound (maximum_at bound.section sort) × (AtMost sort (printed value.number) (printed bound.number) → ⊥))
 
 -- 20: "the leader's, then the member's unequal word or kind". Two figures of a leader and a complement that it lists; they are the same word of
 -- both, or their kinds, and the printed numbers are unequal
@@ -99,27 +99,27 @@ pub record MemberDiffers (s : Sheet) (langs : List ℕ) (leader : ℕ) : Type 0 
   pub first : Figure
   pub second : Figure
   pub listed : figures s langs ≡ first ∷ second ∷ []
-  pub is-listed : place < number s objects leader complementList
-  pub leader-of : (first.section ≡ objects) × (first.index ≡ leader)
-  pub member-of : (second.section ≡ objects) × (second.index ≡ entry s objects leader complementList place)
-  pub inside : (leader < count s objects) × (entry s objects leader complementList place < count s objects)
-  pub same-word : ((i : ℕ) × ((i < comparedCount) × (Stands s first (comparedAt i) × Stands s second (comparedAt i))))
+  pub is_listed_lem : place < number s objects leader complement_list
+  pub leader_of_lem : (first.section ≡ objects) × (first.index ≡ leader)
+  pub member_of : (second.section ≡ objects) × (second.index ≡ entry s objects leader complement_list place)
+  pub inside : (leader < count s objects) × (entry s objects leader complement_list place < count s objects)
+  pub same_word : ((i : ℕ) × ((i < compared_count) × (Stands s first (compared_at i) × Stands s second (compared_at i))))
       ⊎ ((first.number ≡ Derived (kind s first.index)) × (second.number ≡ Derived (kind s second.index)))
   pub unequal : printed first.number ≡ printed second.number → ⊥
 
 -- the figure at a place of the list
-abbrev pub figureAt : List Figure → ℕ → Figure
-figureAt xs i = get_or xs i noFigure
+abbrev pub figure_at : List Figure → ℕ → Figure
+figure_at xs i = get_or xs i no_figure
 
 -- and its record
-abbrev pub recordAt : List Figure → ℕ → ℕ
-recordAt xs i = (figureAt xs i).index
+abbrev pub record_at : List Figure → ℕ → ℕ
+record_at xs i = (figure_at xs i).index
 
 -- the share of a leader or a lone object, which the sheet has
 pub record ShareOf (s : Sheet) (x : Figure) : Type 0 where
-  pub of-object : x.section ≡ objects
+  pub of_object : x.section ≡ objects
   pub inside : x.index < count s objects
-  pub has-share : hasShare s x.index ≡ true
+  pub has_share_lem : has_share s x.index ≡ true
   pub number : x.number ≡ Derived (share s x.index)
 
 -- the numbers of a list of kinds or shares, added up
@@ -135,7 +135,7 @@ total (x ∷ xs) = derived x.number + total xs
 -- sheet's level
 pub record SharesExceed (s : Sheet) (langs : List ℕ) : Type 0 where
   pub levelled : level s ≡ 0 → ⊥
-  pub each : (i : ℕ) → i < length (figures s langs) → ShareOf s (figureAt (figures s langs) i)
-  pub all : (o : ℕ) → o < count s objects → hasShare s o ≡ true → (i : ℕ) × ((i < length (figures s langs)) × (recordAt (figures s langs) i ≡ o))
-  pub rising : (i : ℕ) → suc i < length (figures s langs) → recordAt (figures s langs) i < recordAt (figures s langs) (suc i)
-  pub above : limit (level s) countedLimit < total (figures s langs)
+  pub each : (i : ℕ) → i < length (figures s langs) → ShareOf s (figure_at (figures s langs) i)
+  pub all : (o : ℕ) → o < count s objects → has_share s o ≡ true → (i : ℕ) × ((i < length (figures s langs)) × (record_at (figures s langs) i ≡ o))
+  pub rising : (i : ℕ) → suc i < length (figures s langs) → record_at (figures s langs) i < record_at (figures s langs) (suc i)
+  pub above : limit (level s) counted_limit < total (figures s langs)

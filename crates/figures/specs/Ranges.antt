@@ -5,66 +5,66 @@ use Rattle.std.specs.Prelude.{ℕ, Bool, cond, not, ◌&&◌, eqb}
 use lib.Signed.{le_z}
 use Rattle.sheet.specs.Words.{Sheet}
 use Rattle.sheet.specs.Layout.{field}
-use Rattle.sheet.specs.Fields.{objects, valueSets, setOwn}
+use Rattle.sheet.specs.Fields.{objects, value_sets, set_own}
 use Rattle.values.specs.declared.Sort.{Sort}
 use Rattle.values.specs.declared.Sort.TheVariants.{Gains, Offsets}
-use Rattle.values.specs.Signed.{signedOf}
-use Rattle.values.specs.Gain.{gainOf, atMost}
-use Rattle.values.specs.Values.{isAbsent}
-use Rattle.profile.specs.Relations.{owner, objectValue, objectMinimum, objectMaximum, setValue, setMinimum, setMaximum}
+use Rattle.values.specs.Signed.{signed_of}
+use Rattle.values.specs.Gain.{gain_of, at_most}
+use Rattle.values.specs.Values.{is_absent}
+use Rattle.profile.specs.Relations.{owner, object_value, object_minimum, object_maximum, set_value, set_minimum, set_maximum}
 use Rattle.profile.specs.Rules.{leaves}
 use Rattle.figures.specs.declared.WordPlace.{WordPlace}
 use Rattle.figures.specs.declared.Clash.{Clash}
-use Rattle.figures.specs.Clashes.{inObject, inSet, wordAt, told, clash, earlier}
+use Rattle.figures.specs.Clashes.{in_object, in_set, word_at, told, clash, earlier}
 
 -- the word w is at most the word x: "silence is below every number"
 unfoldable pub ordered : Sort → ℕ → ℕ → Bool
-ordered Gains w x = atMost (gainOf w) (gainOf x)
-ordered Offsets w x = le_z (signedOf w) (signedOf x)
+ordered Gains w x = at_most (gain_of w) (gain_of x)
+ordered Offsets w x = le_z (signed_of w) (signed_of x)
 
 -- a value is below a minimum
-unfoldable pub belowMinimum : Sort → ℕ → ℕ → Bool
-belowMinimum t value minimum = not (ordered t minimum value)
+unfoldable pub below_minimum : Sort → ℕ → ℕ → Bool
+below_minimum t value minimum = not (ordered t minimum value)
 
 -- "minimum before maximum": the bound that a value outside its range is told with
-unfoldable pub boundPlace : Sheet → Sort → WordPlace → WordPlace → WordPlace → WordPlace
-boundPlace s t value minimum maximum = cond (belowMinimum t (wordAt s value) (wordAt s minimum)) minimum maximum
+unfoldable pub bound_place : Sheet → Sort → WordPlace → WordPlace → WordPlace → WordPlace
+bound_place s t value minimum maximum = cond (below_minimum t (word_at s value) (word_at s minimum)) minimum maximum
 
 -- a value against a range, each by its place. "(absent is 0)": an absent value lies in every range and never clashes
-unfoldable pub rangeClash : Sheet → Sort → WordPlace → WordPlace → WordPlace → Clash
-rangeClash s t value minimum maximum =
-    clash (not (isAbsent (wordAt s value)) && leaves t (wordAt s value) (wordAt s minimum) (wordAt s maximum)) (told s value)
-    (told s (boundPlace s t value minimum maximum))
+unfoldable pub range_clash : Sheet → Sort → WordPlace → WordPlace → WordPlace → Clash
+range_clash s t value minimum maximum =
+    clash (not (is_absent (word_at s value)) && leaves t (word_at s value) (word_at s minimum) (word_at s maximum)) (told s value)
+    (told s (bound_place s t value minimum maximum))
 
 -- "An object's gain or offset [..] leaves its range"
-unfoldable pub objectClash : Sheet → ℕ → Sort → Clash
-objectClash s o t = rangeClash s t (inObject o (objectValue t)) (inObject o (objectMinimum t)) (inObject o (objectMaximum t))
+unfoldable pub object_clash : Sheet → ℕ → Sort → Clash
+object_clash s o t = range_clash s t (in_object o (object_value t)) (in_object o (object_minimum t)) (in_object o (object_maximum t))
 
 -- "the effective gain and offset are its own, else the object's": where the effective value of set v of object o stands
-unfoldable pub effectivePlace : Sheet → ℕ → ℕ → Sort → WordPlace
-effectivePlace s o v t = cond (isAbsent (field s valueSets v (setValue t))) (inObject o (objectValue t)) (inSet v (setValue t))
+unfoldable pub effective_place : Sheet → ℕ → ℕ → Sort → WordPlace
+effective_place s o v t = cond (is_absent (field s value_sets v (set_value t))) (in_object o (object_value t)) (in_set v (set_value t))
 
 -- "its effective ranges are its own four words where own is 1, else the object's": where such a word stands
-unfoldable pub rangePlace : Sheet → ℕ → ℕ → ℕ → ℕ → WordPlace
-rangePlace s o v inside outside = cond (eqb (field s valueSets v setOwn) 1) (inSet v inside) (inObject o outside)
+unfoldable pub range_place : Sheet → ℕ → ℕ → ℕ → ℕ → WordPlace
+range_place s o v inside outside = cond (eqb (field s value_sets v set_own) 1) (in_set v inside) (in_object o outside)
 
 -- "a set's effective one leaves the effective range"
-unfoldable pub effectiveClash : Sheet → ℕ → ℕ → Sort → Clash
-effectiveClash s o v t =
-    rangeClash s t (effectivePlace s o v t) (rangePlace s o v (setMinimum t) (objectMinimum t)) (rangePlace s o v (setMaximum t) (objectMaximum t))
+unfoldable pub effective_clash : Sheet → ℕ → ℕ → Sort → Clash
+effective_clash s o v t =
+    range_clash s t (effective_place s o v t) (range_place s o v (set_minimum t) (object_minimum t)) (range_place s o v (set_maximum t) (object_maximum t))
 
 -- "or a set's own one leaves the object's range"
-unfoldable pub ownClash : Sheet → ℕ → ℕ → Sort → Clash
-ownClash s o v t = rangeClash s t (inSet v (setValue t)) (inObject o (objectMinimum t)) (inObject o (objectMaximum t))
+unfoldable pub own_clash : Sheet → ℕ → ℕ → Sort → Clash
+own_clash s o v t = range_clash s t (in_set v (set_value t)) (in_object o (object_minimum t)) (in_object o (object_maximum t))
 
 -- the first clash of an object, and of set v of object o
-unfoldable pub objectClashes : Sheet → ℕ → Clash
-objectClashes s o = earlier (objectClash s o Gains) (objectClash s o Offsets)
+unfoldable pub object_clashes : Sheet → ℕ → Clash
+object_clashes s o = earlier (object_clash s o Gains) (object_clash s o Offsets)
 
-unfoldable pub setClashes : Sheet → ℕ → ℕ → Clash
-setClashes s o v =
-    earlier (earlier (effectiveClash s o v Gains) (effectiveClash s o v Offsets)) (earlier (ownClash s o v Gains) (ownClash s o v Offsets))
+unfoldable pub set_clashes : Sheet → ℕ → ℕ → Clash
+set_clashes s o v =
+    earlier (earlier (effective_clash s o v Gains) (effective_clash s o v Offsets)) (earlier (own_clash s o v Gains) (own_clash s o v Offsets))
 
 -- the first clash of a record that breaks rule 18
-unfoldable pub rangeClashes : Sheet → ℕ → ℕ → Clash
-rangeClashes s section k = cond (eqb section objects) (objectClashes s k) (setClashes s (owner s k) k)
+unfoldable pub range_clashes : Sheet → ℕ → ℕ → Clash
+range_clashes s section k = cond (eqb section objects) (object_clashes s k) (set_clashes s (owner s k) k)

@@ -1,8 +1,8 @@
 // The figures of a refusal, by the verdict.
 ghost use Rattle.std.specs.Prelude.{◌≡◌};
-ghost use Rattle.figures.specs.Figures.{clashFigures, figuresBy, figuresOf};
-ghost use Rattle.figures.specs.Lists.{firstFigures, noFigures};
-ghost use Rattle.sheet.specs.Words.{sheetOf};
+ghost use Rattle.figures.specs.Figures.{clash_figures, figures_by, figures_of};
+ghost use Rattle.figures.specs.Lists.{first_figures, no_figures};
+ghost use Rattle.sheet.specs.Words.{sheet_of};
 
 use crate::lists::{no_figures, with_figure};
 use crate::members::leader_clash;
@@ -13,9 +13,9 @@ use profile::places::{place_record, section};
 use profile::{Place, Verdict};
 
 // The two figures of a clash.
-#[tactic(auto, unfolding(crate::specs::Figures::clashFigures, crate::specs::Lists::firstFigures))]
+#[tactic(auto, unfolding(crate::specs::Figures::clash_figures, crate::specs::Lists::first_figures))]
 fn clash_figures(clash: Clash) -> Figures
-    ensures { result ≡ firstFigures noFigures (clashFigures clash) }
+    ensures { result ≡ first_figures no_figures (clash_figures clash) }
 {
     if clash.found {
         with_figure(with_figure(no_figures(), clash.first), clash.second)
@@ -25,9 +25,9 @@ fn clash_figures(clash: Clash) -> Figures
 }
 
 // The figures of a rule that is broken at a place.
-#[tactic(auto, unfolding(crate::specs::Figures::figuresOf, crate::specs::Lists::firstFigures))]
+#[tactic(auto, unfolding(crate::specs::Figures::figures_of, crate::specs::Lists::first_figures))]
 fn figures_of(s: &[u8], rule: u8, place: Place) -> Figures
-    ensures { result ≡ firstFigures noFigures (figuresOf (sheetOf s.now) rule place) }
+    ensures { result ≡ first_figures no_figures (figures_of (sheet_of s.now) rule place) }
 {
     let k = place_record(place) as u16;
     match rule {
@@ -39,10 +39,10 @@ fn figures_of(s: &[u8], rule: u8, place: Place) -> Figures
 }
 
 // The first figures of a verdict on a sheet; there are no more where the verdict is the sheet's own, under whatever list of languages
-// (`figures-most`, proofs/Theorems.antt).
-#[tactic(auto, unfolding(crate::specs::Figures::figuresBy, crate::specs::Lists::firstFigures))]
+// (`figures_most`, proofs/Theorems.antt).
+#[tactic(auto, unfolding(crate::specs::Figures::figures_by, crate::specs::Lists::first_figures))]
 pub fn figures_by(s: &[u8], verdict: Verdict) -> Figures
-    ensures { result ≡ firstFigures noFigures (figuresBy (sheetOf s.now) verdict) }
+    ensures { result ≡ first_figures no_figures (figures_by (sheet_of s.now) verdict) }
 {
     match verdict {
         Verdict::Accepted => no_figures(),

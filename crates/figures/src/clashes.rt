@@ -1,7 +1,7 @@
 // Clashes of two figures, and which of several is told.
 ghost use Rattle.std.specs.Prelude.{◌≡◌};
-ghost use Rattle.figures.specs.Clashes.{earlier, inObject, inSet, noClash, noFigure, told, wordAt};
-ghost use Rattle.sheet.specs.Words.{sheetOf};
+ghost use Rattle.figures.specs.Clashes.{earlier, in_object, in_set, no_clash, no_figure, told, word_at};
+ghost use Rattle.sheet.specs.Words.{sheet_of};
 
 use crate::{Clash, Figure, FigureNumber, WordPlace};
 use sheet::fields::{OBJECTS, VALUE_SETS};
@@ -9,7 +9,7 @@ use sheet::layout::field;
 
 // The place of an object's word.
 pub fn in_object(o: u16, at: u8) -> WordPlace
-    ensures { result ≡ inObject o at }
+    ensures { result ≡ in_object o at }
 {
     WordPlace {
         section: OBJECTS,
@@ -20,7 +20,7 @@ pub fn in_object(o: u16, at: u8) -> WordPlace
 
 // The place of a value set's word.
 pub fn in_set(v: u16, at: u8) -> WordPlace
-    ensures { result ≡ inSet v at }
+    ensures { result ≡ in_set v at }
 {
     WordPlace {
         section: VALUE_SETS,
@@ -31,14 +31,14 @@ pub fn in_set(v: u16, at: u8) -> WordPlace
 
 // The word at a place.
 pub fn word_at(s: &[u8], place: WordPlace) -> u16
-    ensures { result ≡ wordAt (sheetOf s.now) place }
+    ensures { result ≡ word_at (sheet_of s.now) place }
 {
     field(s, place.section, place.index, place.at)
 }
 
 // The word at a place, as a figure.
 pub fn told(s: &[u8], place: WordPlace) -> Figure
-    ensures { result ≡ told (sheetOf s.now) place }
+    ensures { result ≡ told (sheet_of s.now) place }
 {
     Figure {
         section: place.section,
@@ -57,7 +57,7 @@ pub fn earlier(a: Clash, b: Clash) -> Clash
 
 // No figure.
 pub fn no_figure() -> Figure
-    ensures { result ≡ noFigure }
+    ensures { result ≡ no_figure }
 {
     Figure {
         section: 0,
@@ -68,7 +68,7 @@ pub fn no_figure() -> Figure
 
 // Nothing clashes.
 pub fn no_clash() -> Clash
-    ensures { result ≡ noClash }
+    ensures { result ≡ no_clash }
 {
     Clash {
         found: false,

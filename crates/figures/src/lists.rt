@@ -1,13 +1,13 @@
 // Figures in sixteen places.
 ghost use Rattle.std.specs.Prelude.{◌≡◌};
-ghost use Rattle.figures.specs.Lists.{noFigures, withFigure};
+ghost use Rattle.figures.specs.Lists.{no_figures, with_figure};
 
 use crate::clashes::no_figure;
 use crate::{Figure, Figures, MOST_FIGURES};
 
 // No figures.
 pub fn no_figures() -> Figures
-    ensures { result ≡ noFigures }
+    ensures { result ≡ no_figures }
 {
     Figures {
         count: 0,
@@ -16,9 +16,9 @@ pub fn no_figures() -> Figures
 }
 
 // One figure more; a list that is full stays as it is.
-#[tactic(auto, unfolding(crate::specs::Lists::withFigure))]
+#[tactic(auto, unfolding(crate::specs::Lists::with_figure))]
 pub fn with_figure(given: Figures, figure: Figure) -> Figures
-    ensures { result ≡ withFigure given figure }
+    ensures { result ≡ with_figure given figure }
 {
     let n = given.count;
     if n >= MOST_FIGURES {

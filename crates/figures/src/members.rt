@@ -1,7 +1,7 @@
 // Rule 20: "the leader's, then the member's unequal word or kind".
 ghost use Rattle.std.specs.Prelude.{◌≡◌};
-ghost use Rattle.figures.specs.Members.{kindClash, kindFigure, leaderClash, memberClash, wordClash, wordClashes};
-ghost use Rattle.sheet.specs.Words.{sheetOf};
+ghost use Rattle.figures.specs.Members.{kind_clash, kind_figure, leader_clash, member_clash, word_clash, word_clashes};
+ghost use Rattle.sheet.specs.Words.{sheet_of};
 
 use crate::clashes::{earlier, in_object, no_clash, told};
 use crate::{Clash, Figure, FigureNumber};
@@ -27,9 +27,9 @@ const COMPARED: [u8; COMPARED_WORDS] = [
 ];
 
 // A word of the leader against the member's.
-#[tactic(auto, unfolding(crate::specs::Members::wordClash))]
+#[tactic(auto, unfolding(crate::specs::Members::word_clash))]
 fn word_clash(s: &[u8], l: u16, q: u16, at: u8) -> Clash
-    ensures { result ≡ wordClash (sheetOf s.now) l q at }
+    ensures { result ≡ word_clash (sheet_of s.now) l q at }
 {
     Clash {
         found: field(s, OBJECTS, l, at) != field(s, OBJECTS, q, at),
@@ -40,7 +40,7 @@ fn word_clash(s: &[u8], l: u16, q: u16, at: u8) -> Clash
 
 // An object's kind, as a figure.
 fn kind_figure(s: &[u8], o: u16) -> Figure
-    ensures { result ≡ kindFigure (sheetOf s.now) o }
+    ensures { result ≡ kind_figure (sheet_of s.now) o }
 {
     Figure {
         section: OBJECTS,
@@ -50,9 +50,9 @@ fn kind_figure(s: &[u8], o: u16) -> Figure
 }
 
 // The leader's kind against the member's.
-#[tactic(auto, unfolding(crate::specs::Members::kindClash))]
+#[tactic(auto, unfolding(crate::specs::Members::kind_clash))]
 fn kind_clash(s: &[u8], l: u16, q: u16) -> Clash
-    ensures { result ≡ kindClash (sheetOf s.now) l q }
+    ensures { result ≡ kind_clash (sheet_of s.now) l q }
 {
     Clash {
         found: kind(s, l) != kind(s, q),
@@ -63,7 +63,7 @@ fn kind_clash(s: &[u8], l: u16, q: u16) -> Clash
 
 // The first unequal word.
 fn word_clashes(s: &[u8], l: u16, q: u16) -> Clash
-    ensures { result ≡ wordClashes (sheetOf s.now) l q }
+    ensures { result ≡ word_clashes (sheet_of s.now) l q }
 {
     let mut first = no_clash();
     let mut i: usize = 0;
@@ -75,16 +75,16 @@ fn word_clashes(s: &[u8], l: u16, q: u16) -> Clash
 }
 
 // What a leader and a member differ in first: the words, then the kinds.
-#[tactic(auto, unfolding(crate::specs::Members::memberClash))]
+#[tactic(auto, unfolding(crate::specs::Members::member_clash))]
 fn member_clash(s: &[u8], l: u16, q: u16) -> Clash
-    ensures { result ≡ memberClash (sheetOf s.now) l q }
+    ensures { result ≡ member_clash (sheet_of s.now) l q }
 {
     earlier(word_clashes(s, l, q), kind_clash(s, l, q))
 }
 
 // The first clash of a leader: "by member in list order".
 pub fn leader_clash(s: &[u8], l: u16) -> Clash
-    ensures { result ≡ leaderClash (sheetOf s.now) l }
+    ensures { result ≡ leader_clash (sheet_of s.now) l }
 {
     let n = number(s, OBJECTS, l, COMPLEMENT_LIST);
     let mut first = no_clash();

@@ -1,7 +1,7 @@
 // Rule 18: "the value, then the bound".
 ghost use Rattle.std.specs.Prelude.{◌≡◌};
-ghost use Rattle.figures.specs.Ranges.{belowMinimum, boundPlace, effectiveClash, effectivePlace, objectClash, objectClashes, ownClash, rangeClash, rangeClashes, rangePlace, setClashes};
-ghost use Rattle.sheet.specs.Words.{sheetOf};
+ghost use Rattle.figures.specs.Ranges.{below_minimum, bound_place, effective_clash, effective_place, object_clash, object_clashes, own_clash, range_clash, range_clashes, range_place, set_clashes};
+ghost use Rattle.sheet.specs.Words.{sheet_of};
 
 use crate::clashes::{earlier, in_object, in_set, told, word_at};
 use crate::{Clash, WordPlace};
@@ -17,9 +17,9 @@ use values::signed::signed;
 use values::values::{in_range, is_absent};
 
 // A value is below a minimum.
-#[tactic(auto, unfolding(crate::specs::Ranges::belowMinimum, crate::specs::Ranges::ordered))]
+#[tactic(auto, unfolding(crate::specs::Ranges::below_minimum, crate::specs::Ranges::ordered))]
 fn below_minimum(sort: Sort, value: u16, minimum: u16) -> bool
-    ensures { result ≡ belowMinimum sort value minimum }
+    ensures { result ≡ below_minimum sort value minimum }
 {
     match sort {
         Sort::Gains => !at_most(gain_of(minimum), gain_of(value)),
@@ -28,7 +28,7 @@ fn below_minimum(sort: Sort, value: u16, minimum: u16) -> bool
 }
 
 // The bound that a value outside its range is told with.
-#[tactic(auto, unfolding(crate::specs::Ranges::boundPlace))]
+#[tactic(auto, unfolding(crate::specs::Ranges::bound_place))]
 fn bound_place(
     s: &[u8],
     sort: Sort,
@@ -36,7 +36,7 @@ fn bound_place(
     minimum: WordPlace,
     maximum: WordPlace,
 ) -> WordPlace
-    ensures { result ≡ boundPlace (sheetOf s.now) sort value minimum maximum }
+    ensures { result ≡ bound_place (sheet_of s.now) sort value minimum maximum }
 {
     if below_minimum(sort, word_at(s, value), word_at(s, minimum)) {
         minimum
@@ -46,7 +46,7 @@ fn bound_place(
 }
 
 // A value against a range, each by its place.
-#[tactic(auto, unfolding(crate::specs::Ranges::rangeClash, profile::specs::Rules::leaves))]
+#[tactic(auto, unfolding(crate::specs::Ranges::range_clash, profile::specs::Rules::leaves))]
 fn range_clash(
     s: &[u8],
     sort: Sort,
@@ -54,7 +54,7 @@ fn range_clash(
     minimum: WordPlace,
     maximum: WordPlace,
 ) -> Clash
-    ensures { result ≡ rangeClash (sheetOf s.now) sort value minimum maximum }
+    ensures { result ≡ range_clash (sheet_of s.now) sort value minimum maximum }
 {
     let v = word_at(s, value);
     let lo = word_at(s, minimum);
@@ -70,9 +70,9 @@ fn range_clash(
 }
 
 // An object's own value against its range.
-#[tactic(auto, unfolding(crate::specs::Ranges::objectClash))]
+#[tactic(auto, unfolding(crate::specs::Ranges::object_clash))]
 fn object_clash(s: &[u8], o: u16, sort: Sort) -> Clash
-    ensures { result ≡ objectClash (sheetOf s.now) o sort }
+    ensures { result ≡ object_clash (sheet_of s.now) o sort }
 {
     range_clash(
         s,
@@ -84,9 +84,9 @@ fn object_clash(s: &[u8], o: u16, sort: Sort) -> Clash
 }
 
 // Where the effective value of set v of object o stands.
-#[tactic(auto, unfolding(crate::specs::Ranges::effectivePlace))]
+#[tactic(auto, unfolding(crate::specs::Ranges::effective_place))]
 fn effective_place(s: &[u8], o: u16, v: u16, sort: Sort) -> WordPlace
-    ensures { result ≡ effectivePlace (sheetOf s.now) o v sort }
+    ensures { result ≡ effective_place (sheet_of s.now) o v sort }
 {
     if is_absent(field(s, VALUE_SETS, v, set_value(sort))) {
         in_object(o, object_value(sort))
@@ -96,9 +96,9 @@ fn effective_place(s: &[u8], o: u16, v: u16, sort: Sort) -> WordPlace
 }
 
 // Where a word of its effective range stands: `inside` is its position in a set, `outside` in an object.
-#[tactic(auto, unfolding(crate::specs::Ranges::rangePlace))]
+#[tactic(auto, unfolding(crate::specs::Ranges::range_place))]
 fn range_place(s: &[u8], o: u16, v: u16, inside: u8, outside: u8) -> WordPlace
-    ensures { result ≡ rangePlace (sheetOf s.now) o v inside outside }
+    ensures { result ≡ range_place (sheet_of s.now) o v inside outside }
 {
     if field(s, VALUE_SETS, v, SET_OWN) == 1 {
         in_set(v, inside)
@@ -108,9 +108,9 @@ fn range_place(s: &[u8], o: u16, v: u16, inside: u8, outside: u8) -> WordPlace
 }
 
 // The effective value against the effective range.
-#[tactic(auto, unfolding(crate::specs::Ranges::effectiveClash))]
+#[tactic(auto, unfolding(crate::specs::Ranges::effective_clash))]
 fn effective_clash(s: &[u8], o: u16, v: u16, sort: Sort) -> Clash
-    ensures { result ≡ effectiveClash (sheetOf s.now) o v sort }
+    ensures { result ≡ effective_clash (sheet_of s.now) o v sort }
 {
     range_clash(
         s,
@@ -122,9 +122,9 @@ fn effective_clash(s: &[u8], o: u16, v: u16, sort: Sort) -> Clash
 }
 
 // The set's own value against the object's range.
-#[tactic(auto, unfolding(crate::specs::Ranges::ownClash))]
+#[tactic(auto, unfolding(crate::specs::Ranges::own_clash))]
 fn own_clash(s: &[u8], o: u16, v: u16, sort: Sort) -> Clash
-    ensures { result ≡ ownClash (sheetOf s.now) o v sort }
+    ensures { result ≡ own_clash (sheet_of s.now) o v sort }
 {
     range_clash(
         s,
@@ -136,9 +136,9 @@ fn own_clash(s: &[u8], o: u16, v: u16, sort: Sort) -> Clash
 }
 
 // The first clash of an object: "gain before offset".
-#[tactic(auto, unfolding(crate::specs::Ranges::objectClashes))]
+#[tactic(auto, unfolding(crate::specs::Ranges::object_clashes))]
 fn object_clashes(s: &[u8], o: u16) -> Clash
-    ensures { result ≡ objectClashes (sheetOf s.now) o }
+    ensures { result ≡ object_clashes (sheet_of s.now) o }
 {
     earlier(
         object_clash(s, o, Sort::Gains),
@@ -147,9 +147,9 @@ fn object_clashes(s: &[u8], o: u16) -> Clash
 }
 
 // The first clash of set v of object o: "in the rule's order, then gain before offset".
-#[tactic(auto, unfolding(crate::specs::Ranges::setClashes))]
+#[tactic(auto, unfolding(crate::specs::Ranges::set_clashes))]
 fn set_clashes(s: &[u8], o: u16, v: u16) -> Clash
-    ensures { result ≡ setClashes (sheetOf s.now) o v }
+    ensures { result ≡ set_clashes (sheet_of s.now) o v }
 {
     let effective = earlier(
         effective_clash(s, o, v, Sort::Gains),
@@ -163,9 +163,9 @@ fn set_clashes(s: &[u8], o: u16, v: u16) -> Clash
 }
 
 // The first clash of a record that breaks rule 18.
-#[tactic(auto, unfolding(crate::specs::Ranges::rangeClashes))]
+#[tactic(auto, unfolding(crate::specs::Ranges::range_clashes))]
 pub fn range_clashes(s: &[u8], section: u32, k: u16) -> Clash
-    ensures { result ≡ rangeClashes (sheetOf s.now) section k }
+    ensures { result ≡ range_clashes (sheet_of s.now) section k }
 {
     if section == OBJECTS as u32 {
         object_clashes(s, k)

@@ -1,9 +1,9 @@
 // Rule 24: "each group's (under its leader) and lone object's share by rising record".
 ghost use Rattle.std.specs.Prelude.{◌≡◌};
-ghost use Rattle.figures.specs.Lists.{firstFigures, noFigures};
-ghost use Rattle.figures.specs.Shares.{hasShare, shareFigure, shareFigures, shareList};
+ghost use Rattle.figures.specs.Lists.{first_figures, no_figures};
+ghost use Rattle.figures.specs.Shares.{has_share, share_figure, share_figures, share_list};
 ghost use Rattle.profile.specs.Relations.{lone, share};
-ghost use Rattle.sheet.specs.Words.{sheetOf};
+ghost use Rattle.sheet.specs.Words.{sheet_of};
 
 use crate::lists::{no_figures, with_figure};
 use crate::{Figure, FigureNumber, Figures};
@@ -16,23 +16,23 @@ use sheet::layout::count;
 // A top object in no group.
 #[tactic(auto, unfolding(profile::specs::Relations::lone))]
 fn lone(s: &[u8], o: u16) -> bool
-    ensures { result ≡ lone (sheetOf s.now) o }
+    ensures { result ≡ lone (sheet_of s.now) o }
 {
     top(s, o) & !leader(s, o) & !complement(s, o)
 }
 
 // A leader or a lone object.
-#[tactic(auto, unfolding(crate::specs::Shares::hasShare))]
+#[tactic(auto, unfolding(crate::specs::Shares::has_share))]
 fn has_share(s: &[u8], o: u16) -> bool
-    ensures { result ≡ hasShare (sheetOf s.now) o }
+    ensures { result ≡ has_share (sheet_of s.now) o }
 {
     leader(s, o) | lone(s, o)
 }
 
 // What an object adds to the counted tracks.
-#[tactic(auto, unfolding(profile::specs::Relations::share, relations::specs::steps::Sizes::largestMember))]
+#[tactic(auto, unfolding(profile::specs::Relations::share, relations::specs::steps::Sizes::largest_member))]
 fn share(s: &[u8], o: u16) -> u32
-    ensures { result ≡ share (sheetOf s.now) o }
+    ensures { result ≡ share (sheet_of s.now) o }
 {
     if leader(s, o) {
         largest_member(s, o)
@@ -45,7 +45,7 @@ fn share(s: &[u8], o: u16) -> u32
 
 // Its share, as a figure.
 fn share_figure(s: &[u8], o: u16) -> Figure
-    ensures { result ≡ shareFigure (sheetOf s.now) o }
+    ensures { result ≡ share_figure (sheet_of s.now) o }
 {
     Figure {
         section: OBJECTS,
@@ -55,9 +55,9 @@ fn share_figure(s: &[u8], o: u16) -> Figure
 }
 
 // The share of an object that has one, behind those before it.
-#[tactic(auto, unfolding(crate::specs::Shares::shareFigures, crate::specs::Lists::firstFigures))]
+#[tactic(auto, unfolding(crate::specs::Shares::share_figures, crate::specs::Lists::first_figures))]
 fn with_share(s: &[u8], given: Figures, o: u16) -> Figures
-    ensures { result ≡ firstFigures given (shareFigures (sheetOf s.now) o) }
+    ensures { result ≡ first_figures given (share_figures (sheet_of s.now) o) }
 {
     if has_share(s, o) {
         with_figure(given, share_figure(s, o))
@@ -68,7 +68,7 @@ fn with_share(s: &[u8], given: Figures, o: u16) -> Figures
 
 // The shares of all objects that have one.
 pub fn shares(s: &[u8]) -> Figures
-    ensures { result ≡ firstFigures noFigures (shareList (sheetOf s.now)) }
+    ensures { result ≡ first_figures no_figures (share_list (sheet_of s.now)) }
 {
     let n = count(s, OBJECTS);
     let mut given = no_figures();

@@ -9,41 +9,41 @@ use Rattle.sheet.specs.Fields.{objects}
 use Rattle.values.specs.declared.Gain.{Gain}
 use Rattle.values.specs.declared.Sort.{Sort}
 use Rattle.values.specs.declared.Sort.TheVariants.{Gains, Offsets}
-use Rattle.profile.specs.Relations.{namesSet, setFor, objectMinimum, objectMaximum, ownValue, effectiveValue, effectiveMinimum, effectiveMaximum}
+use Rattle.profile.specs.Relations.{names_set, set_for, object_minimum, object_maximum, own_value, effective_value, effective_minimum, effective_maximum}
 use Rattle.granted.specs.declared.Range.{Range}
-use Rattle.granted.specs.Granted.{startValue, grantedMinimum, grantedMaximum, grants}
-use Rattle.granted.specs.Fitting.{gainFits, offsetFits, soundGain, soundOffset}
-use Rattle.granted.specs.steps.NamedSet.{namedFor, startBy, rangeBy, grantedRange, isRange, gainWithin, offsetWithin, soundGainBy, soundOffsetBy}
+use Rattle.granted.specs.Granted.{start_value, granted_minimum, granted_maximum, grants}
+use Rattle.granted.specs.Fitting.{gain_fits, offset_fits, sound_gain, sound_offset}
+use Rattle.granted.specs.steps.NamedSet.{named_for, start_by, range_by, granted_range, is_range, gain_within, offset_within, sound_gain_by, sound_offset_by}
 
 module _ (s : Sheet) (p o : ℕ) where
-  pub start-named : (t : Sort) → startBy s o (namedFor s p o) t ≡ startValue s p o t
-  unfolding startBy namedFor startValue
-  start-named t = by (namesSet s p o)
+  pub start_named : (t : Sort) → start_by s o (named_for s p o) t ≡ start_value s p o t
+  unfolding start_by named_for start_value
+  start_named t = by (names_set s p o)
     where
-      by : (b : Bool) → cond b (effectiveValue s o (cond b (setFor s p o) 0) t) (ownValue s o t) ≡ cond b (effectiveValue s o (setFor s p o) t) (ownValue s o t)
+      by : (b : Bool) → cond b (effective_value s o (cond b (set_for s p o) 0) t) (own_value s o t) ≡ cond b (effective_value s o (set_for s p o) t) (own_value s o t)
       by true = refl
       by false = refl
 
-  pub range-named : (t : Sort) → rangeBy s o (namedFor s p o) t ≡ grantedRange s p o t
-  unfolding rangeBy namedFor grantedRange grantedMinimum grantedMaximum
-  range-named t = by (namesSet s p o)
+  pub range_named : (t : Sort) → range_by s o (named_for s p o) t ≡ granted_range s p o t
+  unfolding range_by named_for granted_range granted_minimum granted_maximum
+  range_named t = by (names_set s p o)
     where
       by : (b : Bool)
           → ◌≡◌ {A = Range}
           (cond b
-          (record { minimum = effectiveMinimum s o (cond b (setFor s p o) 0) t; maximum = effectiveMaximum s o (cond b (setFor s p o) 0) t })
-          (record { minimum = field s objects o (objectMinimum t); maximum = field s objects o (objectMaximum t) }))
+          (record { minimum = effective_minimum s o (cond b (set_for s p o) 0) t; maximum = effective_maximum s o (cond b (set_for s p o) 0) t })
+          (record { minimum = field s objects o (object_minimum t); maximum = field s objects o (object_maximum t) }))
           (record {
-            minimum = cond b (effectiveMinimum s o (setFor s p o) t) (field s objects o (objectMinimum t));
-            maximum = cond b (effectiveMaximum s o (setFor s p o) t) (field s objects o (objectMaximum t));
+            minimum = cond b (effective_minimum s o (set_for s p o) t) (field s objects o (object_minimum t));
+            maximum = cond b (effective_maximum s o (set_for s p o) t) (field s objects o (object_maximum t));
           })
       by true = refl
       by false = refl
 
-  pub gain-named : (g : Gain) → soundGainBy s o (namedFor s p o) g ≡ soundGain s p o g
-  unfolding soundGainBy soundGain isRange gainWithin grantedRange grants gainFits
-  gain-named g = rw (start-named Gains, range-named Gains) refl
+  pub gain_named : (g : Gain) → sound_gain_by s o (named_for s p o) g ≡ sound_gain s p o g
+  unfolding sound_gain_by sound_gain is_range gain_within granted_range grants gain_fits
+  gain_named g = rw (start_named Gains, range_named Gains) refl
 
-  pub offset-named : (z : ℤ) → soundOffsetBy s o (namedFor s p o) z ≡ soundOffset s p o z
-  unfolding soundOffsetBy soundOffset isRange offsetWithin grantedRange grants offsetFits
-  offset-named z = rw (start-named Offsets, range-named Offsets) refl
+  pub offset_named : (z : ℤ) → sound_offset_by s o (named_for s p o) z ≡ sound_offset s p o z
+  unfolding sound_offset_by sound_offset is_range offset_within granted_range grants offset_fits
+  offset_named z = rw (start_named Offsets, range_named Offsets) refl

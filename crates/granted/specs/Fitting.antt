@@ -5,29 +5,29 @@ use Rattle.std.specs.Int.Signed.{le_z}
 use Rattle.sheet.specs.Words.{Sheet}
 use Rattle.values.specs.declared.Gain.{Gain}
 use Rattle.values.specs.declared.Sort.TheVariants.{Gains, Offsets}
-use Rattle.values.specs.Signed.{signedOf}
-use Rattle.values.specs.Gain.{atMost, gainOf, gainInRange, legalGain}
-use Rattle.values.specs.Offset.{offsetInRange, legalOffset}
-use Rattle.granted.specs.Granted.{startValue, grantedMinimum, grantedMaximum, grants}
+use Rattle.values.specs.Signed.{signed_of}
+use Rattle.values.specs.Gain.{at_most, gain_of, gain_in_range, legal_gain}
+use Rattle.values.specs.Offset.{offset_in_range, legal_offset}
+use Rattle.granted.specs.Granted.{start_value, granted_minimum, granted_maximum, grants}
 
 -- two gains are the same: neither is above the other
-unfoldable pub sameGain : Gain → Gain → Bool
-sameGain g h = atMost g h && atMost h g
+unfoldable pub same_gain : Gain → Gain → Bool
+same_gain g h = at_most g h && at_most h g
 
 -- two offsets are the same: neither is above the other
-unfoldable pub sameOffset : ℤ → ℤ → Bool
-sameOffset x y = le_z x y && le_z y x
+unfoldable pub same_offset : ℤ → ℤ → Bool
+same_offset x y = le_z x y && le_z y x
 
 -- a gain is legal and in the range granted there
-unfoldable pub gainFits : Sheet → ℕ → ℕ → Gain → Bool
-gainFits s p o g = legalGain g && gainInRange (gainOf (grantedMinimum s p o Gains)) g (gainOf (grantedMaximum s p o Gains))
+unfoldable pub gain_fits : Sheet → ℕ → ℕ → Gain → Bool
+gain_fits s p o g = legal_gain g && gain_in_range (gain_of (granted_minimum s p o Gains)) g (gain_of (granted_maximum s p o Gains))
 
-unfoldable pub offsetFits : Sheet → ℕ → ℕ → ℤ → Bool
-offsetFits s p o z = legalOffset z && offsetInRange (signedOf (grantedMinimum s p o Offsets)) z (signedOf (grantedMaximum s p o Offsets))
+unfoldable pub offset_fits : Sheet → ℕ → ℕ → ℤ → Bool
+offset_fits s p o z = legal_offset z && offset_in_range (signed_of (granted_minimum s p o Offsets)) z (signed_of (granted_maximum s p o Offsets))
 
 -- "its start value or legal in its range"
-unfoldable pub soundGain : Sheet → ℕ → ℕ → Gain → Bool
-soundGain s p o g = sameGain g (gainOf (startValue s p o Gains)) || grants s p o Gains && gainFits s p o g
+unfoldable pub sound_gain : Sheet → ℕ → ℕ → Gain → Bool
+sound_gain s p o g = same_gain g (gain_of (start_value s p o Gains)) || grants s p o Gains && gain_fits s p o g
 
-unfoldable pub soundOffset : Sheet → ℕ → ℕ → ℤ → Bool
-soundOffset s p o z = sameOffset z (signedOf (startValue s p o Offsets)) || grants s p o Offsets && offsetFits s p o z
+unfoldable pub sound_offset : Sheet → ℕ → ℕ → ℤ → Bool
+sound_offset s p o z = same_offset z (signed_of (start_value s p o Offsets)) || grants s p o Offsets && offset_fits s p o z

@@ -1,7 +1,7 @@
 // Activity of objects by flags, 1 for each active one.
 ghost use Rattle.std.specs.Prelude.{◌≡◌};
-ghost use Rattle.granted.specs.steps.Flags.{flaggedActivity};
-ghost use Rattle.sheet.specs.Words.{sheetOf};
+ghost use Rattle.granted.specs.steps.Flags.{flagged_activity};
+ghost use Rattle.sheet.specs.Words.{sheet_of};
 ghost use Rattle.tables.specs.steps.Right.{Included, Leaders};
 
 use crate::included::in_whole_group_by;
@@ -18,7 +18,7 @@ pub fn sound_activity(
     active: &[u16],
     o: u16,
 ) -> bool
-    ensures { Leaders (sheetOf s.now) leaders.now → Included (sheetOf s.now) p marks.now → result ≡ flaggedActivity (sheetOf s.now) p active.now o }
+    ensures { Leaders (sheet_of s.now) leaders.now → Included (sheet_of s.now) p marks.now → result ≡ flagged_activity (sheet_of s.now) p active.now o }
 {
     if in_whole_group_by(s, p, leaders, marks, o) {
         members_passing(s, active, MemberTest::Flagged, leader_by(s, leaders, o)) == 1

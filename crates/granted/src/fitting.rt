@@ -1,8 +1,8 @@
 // Values that are an object's start value, or fit an interaction range.
 ghost use Rattle.std.specs.Prelude.{◌&&◌, ◌≡◌};
-ghost use Rattle.granted.specs.Fitting.{sameGain, sameOffset, soundGain, soundOffset};
-ghost use Rattle.granted.specs.steps.NamedSet.{gainWithin, isRange, offsetWithin, soundGainBy, soundOffsetBy};
-ghost use Rattle.sheet.specs.Words.{sheetOf};
+ghost use Rattle.granted.specs.Fitting.{same_gain, same_offset, sound_gain, sound_offset};
+ghost use Rattle.granted.specs.steps.NamedSet.{gain_within, is_range, offset_within, sound_gain_by, sound_offset_by};
+ghost use Rattle.sheet.specs.Words.{sheet_of};
 
 use crate::programme::{named_for, range_by, start_by};
 use crate::{Named, Range};
@@ -13,7 +13,7 @@ use values::values::is_absent;
 use values::{Gain, Sort};
 
 pub fn same_gain(a: Gain, b: Gain) -> bool
-    ensures { result ≡ sameGain a b }
+    ensures { result ≡ same_gain a b }
 {
     match a {
         Gain::Tenths(x) => match b {
@@ -28,21 +28,21 @@ pub fn same_gain(a: Gain, b: Gain) -> bool
 }
 
 pub fn same_offset(x: i16, y: i16) -> bool
-    ensures { result ≡ sameOffset x y }
+    ensures { result ≡ same_offset x y }
 {
     x == y
 }
 
 // Whether there is a range.
 pub fn is_range(range: Range) -> bool
-    ensures { result ≡ isRange range }
+    ensures { result ≡ is_range range }
 {
     !is_absent(range.minimum)
 }
 
 // Whether a gain is legal and in the range.
 pub fn gain_within(range: Range, gain: Gain) -> bool
-    ensures { result ≡ gainWithin range gain }
+    ensures { result ≡ gain_within range gain }
 {
     let low = gain_of(range.minimum);
     let high = gain_of(range.maximum);
@@ -50,7 +50,7 @@ pub fn gain_within(range: Range, gain: Gain) -> bool
 }
 
 pub fn offset_within(range: Range, offset: i16) -> bool
-    ensures { result ≡ offsetWithin range offset }
+    ensures { result ≡ offset_within range offset }
 {
     let low = signed(range.minimum);
     let high = signed(range.maximum);
@@ -59,7 +59,7 @@ pub fn offset_within(range: Range, offset: i16) -> bool
 
 // "its start value or legal in its range"
 fn sound_gain(s: &[u8], o: u16, named: Named, gain: Gain) -> bool
-    ensures { result ≡ soundGainBy (sheetOf s.now) o named gain }
+    ensures { result ≡ sound_gain_by (sheet_of s.now) o named gain }
 {
     let start = gain_of(start_by(s, o, named, Sort::Gains));
     if same_gain(gain, start) {
@@ -70,7 +70,7 @@ fn sound_gain(s: &[u8], o: u16, named: Named, gain: Gain) -> bool
 }
 
 fn sound_offset(s: &[u8], o: u16, named: Named, offset: i16) -> bool
-    ensures { result ≡ soundOffsetBy (sheetOf s.now) o named offset }
+    ensures { result ≡ sound_offset_by (sheet_of s.now) o named offset }
 {
     let start = signed(start_by(s, o, named, Sort::Offsets));
     if same_offset(offset, start) {
@@ -82,7 +82,7 @@ fn sound_offset(s: &[u8], o: u16, named: Named, offset: i16) -> bool
 
 // Both of an object, whose set is looked for once.
 pub fn sound_values(s: &[u8], p: u16, o: u16, gain: Gain, offset: i16) -> bool
-    ensures { result ≡ (soundGain (sheetOf s.now) p o gain && soundOffset (sheetOf s.now) p o offset) }
+    ensures { result ≡ (sound_gain (sheet_of s.now) p o gain && sound_offset (sheet_of s.now) p o offset) }
 {
     let named = named_for(s, p, o);
     sound_gain(s, o, named, gain) & sound_offset(s, o, named, offset)

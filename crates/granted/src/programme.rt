@@ -1,8 +1,8 @@
 // What a programme gives its objects.
 ghost use Rattle.std.specs.Prelude.{◌≡◌};
-ghost use Rattle.granted.specs.Granted.{inWholeGroup, startValue, startsActive};
-ghost use Rattle.granted.specs.steps.NamedSet.{grantedRange, namedFor, rangeBy, setPlace, startBy};
-ghost use Rattle.sheet.specs.Words.{sheetOf};
+ghost use Rattle.granted.specs.Granted.{in_whole_group, start_value, starts_active};
+ghost use Rattle.granted.specs.steps.NamedSet.{granted_range, named_for, range_by, set_place, start_by};
+ghost use Rattle.sheet.specs.Words.{sheet_of};
 ghost use Rattle.tables.specs.steps.Right.{Included, Leaders};
 
 use crate::included::in_whole_group_by;
@@ -19,7 +19,7 @@ use values::Sort;
 
 // Where the programme's set list has the first set of the object, the list's length where it has none.
 fn set_place(s: &[u8], p: u16, o: u16) -> u16
-    ensures { result ≡ setPlace (sheetOf s.now) p o }
+    ensures { result ≡ set_place (sheet_of s.now) p o }
 {
     let n = number(s, PROGRAMMES, p, SET_LIST);
     let from = field(s, OBJECTS, o, SET_SPAN);
@@ -39,7 +39,7 @@ fn set_place(s: &[u8], p: u16, o: u16) -> u16
 
 // The set that the programme names for the object. Many programmes name none.
 pub fn named_for(s: &[u8], p: u16, o: u16) -> Named
-    ensures { result ≡ namedFor (sheetOf s.now) p o }
+    ensures { result ≡ named_for (sheet_of s.now) p o }
 {
     let n = number(s, PROGRAMMES, p, SET_LIST);
     if n == 0 {
@@ -58,7 +58,7 @@ pub fn named_for(s: &[u8], p: u16, o: u16) -> Named
 
 // "included objects take the effective gain and offset of the set that the programme names, or their own, or 0"
 pub fn start_by(s: &[u8], o: u16, named: Named, sort: Sort) -> u16
-    ensures { result ≡ startBy (sheetOf s.now) o named sort }
+    ensures { result ≡ start_by (sheet_of s.now) o named sort }
 {
     if named.any {
         effective_value(s, o, named.set, sort)
@@ -68,14 +68,14 @@ pub fn start_by(s: &[u8], o: u16, named: Named, sort: Sort) -> u16
 }
 
 pub fn start_value(s: &[u8], p: u16, o: u16, sort: Sort) -> u16
-    ensures { result ≡ startValue (sheetOf s.now) p o sort }
+    ensures { result ≡ start_value (sheet_of s.now) p o sort }
 {
     start_by(s, o, named_for(s, p, o), sort)
 }
 
 // "ranges come from the programme's set, else the object"
 pub fn range_by(s: &[u8], o: u16, named: Named, sort: Sort) -> Range
-    ensures { result ≡ rangeBy (sheetOf s.now) o named sort }
+    ensures { result ≡ range_by (sheet_of s.now) o named sort }
 {
     if named.any {
         Range {
@@ -92,14 +92,14 @@ pub fn range_by(s: &[u8], o: u16, named: Named, sort: Sort) -> Range
 
 // The range that the sheet grants the object.
 pub fn granted_range(s: &[u8], p: u16, o: u16, sort: Sort) -> Range
-    ensures { result ≡ grantedRange (sheetOf s.now) p o sort }
+    ensures { result ≡ granted_range (sheet_of s.now) p o sort }
 {
     range_by(s, o, named_for(s, p, o), sort)
 }
 
 // Whether the object is in a group that the programme wholly includes.
 pub fn in_whole_group(s: &[u8], p: u16, o: u16) -> bool
-    ensures { result ≡ inWholeGroup (sheetOf s.now) p o }
+    ensures { result ≡ in_whole_group (sheet_of s.now) p o }
 {
     let none: [u16; 1] = [0];
     let t = &none[..0];
@@ -108,7 +108,7 @@ pub fn in_whole_group(s: &[u8], p: u16, o: u16) -> bool
 
 // "Active are included objects, but of a wholly included group the leader only."
 pub fn starts_active(s: &[u8], p: u16, leaders: &[u16], marks: &[u16], o: u16) -> bool
-    ensures { Leaders (sheetOf s.now) leaders.now → Included (sheetOf s.now) p marks.now → result ≡ startsActive (sheetOf s.now) p o }
+    ensures { Leaders (sheet_of s.now) leaders.now → Included (sheet_of s.now) p marks.now → result ≡ starts_active (sheet_of s.now) p o }
 {
     !in_whole_group_by(s, p, leaders, marks, o) | leader(s, o)
 }

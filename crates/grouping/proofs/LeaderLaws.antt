@@ -11,24 +11,24 @@ use lib.Dec.{eqb, ltb}
 use lib.ListN.{length, get_or}
 use Rattle.sheet.specs.Words.{Sheet}
 use Rattle.sheet.specs.Layout.{count, number}
-use Rattle.sheet.specs.Fields.{programmes, objects, contentList, complementList}
-use Rattle.profile.specs.Counting.{howMany}
-use Rattle.profile.specs.Relations.{leader, leaderOf, member, members, includes}
-use Rattle.profile.proofs.SumLaws.{howMany-eq}
+use Rattle.sheet.specs.Fields.{programmes, objects, content_list, complement_list}
+use Rattle.profile.specs.Counting.{how_many}
+use Rattle.profile.specs.Relations.{leader, leader_of, member, members, includes}
+use Rattle.profile.proofs.SumLaws.{how_many_eq}
 use Rattle.tables.specs.declared.Naming.TheVariants.{Included}
 use Rattle.tables.specs.declared.Mark.TheVariants.{Store}
-use Rattle.tables.specs.steps.Marks.{Standing, marked, repeat, timesBy}
-use Rattle.tables.proofs.MarkLaws.{repeat-store}
-use Rattle.tables.proofs.TableLaws.{included-marked}
-use Rattle.grouping.specs.steps.Leaders.{AllAsked, Asked, AskedFor, Ready, UpTo, groupAt}
-use Rattle.inclusion.specs.steps.Groups.{GroupKept, manyIn}
+use Rattle.tables.specs.steps.Marks.{Standing, marked, repeat, times_by}
+use Rattle.tables.proofs.MarkLaws.{repeat_store}
+use Rattle.tables.proofs.TableLaws.{included_marked}
+use Rattle.grouping.specs.steps.Leaders.{AllAsked, Asked, AskedFor, Ready, UpTo, group_at}
+use Rattle.inclusion.specs.steps.Groups.{GroupKept, many_in}
 use Rattle.grouping.specs.steps.Groups.{GroupsApart, KeptTo}
-use Rattle.inclusion.specs.steps.Entering.{Entered, objectAt}
+use Rattle.inclusion.specs.steps.Entering.{Entered, object_at}
 use Rattle.grouping.specs.steps.Passing.{Passing}
 use Rattle.inclusion.proofs.CountLaws.{Apart}
-use Rattle.grouping.proofs.KeptLaws.{entries-apart, programme-more, tells-entered}
-use Rattle.grouping.proofs.MemberLaws.{group-count}
-use Rattle.inclusion.proofs.PassLaws.{one-kept, past}
+use Rattle.grouping.proofs.KeptLaws.{entries_apart, programme_more, tells_entered}
+use Rattle.grouping.proofs.MemberLaws.{group_count}
+use Rattle.inclusion.proofs.PassLaws.{one_kept, past}
 
 -- one place of a table is written: what it has, and what the others have
 module _ (h h' : List ℕ) (l v : ℕ) (long : length h' ≡ length h) (now : Standing (λ z. cond (eqb l z) v (get_or h z 0)) h') where
@@ -39,12 +39,12 @@ module _ (h h' : List ℕ) (l v : ℕ) (long : length h' ≡ length h) (now : St
   others x inside other = now x (rw long inside) ∙ ap (λ (b : Bool). cond b v (get_or h x 0)) (ne_eqb l x other)
 
 module _ (s : Sheet) (p : ℕ) (t : List ℕ) (seen : ℕ) where
-  pub asked-none : (h : List ℕ) → Asked s p t seen 0 h h
-  unfolding howMany
-  asked-none h few = (λ x l. omega (arith, few x l), λ l k. (λ r. omega arith, λ r. absurd (omega (arith, few l k))))
+  pub asked_none : (h : List ℕ) → Asked s p t seen 0 h h
+  unfolding how_many
+  asked_none h few = (λ x l. omega (arith, few x l), λ l k. (λ r. omega arith, λ r. absurd (omega (arith, few l k))))
 
   -- an object more
-  module _ (i l : ℕ) (h₀ h h' : List ℕ) (e : l ≡ groupAt s p i) (long : length h' ≡ length h) (step : AskedFor s t seen l h h') where
+  module _ (i l : ℕ) (h₀ h h' : List ℕ) (e : l ≡ group_at s p i) (long : length h' ≡ length h) (step : AskedFor s t seen l h h') where
     -- by place: that of the group, or another
     split : (P : ℕ → Type 0) → P l → ((x : ℕ) → x < length h' → (l ≡ x → ⊥) → P x) → (x : ℕ) → x < length h' → P x
     split P here there x k =
@@ -53,19 +53,19 @@ module _ (s : Sheet) (p : ℕ) (t : List ℕ) (seen : ℕ) where
           | false ↦ λ q. there x k (eqb-false l x q)
         ]) refl
 
-    counted : (x : ℕ) → howMany (λ k. eqb (groupAt s p k) x) (i + 1) ≡ howMany (λ k. eqb (groupAt s p k) x) i + cond (eqb l x) 1 0
-    unfolding howMany
-    counted x = ap (howMany (λ k. eqb (groupAt s p k) x)) (add-one i) ∙ ap (λ (y : ℕ). howMany (λ k. eqb (groupAt s p k) x) i + cond (eqb y x) 1 0) (sym e)
+    counted : (x : ℕ) → how_many (λ k. eqb (group_at s p k) x) (i + 1) ≡ how_many (λ k. eqb (group_at s p k) x) i + cond (eqb l x) 1 0
+    unfolding how_many
+    counted x = ap (how_many (λ k. eqb (group_at s p k) x)) (add-one i) ∙ ap (λ (y : ℕ). how_many (λ k. eqb (group_at s p k) x) i + cond (eqb y x) 1 0) (sym e)
 
-    module _ (before : UpTo (seen + 2) h × ((l : ℕ) → l < length h → (get_or h l 0 ≤ seen + 1 → howMany (λ k. eqb (groupAt s p k) l) i ≤ get_or h l 0 - seen) × (seen + 1 < get_or h l 0 → GroupKept s t l))) where
+    module _ (before : UpTo (seen + 2) h × ((l : ℕ) → l < length h → (get_or h l 0 ≤ seen + 1 → how_many (λ k. eqb (group_at s p k) l) i ≤ get_or h l 0 - seen) × (seen + 1 < get_or h l 0 → GroupKept s t l))) where
       inside : l < length h
       inside = step.0
 
       abbrev Here : Type 0
-      Here = (get_or h' l 0 ≤ seen + 2) × ((get_or h' l 0 ≤ seen + 1 → howMany (λ k. eqb (groupAt s p k) l) (i + 1) ≤ get_or h' l 0 - seen) × (seen + 1 < get_or h' l 0 → GroupKept s t l))
+      Here = (get_or h' l 0 ≤ seen + 2) × ((get_or h' l 0 ≤ seen + 1 → how_many (λ k. eqb (group_at s p k) l) (i + 1) ≤ get_or h' l 0 - seen) × (seen + 1 < get_or h' l 0 → GroupKept s t l))
 
-      more : howMany (λ k. eqb (groupAt s p k) l) (i + 1) ≡ howMany (λ k. eqb (groupAt s p k) l) i + 1
-      more = counted l ∙ ap (λ (b : Bool). howMany (λ k. eqb (groupAt s p k) l) i + cond b 1 0) (eq-eqb l l refl)
+      more : how_many (λ k. eqb (group_at s p k) l) (i + 1) ≡ how_many (λ k. eqb (group_at s p k) l) i + 1
+      more = counted l ∙ ap (λ (b : Bool). how_many (λ k. eqb (group_at s p k) l) i + cond b 1 0) (eq-eqb l l refl)
 
       here : Here
       here =
@@ -77,63 +77,63 @@ module _ (s : Sheet) (p : ℕ) (t : List ℕ) (seen : ℕ) where
           q)
           step.2
 
-      same : (x : ℕ) → (l ≡ x → ⊥) → howMany (λ k. eqb (groupAt s p k) x) (i + 1) ≡ howMany (λ k. eqb (groupAt s p k) x) i + 0
-      same x other = counted x ∙ ap (λ (b : Bool). howMany (λ k. eqb (groupAt s p k) x) i + cond b 1 0) (ne_eqb l x other)
+      same : (x : ℕ) → (l ≡ x → ⊥) → how_many (λ k. eqb (group_at s p k) x) (i + 1) ≡ how_many (λ k. eqb (group_at s p k) x) i + 0
+      same x other = counted x ∙ ap (λ (b : Bool). how_many (λ k. eqb (group_at s p k) x) i + cond b 1 0) (ne_eqb l x other)
 
-      there : (x : ℕ) → x < length h' → (l ≡ x → ⊥) → (get_or h' x 0 ≤ seen + 2) × ((get_or h' x 0 ≤ seen + 1 → howMany (λ k. eqb (groupAt s p k) x) (i + 1) ≤ get_or h' x 0 - seen) × (seen + 1 < get_or h' x 0 → GroupKept s t x))
+      there : (x : ℕ) → x < length h' → (l ≡ x → ⊥) → (get_or h' x 0 ≤ seen + 2) × ((get_or h' x 0 ≤ seen + 1 → how_many (λ k. eqb (group_at s p k) x) (i + 1) ≤ get_or h' x 0 - seen) × (seen + 1 < get_or h' x 0 → GroupKept s t x))
       there x k other =
           let z : get_or h' x 0 ≡ get_or h x 0 = step.1 x (rw long at k) other in
           let k₀ : x < length h = rw long at k in
           (omega (arith, z, before.0 x k₀), (λ r. omega (arith, z, same x other, (before.1 x k₀).0 (omega (arith, z, r))), λ r. (before.1 x k₀).1 (omega (arith, z, r))))
 
-      both : (x : ℕ) → x < length h' → (get_or h' x 0 ≤ seen + 2) × ((get_or h' x 0 ≤ seen + 1 → howMany (λ k. eqb (groupAt s p k) x) (i + 1) ≤ get_or h' x 0 - seen) × (seen + 1 < get_or h' x 0 → GroupKept s t x))
-      both = split (λ x. (get_or h' x 0 ≤ seen + 2) × ((get_or h' x 0 ≤ seen + 1 → howMany (λ k. eqb (groupAt s p k) x) (i + 1) ≤ get_or h' x 0 - seen) × (seen + 1 < get_or h' x 0 → GroupKept s t x))) here there
+      both : (x : ℕ) → x < length h' → (get_or h' x 0 ≤ seen + 2) × ((get_or h' x 0 ≤ seen + 1 → how_many (λ k. eqb (group_at s p k) x) (i + 1) ≤ get_or h' x 0 - seen) × (seen + 1 < get_or h' x 0 → GroupKept s t x))
+      both = split (λ x. (get_or h' x 0 ≤ seen + 2) × ((get_or h' x 0 ≤ seen + 1 → how_many (λ k. eqb (group_at s p k) x) (i + 1) ≤ get_or h' x 0 - seen) × (seen + 1 < get_or h' x 0 → GroupKept s t x))) here there
 
-    pub asked-more : Asked s p t seen i h₀ h → Asked s p t seen (i + 1) h₀ h'
-    asked-more before few = (λ x k. (both (before few) x k).0, λ x k. (both (before few) x k).1)
+    pub asked_more : Asked s p t seen i h₀ h → Asked s p t seen (i + 1) h₀ h'
+    asked_more before few = (λ x k. (both (before few) x k).0, λ x k. (both (before few) x k).1)
 
 -- one object with the test at most
-at-most-one : (p : ℕ → Bool) → howMany p 1 ≤ 1
-unfolding howMany
-at-most-one p =
+at_most_one : (p : ℕ → Bool) → how_many p 1 ≤ 1
+unfolding how_many
+at_most_one p =
     (elim (p 0) as (λ b. p 0 ≡ b → 0 + cond b 1 0 ≤ 1) [
       | true ↦ λ e. omega arith
       | false ↦ λ e. omega arith
     ]) refl
 
 -- where the table tells what the programme includes, the groups that were asked for and those with one object at most are all
-module _ (s : Sheet) (p : ℕ) (t : List ℕ) (apart : GroupsApart s) (entries : Apart (objectAt s p) (number s programmes p contentList)) (tells : (x : ℕ) → includes s p x ≡ not (eqb (get_or t x 0) 0)) where
+module _ (s : Sheet) (p : ℕ) (t : List ℕ) (apart : GroupsApart s) (entries : Apart (object_at s p) (number s programmes p content_list)) (tells : (x : ℕ) → includes s p x ≡ not (eqb (get_or t x 0) 0)) where
   abbrev n : ℕ
-  n = number s programmes p contentList
+  n = number s programmes p content_list
 
   -- the members of a group that are included are the objects with its leader
-  led : (l : ℕ) → l < count s objects → leader s l ≡ true → manyIn s t l ≡ howMany (λ i. eqb (groupAt s p i) l) n
-  unfolding manyIn includes objectAt groupAt
+  led : (l : ℕ) → l < count s objects → leader s l ≡ true → many_in s t l ≡ how_many (λ i. eqb (group_at s p i) l) n
+  unfolding many_in includes object_at group_at
   led l k h =
-      howMany-eq (λ i. not (eqb (get_or t (member s l i) 0) 0)) (λ i. includes s p (member s l i)) (members s l) (λ i m. sym (tells (member s l i)))
-      ∙ group-count s apart (objectAt s p) n l entries k h
+      how_many_eq (λ i. not (eqb (get_or t (member s l i) 0) 0)) (λ i. includes s p (member s l i)) (members s l) (λ i m. sym (tells (member s l i)))
+      ∙ group_count s apart (object_at s p) n l entries k h
 
   -- an object that leads none is alone
-  alone : (l : ℕ) → leader s l ≡ false → manyIn s t l ≤ 1
-  unfolding manyIn leader members
+  alone : (l : ℕ) → leader s l ≡ false → many_in s t l ≤ 1
+  unfolding many_in leader members
   alone l h =
-      let z : number s objects l complementList ≡ 0 = omega (arith, ltb-false 0 (number s objects l complementList) h) in
-      subst (λ (k : ℕ). howMany (λ i. not (eqb (get_or t (member s l i) 0) 0)) (suc k) ≤ 1) (sym z) (at-most-one (λ i. not (eqb (get_or t (member s l i) 0) 0)))
+      let z : number s objects l complement_list ≡ 0 = omega (arith, ltb-false 0 (number s objects l complement_list) h) in
+      subst (λ (k : ℕ). how_many (λ i. not (eqb (get_or t (member s l i) 0) 0)) (suc k) ≤ 1) (sym z) (at_most_one (λ i. not (eqb (get_or t (member s l i) 0) 0)))
 
-  pub asked-kept : (seen : ℕ) (h h' : List ℕ) → UpTo seen h → length h' ≡ count s objects → Asked s p t seen n h h' → (l : ℕ) → l < count s objects → GroupKept s t l
-  asked-kept seen h h' few long asked l k =
+  pub asked_kept : (seen : ℕ) (h h' : List ℕ) → UpTo seen h → length h' ≡ count s objects → Asked s p t seen n h h' → (l : ℕ) → l < count s objects → GroupKept s t l
+  asked_kept seen h h' few long asked l k =
       let so = (asked few).1 l (rw long k) in
       (elim (ltb (seen + 1) (get_or h' l 0)) as (λ b. ltb (seen + 1) (get_or h' l 0) ≡ b → GroupKept s t l) [
         | true ↦ λ e. so.1 (ltb-true (seen + 1) (get_or h' l 0) e)
         | false ↦ λ e. (elim (leader s l) as (λ b. leader s l ≡ b → GroupKept s t l) [
-          | true ↦ λ h. one-kept s t l (omega (arith, led l k h, so.0 (ltb-false (seen + 1) (get_or h' l 0) e), ltb-false (seen + 1) (get_or h' l 0) e))
-          | false ↦ λ h. one-kept s t l (alone l h)
+          | true ↦ λ h. one_kept s t l (omega (arith, led l k h, so.0 (ltb-false (seen + 1) (get_or h' l 0) e), ltb-false (seen + 1) (get_or h' l 0) e))
+          | false ↦ λ h. one_kept s t l (alone l h)
         ]) refl
       ]) refl
 
 -- what stands in a place of a table lies inside it
-pub lies-inside : (h : List ℕ) (l : ℕ) → 0 < get_or h l 0 → l < length h
-lies-inside h l some =
+pub lies_inside : (h : List ℕ) (l : ℕ) → 0 < get_or h l 0 → l < length h
+lies_inside h l some =
     (elim (ltb l (length h)) as (λ b. ltb l (length h) ≡ b → l < length h) [
       | true ↦ λ e. ltb-true l (length h) e
       | false ↦ λ e. absurd (omega (arith, some, past h l (ltb-false l (length h) e)))
@@ -141,40 +141,40 @@ lies-inside h l some =
 
 -- nothing stands in the table once the places of what the programme includes have 0
 module _ (s : Sheet) (p : ℕ) (t t' : List ℕ) (long : length t' ≡ length t) (tells : (x : ℕ) → includes s p x ≡ not (eqb (get_or t x 0) 0))
-    (now : Standing (λ x. repeat (marked (Store 0)) (timesBy s Included p x) (get_or t x 0)) t') where
+    (now : Standing (λ x. repeat (marked (Store 0)) (times_by s Included p x) (get_or t x 0)) t') where
   -- what is never named is not included
-  unnamed : (x : ℕ) → eqb (timesBy s Included p x) 0 ≡ true → get_or t x 0 ≡ 0
+  unnamed : (x : ℕ) → eqb (times_by s Included p x) 0 ≡ true → get_or t x 0 ≡ 0
   unnamed x e =
-      let z : ◌≡◌ {A = ℕ} (cond (includes s p x) 1 0) 0 = sym (included-marked s p x) ∙ repeat-store 1 (timesBy s Included p x) 0 ∙ ap (λ (b : Bool). cond b 0 1) e in
+      let z : ◌≡◌ {A = ℕ} (cond (includes s p x) 1 0) 0 = sym (included_marked s p x) ∙ repeat_store 1 (times_by s Included p x) 0 ∙ ap (λ (b : Bool). cond b 0 1) e in
       eqb-true (get_or t x 0) 0 (not-false _ (sym (tells x) ∙ none (includes s p x) z))
     where
       none : (b : Bool) → ◌≡◌ {A = ℕ} (cond b 1 0) 0 → b ≡ false
       none true z = absurd (omega (arith, z))
       none false z = refl
 
-  pub left-empty : Standing (λ x. 0) t'
-  left-empty x l =
-      now x l ∙ repeat-store 0 (timesBy s Included p x) (get_or t x 0)
-      ∙ (elim (eqb (timesBy s Included p x) 0) as (λ b. eqb (timesBy s Included p x) 0 ≡ b → cond b (get_or t x 0) 0 ≡ 0) [
+  pub left_empty : Standing (λ x. 0) t'
+  left_empty x l =
+      now x l ∙ repeat_store 0 (times_by s Included p x) (get_or t x 0)
+      ∙ (elim (eqb (times_by s Included p x) 0) as (λ b. eqb (times_by s Included p x) 0 ≡ b → cond b (get_or t x 0) 0 ≡ 0) [
         | true ↦ λ e. unnamed x e
         | false ↦ λ e. refl
       ]) refl
 
-pub group-entry : (s : Sheet) (p i l o : ℕ) → l ≡ leaderOf s o → o ≡ objectAt s p i → l ≡ groupAt s p i
-unfolding groupAt
-group-entry s p i l o a b = a ∙ ap (leaderOf s) b
+pub group_entry : (s : Sheet) (p i l o : ℕ) → l ≡ leader_of s o → o ≡ object_at s p i → l ≡ group_at s p i
+unfolding group_at
+group_entry s p i l o a b = a ∙ ap (leader_of s) b
 
 -- a programme more, by groups that were asked for, after which the marks of the objects are taken back
 module _ (s : Sheet) (both : Bool) (owners alike : List ℕ) (p : ℕ) (t t' h h' : List ℕ) (pass : Passing s both owners alike) (entered : Entered s both alike p t t') (ready : Ready s p t h)
     (asked : AllAsked s p t' h h') (long : length h' ≡ length h) where
   tells : (x : ℕ) → includes s p x ≡ not (eqb (get_or t' x 0) 0)
-  tells = tells-entered s p both alike t t' ready.1 entered
+  tells = tells_entered s p both alike t t' ready.1 entered
 
-  pub led-more : GroupsApart s → KeptTo s both p → KeptTo s both (p + 1)
-  led-more apart =
-      programme-more s both owners alike p t t' pass entered ready.1 ready.0
-      (asked-kept s p t' apart (entries-apart s p both alike t t' ready.1 entered) tells (2 * p) h h' ready.3 (long ∙ ready.2) asked)
+  pub led_more : GroupsApart s → KeptTo s both p → KeptTo s both (p + 1)
+  led_more apart =
+      programme_more s both owners alike p t t' pass entered ready.1 ready.0
+      (asked_kept s p t' apart (entries_apart s p both alike t t' ready.1 entered) tells (2 * p) h h' ready.3 (long ∙ ready.2) asked)
 
-  pub led-ready : (q : ℕ) (t'' : List ℕ) → p < q → length t' ≡ length t → length t'' ≡ length t'
-      → Standing (λ x. repeat (marked (Store 0)) (timesBy s Included p x) (get_or t' x 0)) t'' → Ready s q t'' h'
-  led-ready q t'' more same cleared now = (cleared ∙ same ∙ ready.0, left-empty s p t' t'' cleared tells now, long ∙ ready.2, λ x l. omega (arith, (asked ready.3).0 x l))
+  pub led_ready : (q : ℕ) (t'' : List ℕ) → p < q → length t' ≡ length t → length t'' ≡ length t'
+      → Standing (λ x. repeat (marked (Store 0)) (times_by s Included p x) (get_or t' x 0)) t'' → Ready s q t'' h'
+  led_ready q t'' more same cleared now = (cleared ∙ same ∙ ready.0, left_empty s p t' t'' cleared tells now, long ∙ ready.2, λ x l. omega (arith, (asked ready.3).0 x l))

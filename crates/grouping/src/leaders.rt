@@ -4,7 +4,7 @@
 ghost use Rattle.std.specs.Prelude.{◌<◌, length, true, ◌≡◌};
 ghost use Rattle.grouping.specs.steps.Leaders.{AllAsked, AskedFor};
 ghost use Rattle.inclusion.specs.steps.Entering.{Begins};
-ghost use Rattle.sheet.specs.Words.{sheetOf};
+ghost use Rattle.sheet.specs.Words.{sheet_of};
 ghost use Rattle.tables.specs.steps.Right.{Leaders};
 
 use inclusion::SectionOffsets;
@@ -26,7 +26,7 @@ fn group_asked(
     groups: &mut [u16],
 ) -> bool
     requires { seen < 65534 }
-    ensures { (length groups.new ≡ length groups.old) × (result ≡ true → Begins (sheetOf s.now) sections → AskedFor (sheetOf s.now) included.now seen l groups.old groups.new) }
+    ensures { (length groups.new ≡ length groups.old) × (result ≡ true → Begins (sheet_of s.now) sections → AskedFor (sheet_of s.now) included.now seen l groups.old groups.new) }
 {
     let h = at(groups, l);
     if seen + 1 < h {
@@ -57,7 +57,7 @@ pub fn groups_asked(
     included: &[u16],
     groups: &mut [u16],
 ) -> bool
-    ensures { (length groups.new ≡ length groups.old) × (result ≡ true → Begins (sheetOf s.now) sections → Leaders (sheetOf s.now) leaders.now → AllAsked (sheetOf s.now) p included.now groups.old groups.new) }
+    ensures { (length groups.new ≡ length groups.old) × (result ≡ true → Begins (sheet_of s.now) sections → Leaders (sheet_of s.now) leaders.now → AllAsked (sheet_of s.now) p included.now groups.old groups.new) }
 {
     if 32766 < p {
         return false;

@@ -2,8 +2,8 @@
 ghost use Rattle.std.specs.Prelude.{◌+◌, ◌<◌, length, true, ◌≡◌};
 ghost use Rattle.grouping.specs.steps.Groups.{GroupsGround, KeptTo, ProgrammesKept};
 ghost use Rattle.inclusion.specs.steps.Entering.{Begins};
-ghost use Rattle.grouping.specs.steps.Passing.{KeptFrom, sameList, sameLists};
-ghost use Rattle.sheet.specs.Words.{sheetOf};
+ghost use Rattle.grouping.specs.steps.Passing.{KeptFrom, same_list, same_lists};
+ghost use Rattle.sheet.specs.Words.{sheet_of};
 ghost use Rattle.tables.specs.steps.Right.{Owners};
 
 use crate::Wanted;
@@ -22,7 +22,7 @@ use tables::{CountedEntries, Mark, Naming};
 // Whether two programmes have the same list at a position.
 fn same_list(s: &[u8], p: u16, q: u16, at: u8) -> bool
     requires { at < 8 }
-    ensures { result ≡ sameList (sheetOf s.now) p q at }
+    ensures { result ≡ same_list (sheet_of s.now) p q at }
 {
     if field(s, PROGRAMMES, p, at) != field(s, PROGRAMMES, q, at) {
         return false;
@@ -32,7 +32,7 @@ fn same_list(s: &[u8], p: u16, q: u16, at: u8) -> bool
 
 // Whether they have the same contents and, with `both`, the same sets.
 fn same_lists(s: &[u8], both: bool, p: u16, q: u16) -> bool
-    ensures { result ≡ sameLists (sheetOf s.now) both p q }
+    ensures { result ≡ same_lists (sheet_of s.now) both p q }
 {
     if !same_list(s, p, q, CONTENT_LIST) {
         return false;
@@ -43,7 +43,7 @@ fn same_lists(s: &[u8], both: bool, p: u16, q: u16) -> bool
 // The first programme after p that has not the lists of the one before it, n where there is none: up to there all keep what p keeps.
 fn next_other(s: &[u8], both: bool, p: u16, n: u16) -> u16
     requires { p < n }
-    ensures { (p < result) × (KeptTo (sheetOf s.now) both (p + 1) → KeptTo (sheetOf s.now) both result) }
+    ensures { (p < result) × (KeptTo (sheet_of s.now) both (p + 1) → KeptTo (sheet_of s.now) both result) }
 {
     let mut q: u16 = p + 1;
     while q < n {
@@ -57,7 +57,7 @@ fn next_other(s: &[u8], both: bool, p: u16, n: u16) -> u16
 
 // Where sections 6, 2 and 7 begin.
 fn section_offsets(s: &[u8]) -> SectionOffsets
-    ensures { Begins (sheetOf s.now) result }
+    ensures { Begins (sheet_of s.now) result }
 {
     SectionOffsets {
         references: offset(s, REFERENCES),
@@ -77,7 +77,7 @@ fn rows_from(
     partners: &mut [u16],
     included: &mut [u16],
 ) -> u16
-    ensures { KeptFrom (sheetOf s.now) wanted owners.now alike.now leading.old partners.old included.old leading.new partners.new included.new result }
+    ensures { KeptFrom (sheet_of s.now) wanted owners.now alike.now leading.old partners.old included.old leading.new partners.new included.new result }
 {
     let sections = section_offsets(s);
     let both = wanted.both;
@@ -107,7 +107,7 @@ fn leaders_from(
     groups: &mut [u16],
     included: &mut [u16],
 ) -> u16
-    ensures { KeptFrom (sheetOf s.now) wanted owners.now alike.now leaders.old groups.old included.old leaders.new groups.new included.new result }
+    ensures { KeptFrom (sheet_of s.now) wanted owners.now alike.now leaders.old groups.old included.old leaders.new groups.new included.new result }
 {
     let sections = section_offsets(s);
     let both = wanted.both;
@@ -151,7 +151,7 @@ pub fn kept_from(
     second: &mut [u16],
     included: &mut [u16],
 ) -> u16
-    ensures { KeptFrom (sheetOf s.now) wanted owners.now alike.now first.old second.old included.old first.new second.new included.new result }
+    ensures { KeptFrom (sheet_of s.now) wanted owners.now alike.now first.old second.old included.old first.new second.new included.new result }
 {
     if short_lists(s) {
         return leaders_from(s, wanted, owners, alike, first, second, included);
@@ -168,7 +168,7 @@ pub fn programmes_pass(
     first: &mut [u16],
     second: &mut [u16],
 ) -> bool
-    ensures { (length included.new ≡ length included.old) × (length first.new ≡ length first.old) × (length second.new ≡ length second.old) × (result ≡ true → Owners (sheetOf s.now) owners.now → GroupsGround (sheetOf s.now) → ProgrammesKept (sheetOf s.now)) }
+    ensures { (length included.new ≡ length included.old) × (length first.new ≡ length first.old) × (length second.new ≡ length second.old) × (result ≡ true → Owners (sheet_of s.now) owners.now → GroupsGround (sheet_of s.now) → ProgrammesKept (sheet_of s.now)) }
 {
     let n = count(s, OBJECTS) as usize;
     if included.len() < n {

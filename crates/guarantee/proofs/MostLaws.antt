@@ -11,15 +11,15 @@ use Rattle.sheet.specs.Layout.{level, count}
 use Rattle.sheet.specs.Fields.{programmes}
 use Rattle.listener.specs.Programme.{started}
 use Rattle.listener.specs.Calls.{opens}
-use Rattle.listener.specs.StartListing.{startNumber}
-use Rattle.guarantee.specs.Guarantee.{mostEntries}
-use Rattle.guarantee.proofs.OpenLaws.{accepted-opened, few-objects, most-counted}
-use Rattle.guarantee.proofs.SoundLaws.{start-sound}
-use Rattle.guarantee.proofs.ListingLaws.{listing-most}
+use Rattle.listener.specs.StartListing.{start_number}
+use Rattle.guarantee.specs.Guarantee.{most_entries}
+use Rattle.guarantee.proofs.OpenLaws.{accepted_opened, few_objects, most_counted}
+use Rattle.guarantee.proofs.SoundLaws.{start_sound}
+use Rattle.guarantee.proofs.ListingLaws.{listing_most}
 
-pub start-most : (s : Sheet) (langs : List ℕ) (p : ℕ) → opens s langs ≡ true → leb (count s programmes) p ≡ false → startNumber s p ≤ mostEntries (level s)
-unfolding startNumber
-start-most s langs p e f =
-    let a = accepted-opened s langs e in
-    let few = few-objects s langs e in
-    le_trans (listing-most s a few (started s p) (start-sound s a few p (leb-false _ _ f))) (most-counted s langs e)
+pub start_most : (s : Sheet) (langs : List ℕ) (p : ℕ) → opens s langs ≡ true → leb (count s programmes) p ≡ false → start_number s p ≤ most_entries (level s)
+unfolding start_number
+start_most s langs p e f =
+    let a = accepted_opened s langs e in
+    let few = few_objects s langs e in
+    le_trans (listing_most s a few (started s p) (start_sound s a few p (leb-false _ _ f))) (most_counted s langs e)

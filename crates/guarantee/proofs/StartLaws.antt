@@ -7,99 +7,99 @@ use lib.Dec.{eqb, ltb}
 use borrow.Author.Tests.{ltb-true, ltb-false}
 use Rattle.sheet.specs.Words.{Sheet}
 use Rattle.sheet.specs.Layout.{count, field, number}
-use Rattle.sheet.specs.Fields.{programmes, objects, valueSets, setList, setOwn}
+use Rattle.sheet.specs.Fields.{programmes, objects, value_sets, set_list, set_own}
 use Rattle.values.specs.declared.Sort.{Sort}
-use Rattle.values.specs.Values.{isAbsent, orElse, isValue}
-use Rattle.values.proofs.Zero.{zero-value, zero-in-range}
-use Rattle.profile.specs.Counting.{howMany, sum, lowest}
-use Rattle.profile.specs.Relations.{hasSet, owner, namedSet, namesSet, setFor, objectValue, setValue, ownValue, effectiveValue, effectiveMinimum, effectiveMaximum}
+use Rattle.values.specs.Values.{is_absent, or_else, is_value}
+use Rattle.values.proofs.Zero.{zero_value, zero_in_range}
+use Rattle.profile.specs.Counting.{how_many, sum, lowest}
+use Rattle.profile.specs.Relations.{has_set, owner, named_set, names_set, set_for, object_value, set_value, own_value, effective_value, effective_minimum, effective_maximum}
 use Rattle.profile.specs.AcceptedSheet.{AcceptedSheet, Legal, LegalRange, Within}
-use Rattle.profile.proofs.CountingLaws.{finds, lowest-holds}
-use Rattle.profile.proofs.SumLaws.{howMany-sum, sum-two}
-use Rattle.profile.proofs.GroupLaws.{any-witness}
-use Rattle.granted.specs.Granted.{startValue, grantedMinimum, grantedMaximum}
+use Rattle.profile.proofs.CountingLaws.{finds, lowest_holds}
+use Rattle.profile.proofs.SumLaws.{how_many_sum, sum_two}
+use Rattle.profile.proofs.GroupLaws.{any_witness}
+use Rattle.granted.specs.Granted.{start_value, granted_minimum, granted_maximum}
 
 -- a legal word, or else a value, is a value
-legal-or : (t : Sort) (w d : ℕ) → Legal t w → isValue t d ≡ true → isValue t (orElse w d) ≡ true
-unfolding orElse
-legal-or t w d h e =
-    (elim (isAbsent w) as (λ b. isAbsent w ≡ b → isValue t (cond (isAbsent w) d w) ≡ true) [
+legal_or : (t : Sort) (w d : ℕ) → Legal t w → is_value t d ≡ true → is_value t (or_else w d) ≡ true
+unfolding or_else
+legal_or t w d h e =
+    (elim (is_absent w) as (λ b. is_absent w ≡ b → is_value t (cond (is_absent w) d w) ≡ true) [
       | true ↦ λ q. rw q e
       | false ↦ λ q. rw q (rw q at h)
     ]) refl
 
 -- what is counted once is in one place
-pub once : (p : ℕ → Bool) (n i j : ℕ) → howMany p n ≡ 1 → i < n → j < n → p i ≡ true → p j ≡ true → i ≡ j
+pub once : (p : ℕ → Bool) (n i j : ℕ) → how_many p n ≡ 1 → i < n → j < n → p i ≡ true → p j ≡ true → i ≡ j
 once p n i j e l m a b =
     let f : ℕ → ℕ = λ k. cond (p k) 1 0 in
-    let one : sum f n ≡ 1 = sym (howMany-sum p n) ∙ e in
+    let one : sum f n ≡ 1 = sym (how_many_sum p n) ∙ e in
     let fi : f i ≡ 1 = ap (λ (t : Bool). cond t 1 0) a in
     let fj : f j ≡ 1 = ap (λ (t : Bool). cond t 1 0) b in
     (elim (ltb i j) as (λ t. ltb i j ≡ t → i ≡ j) [
-      | true ↦ λ x. absurd (omega (arith, sum-two f n i j (ltb-true i j x) m))
+      | true ↦ λ x. absurd (omega (arith, sum_two f n i j (ltb-true i j x) m))
       | false ↦ λ x. (elim (ltb j i) as (λ t. ltb j i ≡ t → i ≡ j) [
-        | true ↦ λ y. absurd (omega (arith, sum-two f n j i (ltb-true j i y) l))
+        | true ↦ λ y. absurd (omega (arith, sum_two f n j i (ltb-true j i y) l))
         | false ↦ λ y. omega (arith, ltb-false i j x, ltb-false j i y)
       ]) refl
     ]) refl
 
 module _ (s : Sheet) (a : AcceptedSheet s) where
   -- the owner of a set is the object whose span has it
-  owner-of : (o v : ℕ) → o < count s objects → v < count s valueSets → hasSet s o v ≡ true → owner s v ≡ o
+  owner_of : (o v : ℕ) → o < count s objects → v < count s value_sets → has_set s o v ≡ true → owner s v ≡ o
   unfolding owner
-  owner-of o v l m e =
-      let p : ℕ → Bool = λ q. hasSet s q v in
+  owner_of o v l m e =
+      let p : ℕ → Bool = λ q. has_set s q v in
       let f : lowest p (count s objects) < count s objects = ltb-true _ _ (finds p (count s objects) o l e) in
-      once p (count s objects) (lowest p (count s objects)) o (a.one-span v m) f l (lowest-holds p (count s objects) f) e
+      once p (count s objects) (lowest p (count s objects)) o (a.one_span v m) f l (lowest_holds p (count s objects) f) e
 
   -- the set that a programme names for an object is one of the sheet, and the object's
-  named : (p o : ℕ) → p < count s programmes → namesSet s p o ≡ true → (setFor s p o < count s valueSets) × (hasSet s o (setFor s p o) ≡ true)
-  unfolding namesSet setFor
+  named : (p o : ℕ) → p < count s programmes → names_set s p o ≡ true → (set_for s p o < count s value_sets) × (has_set s o (set_for s p o) ≡ true)
+  unfolding names_set set_for
   named p o l e =
-      let t : ℕ → Bool = λ i. hasSet s o (namedSet s p i) in
-      let n : ℕ = number s programmes p setList in
-      let w = any-witness t n e in
+      let t : ℕ → Bool = λ i. has_set s o (named_set s p i) in
+      let n : ℕ = number s programmes p set_list in
+      let w = any_witness t n e in
       let f : lowest t n < n = ltb-true _ _ (finds t n w.0 w.1 w.2) in
-      (a.set-index p (lowest t n) l f, lowest-holds t n f)
+      (a.set_index p (lowest t n) l f, lowest_holds t n f)
 
-  own-legal : (o : ℕ) (t : Sort) → o < count s objects → isValue t (ownValue s o t) ≡ true
-  unfolding ownValue
-  own-legal o t l = legal-or t (field s objects o (objectValue t)) 0 (a.object-value o t l) (zero-value t)
+  own_legal : (o : ℕ) (t : Sort) → o < count s objects → is_value t (own_value s o t) ≡ true
+  unfolding own_value
+  own_legal o t l = legal_or t (field s objects o (object_value t)) 0 (a.object_value_lem o t l) (zero_value t)
 
-  pub start-legal : (p o : ℕ) (t : Sort) → p < count s programmes → o < count s objects → isValue t (startValue s p o t) ≡ true
-  unfolding startValue effectiveValue
-  start-legal p o t l m =
-      (elim (namesSet s p o) as (λ b. namesSet s p o ≡ b → isValue t (startValue s p o t) ≡ true) [
-        | true ↦ λ e. rw e (legal-or t (field s valueSets (setFor s p o) (setValue t)) (ownValue s o t) (a.set-value (setFor s p o) t (named p o l e).0) (own-legal o t m))
-        | false ↦ λ e. rw e (own-legal o t m)
+  pub start_legal : (p o : ℕ) (t : Sort) → p < count s programmes → o < count s objects → is_value t (start_value s p o t) ≡ true
+  unfolding start_value effective_value
+  start_legal p o t l m =
+      (elim (names_set s p o) as (λ b. names_set s p o ≡ b → is_value t (start_value s p o t) ≡ true) [
+        | true ↦ λ e. rw e (legal_or t (field s value_sets (set_for s p o) (set_value t)) (own_value s o t) (a.set_value_lem (set_for s p o) t (named p o l e).0) (own_legal o t m))
+        | false ↦ λ e. rw e (own_legal o t m)
       ]) refl
 
-  pub start-within : (p o : ℕ) (t : Sort) → p < count s programmes → o < count s objects → Within t (grantedMinimum s p o t) (startValue s p o t) (grantedMaximum s p o t)
-  unfolding startValue grantedMinimum grantedMaximum
-  start-within p o t l m =
-      (elim (namesSet s p o) as (λ b. namesSet s p o ≡ b → Within t (grantedMinimum s p o t) (startValue s p o t) (grantedMaximum s p o t)) [
+  pub start_within : (p o : ℕ) (t : Sort) → p < count s programmes → o < count s objects → Within t (granted_minimum s p o t) (start_value s p o t) (granted_maximum s p o t)
+  unfolding start_value granted_minimum granted_maximum
+  start_within p o t l m =
+      (elim (names_set s p o) as (λ b. names_set s p o ≡ b → Within t (granted_minimum s p o t) (start_value s p o t) (granted_maximum s p o t)) [
         | true ↦ λ e.
             let n = named p o l e in
-            rw e (rw (owner-of o (setFor s p o) m n.0 n.1) at (a.set-within (setFor s p o) t n.0))
-        | false ↦ λ e. rw e (a.object-within o t m)
+            rw e (rw (owner_of o (set_for s p o) m n.0 n.1) at (a.set_within (set_for s p o) t n.0))
+        | false ↦ λ e. rw e (a.object_within o t m)
       ]) refl
 
-  effective-legal : (o v : ℕ) (t : Sort) → o < count s objects → v < count s valueSets → LegalRange t (effectiveMinimum s o v t) (effectiveMaximum s o v t)
-  unfolding effectiveMinimum effectiveMaximum
-  effective-legal o v t l m =
-      (elim (eqb (field s valueSets v setOwn) 1) as (λ b. eqb (field s valueSets v setOwn) 1 ≡ b → LegalRange t (effectiveMinimum s o v t) (effectiveMaximum s o v t)) [
-        | true ↦ λ e. rw e (a.set-range v t m)
-        | false ↦ λ e. rw e (a.object-range o t l)
+  effective_legal : (o v : ℕ) (t : Sort) → o < count s objects → v < count s value_sets → LegalRange t (effective_minimum s o v t) (effective_maximum s o v t)
+  unfolding effective_minimum effective_maximum
+  effective_legal o v t l m =
+      (elim (eqb (field s value_sets v set_own) 1) as (λ b. eqb (field s value_sets v set_own) 1 ≡ b → LegalRange t (effective_minimum s o v t) (effective_maximum s o v t)) [
+        | true ↦ λ e. rw e (a.set_range_lem v t m)
+        | false ↦ λ e. rw e (a.object_range_lem o t l)
       ]) refl
 
-  pub granted-legal : (p o : ℕ) (t : Sort) → p < count s programmes → o < count s objects → LegalRange t (grantedMinimum s p o t) (grantedMaximum s p o t)
-  unfolding grantedMinimum grantedMaximum
-  granted-legal p o t l m =
-      (elim (namesSet s p o) as (λ b. namesSet s p o ≡ b → LegalRange t (grantedMinimum s p o t) (grantedMaximum s p o t)) [
-        | true ↦ λ e. rw e (effective-legal o (setFor s p o) t m (named p o l e).0)
-        | false ↦ λ e. rw e (a.object-range o t m)
+  pub granted_legal : (p o : ℕ) (t : Sort) → p < count s programmes → o < count s objects → LegalRange t (granted_minimum s p o t) (granted_maximum s p o t)
+  unfolding granted_minimum granted_maximum
+  granted_legal p o t l m =
+      (elim (names_set s p o) as (λ b. names_set s p o ≡ b → LegalRange t (granted_minimum s p o t) (granted_maximum s p o t)) [
+        | true ↦ λ e. rw e (effective_legal o (set_for s p o) t m (named p o l e).0)
+        | false ↦ λ e. rw e (a.object_range_lem o t m)
       ]) refl
 
   -- 0 is in every range that is granted
-  pub zero-within : (p o : ℕ) (t : Sort) → p < count s programmes → o < count s objects → Within t (grantedMinimum s p o t) 0 (grantedMaximum s p o t)
-  zero-within p o t l m present = let r = granted-legal p o t l m present in zero-in-range t (grantedMinimum s p o t) (grantedMaximum s p o t) r.0 r.1
+  pub zero_within : (p o : ℕ) (t : Sort) → p < count s programmes → o < count s objects → Within t (granted_minimum s p o t) 0 (granted_maximum s p o t)
+  zero_within p o t l m present = let r = granted_legal p o t l m present in zero_in_range t (granted_minimum s p o t) (granted_maximum s p o t) r.0 r.1

@@ -6,71 +6,71 @@ use Rattle.std.specs.Prelude.{ℕ, ◌+◌, ◌<◌, ◌≤◌, ◌≡◌, Bool,
 use Rattle.std.proofs.lemmas.List.Edits.{sets}
 use Rattle.sheet.specs.Words.{Sheet}
 use Rattle.sheet.specs.Layout.{level, count, field}
-use Rattle.sheet.specs.Fields.{objects, packs, tracks, packChannels, trackPack, trackOrdinal}
+use Rattle.sheet.specs.Fields.{objects, packs, tracks, pack_channels, track_pack, track_ordinal}
 use Rattle.values.specs.declared.Sort.TheVariants.{Gains, Offsets}
-use Rattle.values.specs.Signed.{signedOf}
-use Rattle.values.specs.Gain.{gainOf, gainInRange, legalGain}
-use Rattle.values.specs.Offset.{offsetInRange, legalOffset}
-use Rattle.profile.specs.Counting.{howMany}
-use Rattle.profile.specs.Relations.{packOf, hasPack, leader, member, members, whollyIncluded}
+use Rattle.values.specs.Signed.{signed_of}
+use Rattle.values.specs.Gain.{gain_of, gain_in_range, legal_gain}
+use Rattle.values.specs.Offset.{offset_in_range, legal_offset}
+use Rattle.profile.specs.Counting.{how_many}
+use Rattle.profile.specs.Relations.{pack_of, has_pack, leader, member, members, wholly_included}
 use Rattle.listener.specs.declared.State.{State}
 use Rattle.listener.specs.declared.Answer.TheVariants.{Done, Refused}
 use Rattle.listener.specs.declared.Refusal.TheVariants.{NotAccepted, Unsound}
 use Rattle.listener.specs.State.{setting}
-use Rattle.granted.specs.Granted.{grantedMinimum, grantedMaximum, grants}
-use Rattle.listener.specs.Programme.{startSetting}
+use Rattle.granted.specs.Granted.{granted_minimum, granted_maximum, grants}
+use Rattle.listener.specs.Programme.{start_setting}
 use Rattle.listener.specs.Calls.{opened}
-use Rattle.listener.specs.Listing.{Entry, sounds, entries, listedTracks, listingAnswer, listed, buffered}
-use Rattle.guarantee.specs.Run.{Call, reply, after, lastChosen}
+use Rattle.listener.specs.Listing.{Entry, sounds, entries, listed_tracks, listing_answer, listed, buffered}
+use Rattle.guarantee.specs.Run.{Call, reply, after, last_chosen}
 
 -- "1 to 16 (28) entries": the most at level 1, and at level 2
-unfoldable pub mostEntries : ℕ → ℕ
-mostEntries l = cond (eqb l 1) 16 28
+unfoldable pub most_entries : ℕ → ℕ
+most_entries l = cond (eqb l 1) 16 28
 
 -- how many of a list have p
-unfoldable pub howManyIn : {X : Type 0} → (X → Bool) → List X → ℕ
-howManyIn p [] = 0
-howManyIn p (x ∷ xs) = cond (p x) 1 0 + howManyIn p xs
+unfoldable pub how_many_in : {X : Type 0} → (X → Bool) → List X → ℕ
+how_many_in p [] = 0
+how_many_in p (x ∷ xs) = cond (p x) 1 0 + how_many_in p xs
 
 -- "an entry is channel n of a pack if its track names that pack and ordinal n"; an own entry of object o, for its pack
-unfoldable pub isChannel : Sheet → ℕ → ℕ → Entry → Bool
-isChannel s o n e =
-    eqb e.object o && eqb (field s tracks e.track trackPack) (packOf s o) && eqb (field s tracks e.track trackOrdinal) n
+unfoldable pub is_channel : Sheet → ℕ → ℕ → Entry → Bool
+is_channel s o n e =
+    eqb e.object o && eqb (field s tracks e.track track_pack) (pack_of s o) && eqb (field s tracks e.track track_ordinal) n
 
 -- the promises about one state, at a programme
 pub record Promises (s : Sheet) (langs : List ℕ) (p : ℕ) (st : State) : Type 0 where
   -- the listing with enough space ("Enough space is a word for each entry.") is done, gives the number of entries and writes their
   -- tracks; it has 1 to 16 (28) entries, each a track of the sheet
-  pub listing-done : (words : ℕ) → length (entries s st) ≤ words → listed s langs st words ≡ record { answer = Done; entries = length (entries s st) }
-  pub listing-written : (buffer : List ℕ) → length (entries s st) ≤ length buffer → buffered s langs st buffer ≡ sets buffer 0 (listedTracks s st)
-  pub at-least-one : 1 ≤ length (entries s st)
-  pub at-most : length (entries s st) ≤ mostEntries (level s)
-  pub tracks-exist : (i : ℕ) → i < length (listedTracks s st) → get_or (listedTracks s st) i 0 < count s tracks
+  pub listing_done : (words : ℕ) → length (entries s st) ≤ words → listed s langs st words ≡ record { answer = Done; entries = length (entries s st) }
+  pub listing_written : (buffer : List ℕ) → length (entries s st) ≤ length buffer → buffered s langs st buffer ≡ sets buffer 0 (listed_tracks s st)
+  pub at_least_one : 1 ≤ length (entries s st)
+  pub at_most_lem : length (entries s st) ≤ most_entries (level s)
+  pub tracks_exist : (i : ℕ) → i < length (listed_tracks s st) → get_or (listed_tracks s st) i 0 < count s tracks
   -- exactly one member of each wholly included group sounds
-  pub one-sounds : (l : ℕ) → l < count s objects → leader s l ≡ true → whollyIncluded s p l ≡ true
-      → howMany (λ i. sounds s st (member s l i)) (members s l) ≡ 1
+  pub one_sounds : (l : ℕ) → l < count s objects → leader s l ≡ true → wholly_included s p l ≡ true
+      → how_many (λ i. sounds s st (member s l i)) (members s l) ≡ 1
   -- each sounding object with a pack has each channel of it exactly once among its own entries
-  pub channels-once : (o : ℕ) → o < count s objects → sounds s st o ≡ true → hasPack s o ≡ true
-      → (n : ℕ) → n < field s packs (packOf s o) packChannels → howManyIn (isChannel s o n) (entries s st) ≡ 1
+  pub channels_once : (o : ℕ) → o < count s objects → sounds s st o ≡ true → has_pack s o ≡ true
+      → (n : ℕ) → n < field s packs (pack_of s o) pack_channels → how_many_in (is_channel s o n) (entries s st) ≡ 1
   -- gains and offsets are legal
-  pub gain-legal : (o : ℕ) → o < count s objects → legalGain (setting st o).gain ≡ true
-  pub offset-legal : (o : ℕ) → o < count s objects → legalOffset (setting st o).offset ≡ true
+  pub gain_legal : (o : ℕ) → o < count s objects → legal_gain (setting st o).gain ≡ true
+  pub offset_legal : (o : ℕ) → o < count s objects → legal_offset (setting st o).offset ≡ true
   -- they are in the granted range
-  pub gain-in-range : (o : ℕ) → o < count s objects → grants s p o Gains ≡ true
-      → gainInRange (gainOf (grantedMinimum s p o Gains)) (setting st o).gain (gainOf (grantedMaximum s p o Gains)) ≡ true
-  pub offset-in-range : (o : ℕ) → o < count s objects → grants s p o Offsets ≡ true
-      → offsetInRange (signedOf (grantedMinimum s p o Offsets)) (setting st o).offset (signedOf (grantedMaximum s p o Offsets)) ≡ true
+  pub gain_in_range_lem : (o : ℕ) → o < count s objects → grants s p o Gains ≡ true
+      → gain_in_range (gain_of (granted_minimum s p o Gains)) (setting st o).gain (gain_of (granted_maximum s p o Gains)) ≡ true
+  pub offset_in_range_lem : (o : ℕ) → o < count s objects → grants s p o Offsets ≡ true
+      → offset_in_range (signed_of (granted_minimum s p o Offsets)) (setting st o).offset (signed_of (granted_maximum s p o Offsets)) ≡ true
   -- and at their start value where none is granted ("its start value is what choosing that programme gives it")
-  pub gain-at-start : (o : ℕ) → o < count s objects → grants s p o Gains ≡ false → (setting st o).gain ≡ (startSetting s p o).gain
-  pub offset-at-start : (o : ℕ) → o < count s objects → grants s p o Offsets ≡ false → (setting st o).offset ≡ (startSetting s p o).offset
+  pub gain_at_start : (o : ℕ) → o < count s objects → grants s p o Gains ≡ false → (setting st o).gain ≡ (start_setting s p o).gain
+  pub offset_at_start : (o : ℕ) → o < count s objects → grants s p o Offsets ≡ false → (setting st o).offset ≡ (start_setting s p o).offset
   -- "From an accepted opening on the same sheet 25 and 26 never come.": on the same sheet under the same list
-  pub never-25 : (c : Call) → (reply s langs st c).answer ≡ Refused NotAccepted → ⊥
-  pub never-26 : (c : Call) → (reply s langs st c).answer ≡ Refused Unsound → ⊥
-  pub listing-never-25 : (words : ℕ) → listingAnswer s langs st words ≡ Refused NotAccepted → ⊥
-  pub listing-never-26 : (words : ℕ) → listingAnswer s langs st words ≡ Refused Unsound → ⊥
+  pub never_25 : (c : Call) → (reply s langs st c).answer ≡ Refused NotAccepted → ⊥
+  pub never_26 : (c : Call) → (reply s langs st c).answer ≡ Refused Unsound → ⊥
+  pub listing_never_25 : (words : ℕ) → listing_answer s langs st words ≡ Refused NotAccepted → ⊥
+  pub listing_never_26 : (words : ℕ) → listing_answer s langs st words ≡ Refused Unsound → ⊥
 
 -- the promises after a list of calls, at the programme of the last programme choice not refused, 0 if there is none
 pub record Listening (s : Sheet) (langs : List ℕ) (calls : List Call) : Type 0 where
-  pub opening-done : (opened s langs).answer ≡ Done
-  pub programme : (after s langs calls).programme ≡ lastChosen s langs calls
-  pub promises : Promises s langs (lastChosen s langs calls) (after s langs calls)
+  pub opening_done : (opened s langs).answer ≡ Done
+  pub programme : (after s langs calls).programme ≡ last_chosen s langs calls
+  pub promises : Promises s langs (last_chosen s langs calls) (after s langs calls)

@@ -1,25 +1,25 @@
 -- The machine with every definition open, so that the scripts of specs/Scripts.antt compute. Assumes nothing.
 use Rattle.std.specs.Prelude.{ℕ, List, [], ◌∷◌, length}
-use Rattle.sheet.specs.Words.{Sheet, sheetOf, words}
-use Rattle.profile.specs.Counting.{every, concatBelow, tabulate}
-use Rattle.profile.specs.Relations.{setFor}
+use Rattle.sheet.specs.Words.{Sheet, sheet_of, words}
+use Rattle.profile.specs.Counting.{every, concat_below, tabulate}
+use Rattle.profile.specs.Relations.{set_for}
 use Rattle.profile.specs.Judged.{judged}
 use Rattle.listener.specs.declared.State.{State}
 use Rattle.listener.specs.declared.Answer.{Answer}
 use Rattle.listener.specs.declared.Answer.TheVariants.{Done, Refused}
-use Rattle.granted.specs.Fitting.{sameGain, sameOffset, gainFits, offsetFits, soundGain, soundOffset}
-use Rattle.listener.specs.State.{restingState, setting, active, isResting, refusalNumber}
-use Rattle.granted.specs.Granted.{startValue, grantedMinimum, grantedMaximum, grants, inWholeGroup, startsActive}
-use Rattle.listener.specs.Programme.{startSetting, started}
-use Rattle.listener.specs.Sound.{activeMembers, soundActivity, soundAt, sound}
-use Rattle.listener.specs.Calls.{opens, answerBy, replyBy, notOpen, notSound, notIncluded, opened, noProgramme, programmeAnswer, chosenProgramme, notInGroup, objectAnswer, movedSetting, moved, chosenObject, noRange, outsideRange, valueAnswer, withSetting, withGain, withOffset, gainSet, offsetSet}
-use Rattle.listener.specs.Listing.{ownEntries, objectEntries, entries, listedTracks, tooFewWords, listingAnswer, listed, bufferedBy, buffered}
+use Rattle.granted.specs.Fitting.{same_gain, same_offset, gain_fits, offset_fits, sound_gain, sound_offset}
+use Rattle.listener.specs.State.{resting_state, setting, active, is_resting, refusal_number}
+use Rattle.granted.specs.Granted.{start_value, granted_minimum, granted_maximum, grants, in_whole_group, starts_active}
+use Rattle.listener.specs.Programme.{start_setting, started}
+use Rattle.listener.specs.Sound.{active_members, sound_activity, sound_at, sound}
+use Rattle.listener.specs.Calls.{opens, answer_by, reply_by, not_open, not_sound, not_included, opened, no_programme, programme_answer, chosen_programme, not_in_group, object_answer, moved_setting, moved, chosen_object, no_range, outside_range, value_answer, with_setting, with_gain, with_offset, gain_set, offset_set}
+use Rattle.listener.specs.Listing.{own_entries, object_entries, entries, listed_tracks, too_few_words, listing_answer, listed, buffered_by, buffered}
 use Rattle.guarantee.specs.Run.{Call, reply, run}
 
 -- 0 for a call that is done, else the refusal's number
-unfoldable pub answerNumber : Answer → ℕ
-answerNumber Done = 0
-answerNumber (Refused r) = refusalNumber r
+unfoldable pub answer_number : Answer → ℕ
+answer_number Done = 0
+answer_number (Refused r) = refusal_number r
 
 -- where a list of calls begins: at a fresh opening, or at a state that somebody handed in
 pub data Beginning : Type 0 where
@@ -37,30 +37,30 @@ pub record Outcome : Type 0 where
 -- the answers of a list of calls, each of which takes the state that the last handed back
 unfoldable pub answered : Sheet → List ℕ → State → List Call → List ℕ
 answered s langs st [] = []
-answered s langs st (c ∷ cs) = answerNumber (reply s langs st c).answer ∷ answered s langs (reply s langs st c).state cs
+answered s langs st (c ∷ cs) = answer_number (reply s langs st c).answer ∷ answered s langs (reply s langs st c).state cs
 
 -- the calls from a state, and then a listing into the buffer
-unfoldable pub playedFrom : Sheet → List ℕ → State → List Call → List ℕ → List ℕ → Outcome
-playedFrom s langs st calls buffer before =
+unfoldable pub played_from : Sheet → List ℕ → State → List Call → List ℕ → List ℕ → Outcome
+played_from s langs st calls buffer before =
     let end = run s langs st calls in
     record {
       answers = before;
       state = end;
-      listing = answerNumber (listed s langs end (length buffer)).answer;
+      listing = answer_number (listed s langs end (length buffer)).answer;
       entries = (listed s langs end (length buffer)).entries;
       buffer = buffered s langs end buffer;
     }
 
-unfoldable pub playedOn : Sheet → List ℕ → Beginning → List Call → List ℕ → Outcome
-playedOn s langs fresh calls buffer =
-    playedFrom s langs (opened s langs).state calls buffer (answerNumber (opened s langs).answer ∷ answered s langs (opened s langs).state calls)
-playedOn s langs (handed st) calls buffer = playedFrom s langs st calls buffer (answered s langs st calls)
+unfoldable pub played_on : Sheet → List ℕ → Beginning → List Call → List ℕ → Outcome
+played_on s langs fresh calls buffer =
+    played_from s langs (opened s langs).state calls buffer (answer_number (opened s langs).answer ∷ answered s langs (opened s langs).state calls)
+played_on s langs (handed st) calls buffer = played_from s langs st calls buffer (answered s langs st calls)
 
 -- on lent bytes, a sheet and a list of languages: what opens it opens all that it rests on
 unfoldable pub played : List ℕ → List ℕ → Beginning → List Call → List ℕ → Outcome
-unfolding judged every concatBelow tabulate setFor restingState setting active sameGain sameOffset isResting startValue grantedMinimum
-    grantedMaximum grants inWholeGroup startsActive startSetting started gainFits offsetFits soundGain soundOffset activeMembers soundActivity
-    soundAt sound opens answerBy replyBy notOpen notSound notIncluded opened noProgramme programmeAnswer chosenProgramme notInGroup objectAnswer
-    movedSetting moved chosenObject noRange outsideRange valueAnswer withSetting withGain withOffset gainSet offsetSet ownEntries objectEntries
-    entries listedTracks tooFewWords listingAnswer listed bufferedBy buffered answerNumber reply run answered playedFrom playedOn
-played bytes langs beginning calls buffer = playedOn (sheetOf bytes) (words langs) beginning calls buffer
+unfolding judged every concat_below tabulate set_for resting_state setting active same_gain same_offset is_resting start_value granted_minimum
+    granted_maximum grants in_whole_group starts_active start_setting started gain_fits offset_fits sound_gain sound_offset active_members sound_activity
+    sound_at sound opens answer_by reply_by not_open not_sound not_included opened no_programme programme_answer chosen_programme not_in_group object_answer
+    moved_setting moved chosen_object no_range outside_range value_answer with_setting with_gain with_offset gain_set offset_set own_entries object_entries
+    entries listed_tracks too_few_words listing_answer listed buffered_by buffered answer_number reply run answered played_from played_on
+played bytes langs beginning calls buffer = played_on (sheet_of bytes) (words langs) beginning calls buffer

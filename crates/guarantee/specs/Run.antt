@@ -8,7 +8,7 @@ use Rattle.listener.specs.declared.State.{State}
 use Rattle.listener.specs.declared.Answer.{Answer}
 use Rattle.listener.specs.declared.Answer.TheVariants.{Done, Refused}
 use Rattle.listener.specs.declared.Reply.{Reply}
-use Rattle.listener.specs.Calls.{opened, programmeAnswer, chosenProgramme, chosenObject, gainSet, offsetSet}
+use Rattle.listener.specs.Calls.{opened, programme_answer, chosen_programme, chosen_object, gain_set, offset_set}
 
 -- the four calls, with any numbers
 pub data Call : Type 0 where
@@ -19,10 +19,10 @@ pub data Call : Type 0 where
 
 -- what a call hands back
 unfoldable pub reply : Sheet → List ℕ → State → Call → Reply
-reply s langs st (programme p) = chosenProgramme s langs st p
-reply s langs st (object o) = chosenObject s langs st o
-reply s langs st (gain o g) = gainSet s langs st o g
-reply s langs st (offset o z) = offsetSet s langs st o z
+reply s langs st (programme p) = chosen_programme s langs st p
+reply s langs st (object o) = chosen_object s langs st o
+reply s langs st (gain o g) = gain_set s langs st o g
+reply s langs st (offset o z) = offset_set s langs st o z
 
 -- the state after a list of calls
 unfoldable pub run : Sheet → List ℕ → State → List Call → State
@@ -34,18 +34,18 @@ unfoldable pub after : Sheet → List ℕ → List Call → State
 after s langs cs = run s langs (opened s langs).state cs
 
 -- a programme choice that was not refused chooses
-abbrev pub chosenBy : Answer → ℕ → ℕ → ℕ
-chosenBy Done p before = p
-chosenBy (Refused r) p before = before
+abbrev pub chosen_by : Answer → ℕ → ℕ → ℕ
+chosen_by Done p before = p
+chosen_by (Refused r) p before = before
 
 -- "that of the last programme choice not refused", else the one before the list
 unfoldable pub chosen : Sheet → List ℕ → State → ℕ → List Call → ℕ
 chosen s langs st before [] = before
-chosen s langs st before (programme p ∷ cs) = chosen s langs (reply s langs st (programme p)).state (chosenBy (programmeAnswer s langs st p) p before) cs
+chosen s langs st before (programme p ∷ cs) = chosen s langs (reply s langs st (programme p)).state (chosen_by (programme_answer s langs st p) p before) cs
 chosen s langs st before (object o ∷ cs) = chosen s langs (reply s langs st (object o)).state before cs
 chosen s langs st before (gain o g ∷ cs) = chosen s langs (reply s langs st (gain o g)).state before cs
 chosen s langs st before (offset o z ∷ cs) = chosen s langs (reply s langs st (offset o z)).state before cs
 
 -- "The programme is that of the last programme choice not refused, 0 if there is none."
-unfoldable pub lastChosen : Sheet → List ℕ → List Call → ℕ
-lastChosen s langs cs = chosen s langs (opened s langs).state 0 cs
+unfoldable pub last_chosen : Sheet → List ℕ → List Call → ℕ
+last_chosen s langs cs = chosen s langs (opened s langs).state 0 cs

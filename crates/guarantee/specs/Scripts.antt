@@ -1,19 +1,19 @@
 -- Scripts: lists of calls and a listing behind them, with every answer, the whole state and the buffer's words that they come to. What is
 -- expected was worked out by hand from document 01, "The listener", and not taken from the computation. Assumes nothing.
 use Rattle.std.specs.Prelude.{ℕ, ◌+◌, ◌-◌, ◌≡◌, refl, true, false, List, [], ◌∷◌, ◌++◌, map, ℤ, pos, negsuc, length, set, replicate}
-use Rattle.sheet.specs.Words.{words, sheetOf}
+use Rattle.sheet.specs.Words.{words, sheet_of}
 use Rattle.values.specs.declared.Gain.{Gain}
 use Rattle.values.specs.declared.Gain.TheVariants.{Silent, Tenths}
-use Rattle.profile.specs.Build.{build, put, bytesOf, eng, rowEntries, rowWords, sectionWords, sectionEntries, pairs, programme as programmeRow, content, plain, object as objectRow, slider, leaf, below, speakers, frontPack, sidePack, channelTracks, gainRow}
-use Rattle.profile.specs.Cases.{listedEng}
+use Rattle.profile.specs.Build.{build, put, bytes_of, eng, row_entries, row_words, section_words, section_entries, pairs, programme as programme_row, content, plain, object as object_row, slider, leaf, below, speakers, front_pack, side_pack, channel_tracks, gain_row}
+use Rattle.profile.specs.Cases.{listed_eng}
 use Rattle.listener.specs.declared.Setting.{Setting}
 use Rattle.listener.specs.declared.State.{State}
-use Rattle.listener.specs.State.{stateObjects, resting}
+use Rattle.listener.specs.State.{state_objects, resting}
 use Rattle.guarantee.specs.Run.{Call}
 use Rattle.guarantee.specs.Run.Call.{programme, object, gain, offset}
-use Rattle.guarantee.specs.Played.{Beginning, Outcome, playedOn, played}
+use Rattle.guarantee.specs.Played.{Beginning, Outcome, played_on, played}
 use Rattle.guarantee.specs.Played.Beginning.{fresh, handed}
-use Rattle.guarantee.specs.ScriptSheets.{playWords, play, brokenPlay, levelZeroPlay, ranges, family, pair, twoBeds}
+use Rattle.guarantee.specs.ScriptSheets.{play_words, play, broken_play, level_zero_play, ranges, family, pair, two_beds}
 
 -- a number below 0
 abbrev minus : ℕ → ℤ
@@ -48,7 +48,7 @@ placed settings [] = settings
 placed settings (x ∷ xs) = placed (set settings x.object x.setting) xs
 
 unfoldable pub state : ℕ → List Of → State
-state p xs = record { programme = p; objects = placed (replicate stateObjects resting) xs }
+state p xs = record { programme = p; objects = placed (replicate state_objects resting) xs }
 
 -- a call with the number of its answer, 0 where it is done
 pub record Step : Type 0 where
@@ -72,35 +72,35 @@ pub record Script : Type 0 where
 abbrev lent : ℕ → List ℕ
 lent n = replicate n 999
 
-abbrev answersOf : List Step → List ℕ
-answersOf = map (λ (x : Step). x.answer)
+abbrev answers_of : List Step → List ℕ
+answers_of = map (λ (x : Step). x.answer)
 
 -- from a fresh opening that is done, under a list of languages; the listing has exactly enough space for the tracks
-unfoldable pub scriptUnder : List ℕ → List ℕ → List Step → State → List ℕ → Script
-scriptUnder langs bytes steps end tracks =
+unfoldable pub script_under : List ℕ → List ℕ → List Step → State → List ℕ → Script
+script_under langs bytes steps end tracks =
     record {
       bytes = bytes;
       langs = langs;
       beginning = fresh;
       steps = steps;
       buffer = lent (length tracks);
-      outcome = record { answers = 0 ∷ answersOf steps; state = end; listing = 0; entries = length tracks; buffer = tracks };
+      outcome = record { answers = 0 ∷ answers_of steps; state = end; listing = 0; entries = length tracks; buffer = tracks };
     }
 
 -- under the list with "eng", the one language of these sheets
 unfoldable pub script : List ℕ → List Step → State → List ℕ → Script
-script bytes steps end tracks = scriptUnder listedEng bytes steps end tracks
+script bytes steps end tracks = script_under listed_eng bytes steps end tracks
 
 -- from a state that is handed in, which is sound
 unfoldable pub resumed : List ℕ → State → List Step → State → List ℕ → Script
 resumed bytes begin steps end tracks =
     record {
       bytes = bytes;
-      langs = listedEng;
+      langs = listed_eng;
       beginning = handed begin;
       steps = steps;
       buffer = lent (length tracks);
-      outcome = record { answers = answersOf steps; state = end; listing = 0; entries = length tracks; buffer = tracks };
+      outcome = record { answers = answers_of steps; state = end; listing = 0; entries = length tracks; buffer = tracks };
     }
 
 -- from a state that is not sound for the sheet: these calls and the listing are refused by 26, and the state stays
@@ -108,7 +108,7 @@ unfoldable pub unsound : List ℕ → List Call → State → Script
 unsound bytes calls begin =
     record {
       bytes = bytes;
-      langs = listedEng;
+      langs = listed_eng;
       beginning = handed begin;
       steps = map (λ c. c gives 26) calls;
       buffer = lent 8;
@@ -117,8 +117,8 @@ unsound bytes calls begin =
 
 -- opening under a list of languages is refused by 25, and so are these calls and the listing: "Refused opening gives programme 0 and 84
 -- times inactive, 0, 0."
-unfoldable pub unopenedUnder : List ℕ → List ℕ → List Call → Script
-unopenedUnder langs bytes calls =
+unfoldable pub unopened_under : List ℕ → List ℕ → List Call → Script
+unopened_under langs bytes calls =
     record {
       bytes = bytes;
       langs = langs;
@@ -130,12 +130,12 @@ unopenedUnder langs bytes calls =
 
 -- under the usual list
 unfoldable pub unopened : List ℕ → List Call → Script
-unopened bytes calls = unopenedUnder listedEng bytes calls
+unopened bytes calls = unopened_under listed_eng bytes calls
 
 -- from a state that is handed in under a list by which the sheet isn't accepted: these calls and the listing are refused by 25, and the
 -- state comes back
-unfoldable pub keptUnder : List ℕ → List ℕ → List Call → State → Script
-keptUnder langs bytes calls begin =
+unfoldable pub kept_under : List ℕ → List ℕ → List Call → State → Script
+kept_under langs bytes calls begin =
     record {
       bytes = bytes;
       langs = langs;
@@ -162,45 +162,45 @@ door = 5 is on (up 0) (minus 150)
 abbrev german : Of
 german = 2 is on (up 0) (pos 0)
 
-abbrev germanRain : Of
-germanRain = 4 is on (down 120) (pos 100)
+abbrev german_rain : Of
+german_rain = 4 is on (down 120) (pos 100)
 
 -- the play's programmes as they start, and the tracks that they list
-unfoldable pub playStart : State
-playStart = state 0 (bed ∷ english ∷ rain ∷ door ∷ [])
+unfoldable pub play_start : State
+play_start = state 0 (bed ∷ english ∷ rain ∷ door ∷ [])
 
-abbrev playTracks : List ℕ
-playTracks = 0 ∷ 1 ∷ 2 ∷ 5 ∷ 6 ∷ []
+abbrev play_tracks : List ℕ
+play_tracks = 0 ∷ 1 ∷ 2 ∷ 5 ∷ 6 ∷ []
 
-unfoldable pub germanStart : State
-germanStart = state 1 (bed ∷ german ∷ germanRain ∷ [])
+unfoldable pub german_start : State
+german_start = state 1 (bed ∷ german ∷ german_rain ∷ [])
 
-abbrev germanTracks : List ℕ
-germanTracks = 0 ∷ 1 ∷ 3 ∷ 5 ∷ []
+abbrev german_tracks : List ℕ
+german_tracks = 0 ∷ 1 ∷ 3 ∷ 5 ∷ []
 
 -- a listing of the play as it opens, into words of which these are the ones afterwards
 unfoldable pub listing : List ℕ → ℕ → ℕ → List ℕ → Script
 listing before answer entries words =
     record {
       bytes = play;
-      langs = listedEng;
+      langs = listed_eng;
       beginning = fresh;
       steps = [];
       buffer = before;
-      outcome = record { answers = 0 ∷ []; state = playStart; listing = answer; entries = entries; buffer = words };
+      outcome = record { answers = 0 ∷ []; state = play_start; listing = answer; entries = entries; buffer = words };
     }
 
 -- a call of each of the four, refused for many reasons at once: the first in checking order is given
-abbrev anyCalls : List Call
-anyCalls = programme 9 ∷ object stateObjects ∷ gain stateObjects (up 500) ∷ offset 65535 (pos 32767) ∷ []
+abbrev any_calls : List Call
+any_calls = programme 9 ∷ object state_objects ∷ gain state_objects (up 500) ∷ offset 65535 (pos 32767) ∷ []
 
 -- refusals 27 to 31 in the play's programme 0; 28 before 29 and 30, 30 before 31; no offset range where there is a gain range
-abbrev refusedSteps : List Step
-refusedSteps =
+abbrev refused_steps : List Step
+refused_steps =
     programme 2 gives 27
     ∷ programme 65535 gives 27
     ∷ object 6 gives 28
-    ∷ object stateObjects gives 28
+    ∷ object state_objects gives 28
     ∷ object 65535 gives 28
     ∷ object 0 gives 29
     ∷ object 4 gives 29
@@ -217,8 +217,8 @@ refusedSteps =
     ∷ []
 
 -- the ends of the ranges are in them
-abbrev boundarySteps : List Step
-boundarySteps =
+abbrev boundary_steps : List Step
+boundary_steps =
     gain 1 (up 90) gives 0
     ∷ gain 1 (down 60) gives 0
     ∷ gain 4 (down 300) gives 0
@@ -230,8 +230,8 @@ boundarySteps =
     ∷ []
 
 -- silence as a gain: it is in the door's range and not in the rain's; a number below -600 is no gain, -32768 neither
-abbrev silenceSteps : List Step
-silenceSteps =
+abbrev silence_steps : List Step
+silence_steps =
     gain 5 (down 600) gives 0
     ∷ gain 5 (down 601) gives 31
     ∷ gain 5 (down 32768) gives 31
@@ -242,8 +242,8 @@ silenceSteps =
 
 -- programme 1 names a set with ranges of its own for the rain: 0.1 dB and -0.1 degrees are in the object's, not in the set's. Of the group
 -- narrator 2 alone is included: it cannot be chosen, and the others are not included
-abbrev germanSteps : List Step
-germanSteps =
+abbrev german_steps : List Step
+german_steps =
     programme 1 gives 0
     ∷ gain 4 (up 1) gives 31
     ∷ gain 4 (up 0) gives 0
@@ -259,54 +259,54 @@ germanSteps =
     ∷ []
 
 unfoldable pub scripts : List Script
-unfolding script scriptUnder resumed unsound unopened unopenedUnder keptUnder listing listedEng playStart germanStart state placed playWords play brokenPlay levelZeroPlay ranges family pair twoBeds build put bytesOf rowEntries rowWords sectionWords sectionEntries pairs programmeRow content plain objectRow slider leaf below speakers frontPack sidePack channelTracks gainRow played
+unfolding script script_under resumed unsound unopened unopened_under kept_under listing listed_eng play_start german_start state placed play_words play broken_play level_zero_play ranges family pair two_beds build put bytes_of row_entries row_words section_words section_entries pairs programme_row content plain object_row slider leaf below speakers front_pack side_pack channel_tracks gain_row played
 scripts =
     -- The play: the empty list of calls
-    script play [] playStart playTracks
+    script play [] play_start play_tracks
     -- a refused call changes nothing
-    ∷ script play refusedSteps playStart playTracks
-    ∷ script play boundarySteps (state 0 (bed ∷ 1 is on (down 60) (pos 0) ∷ 4 is on (up 60) (minus 300) ∷ 5 is on (up 0) (minus 300) ∷ [])) playTracks
+    ∷ script play refused_steps play_start play_tracks
+    ∷ script play boundary_steps (state 0 (bed ∷ 1 is on (down 60) (pos 0) ∷ 4 is on (up 60) (minus 300) ∷ 5 is on (up 0) (minus 300) ∷ [])) play_tracks
     -- the door sounds "whatever the gain, silence too"
-    ∷ script play silenceSteps (state 0 (bed ∷ english ∷ rain ∷ 5 is on Silent (minus 150) ∷ [])) playTracks
+    ∷ script play silence_steps (state 0 (bed ∷ english ∷ rain ∷ 5 is on Silent (minus 150) ∷ [])) play_tracks
     -- the programme chosen anew: values and activity back to their start
-    ∷ script play (gain 4 (up 0) gives 0 ∷ offset 4 (pos 0) gives 0 ∷ gain 1 (up 90) gives 0 ∷ object 3 gives 0 ∷ programme 0 gives 0 ∷ []) playStart playTracks
+    ∷ script play (gain 4 (up 0) gives 0 ∷ offset 4 (pos 0) gives 0 ∷ gain 1 (up 90) gives 0 ∷ object 3 gives 0 ∷ programme 0 gives 0 ∷ []) play_start play_tracks
     -- no slider is carried over into another programme, the values of an object that both include neither
-    ∷ script play (gain 4 (down 50) gives 0 ∷ offset 4 (pos 50) gives 0 ∷ gain 2 (up 90) gives 0 ∷ programme 1 gives 0 ∷ []) germanStart germanTracks
+    ∷ script play (gain 4 (down 50) gives 0 ∷ offset 4 (pos 50) gives 0 ∷ gain 2 (up 90) gives 0 ∷ programme 1 gives 0 ∷ []) german_start german_tracks
     -- and none is kept for a return
-    ∷ script play (gain 4 (down 50) gives 0 ∷ programme 1 gives 0 ∷ gain 4 (down 200) gives 0 ∷ programme 0 gives 0 ∷ []) playStart playTracks
+    ∷ script play (gain 4 (down 50) gives 0 ∷ programme 1 gives 0 ∷ gain 4 (down 200) gives 0 ∷ programme 0 gives 0 ∷ []) play_start play_tracks
     -- an object choice: the leader falls inactive, gains stay where they are; a gain is stored, "active or not"
     ∷ script play
     (gain 1 (up 90) gives 0 ∷ object 3 gives 0 ∷ gain 2 (down 60) gives 0 ∷ [])
     (state 0 (bed ∷ 1 is off (up 90) (pos 0) ∷ 2 is off (down 60) (pos 0) ∷ 3 is on (up 0) (pos 0) ∷ rain ∷ door ∷ []))
     (0 ∷ 1 ∷ 4 ∷ 5 ∷ 6 ∷ [])
     -- one choice after another, the active one chosen again, and back to the leader
-    ∷ script play (object 2 gives 0 ∷ object 3 gives 0 ∷ object 3 gives 0 ∷ object 1 gives 0 ∷ []) playStart playTracks
+    ∷ script play (object 2 gives 0 ∷ object 3 gives 0 ∷ object 3 gives 0 ∷ object 1 gives 0 ∷ []) play_start play_tracks
     -- the range of the set that the programme names
-    ∷ script play germanSteps (state 1 (bed ∷ 2 is on (up 90) (pos 0) ∷ 4 is on (up 0) (pos 200) ∷ [])) germanTracks
+    ∷ script play german_steps (state 1 (bed ∷ 2 is on (up 90) (pos 0) ∷ 4 is on (up 0) (pos 200) ∷ [])) german_tracks
     -- the listing's space: one word too few, none, and two to spare, which stay
     ∷ listing (lent 4) 32 0 (lent 4)
     ∷ listing [] 32 0 []
     ∷ listing (lent 7) 0 5 (0 ∷ 1 ∷ 2 ∷ 5 ∷ 6 ∷ 999 ∷ 999 ∷ [])
     -- 25: a sheet that breaks rule 14, and one that is accepted at level 0
-    ∷ unopened brokenPlay anyCalls
-    ∷ unopened levelZeroPlay anyCalls
+    ∷ unopened broken_play any_calls
+    ∷ unopened level_zero_play any_calls
     -- 25 by the list of languages. The play's is not in it: an empty list, a byte alone, which is none, and another word
-    ∷ unopenedUnder [] play anyCalls
-    ∷ unopenedUnder (21 ∷ []) play anyCalls
-    ∷ unopenedUnder (bytesOf ((eng + 1) ∷ [])) play anyCalls
+    ∷ unopened_under [] play any_calls
+    ∷ unopened_under (21 ∷ []) play any_calls
+    ∷ unopened_under (bytes_of ((eng + 1) ∷ [])) play any_calls
     -- a list that has it and doesn't rise: twice the same word, and a lower one behind it
-    ∷ unopenedUnder (bytesOf (eng ∷ eng ∷ [])) play anyCalls
-    ∷ unopenedUnder (bytesOf (1 ∷ eng ∷ 2 ∷ [])) play anyCalls
+    ∷ unopened_under (bytes_of (eng ∷ eng ∷ [])) play any_calls
+    ∷ unopened_under (bytes_of (1 ∷ eng ∷ 2 ∷ [])) play any_calls
     -- more languages than the sheet has, and an odd last byte
-    ∷ scriptUnder (bytesOf (1 ∷ eng ∷ (eng + 1) ∷ []) ++ 0 ∷ []) play (object 3 gives 0 ∷ object 1 gives 0 ∷ []) playStart playTracks
+    ∷ script_under (bytes_of (1 ∷ eng ∷ (eng + 1) ∷ []) ++ 0 ∷ []) play (object 3 gives 0 ∷ object 1 gives 0 ∷ []) play_start play_tracks
     -- a state that an opening under the usual list gave comes back under another list, and goes on under the usual one
-    ∷ keptUnder (bytesOf ((eng + 1) ∷ [])) play anyCalls playStart
-    ∷ keptUnder (bytesOf ((eng + 1) ∷ [])) play (programme 1 ∷ object 3 ∷ gain 1 (up 90) ∷ offset 5 (pos 0) ∷ []) playStart
-    ∷ resumed play playStart (programme 1 gives 0 ∷ []) germanStart germanTracks
+    ∷ kept_under (bytes_of ((eng + 1) ∷ [])) play any_calls play_start
+    ∷ kept_under (bytes_of ((eng + 1) ∷ [])) play (programme 1 ∷ object 3 ∷ gain 1 (up 90) ∷ offset 5 (pos 0) ∷ []) play_start
+    ∷ resumed play play_start (programme 1 gives 0 ∷ []) german_start german_tracks
     -- 25 before 26 there too
-    ∷ keptUnder [] play anyCalls (state 0 [])
+    ∷ kept_under [] play any_calls (state 0 [])
     -- 26, before all but 25. The resting state: the bed is inactive
-    ∷ unsound play anyCalls (state 0 [])
+    ∷ unsound play any_calls (state 0 [])
     -- no such programme
     ∷ unsound play (programme 0 ∷ []) (state 2 [])
     -- two of a group active, and none
@@ -318,8 +318,8 @@ scripts =
     ∷ unsound play (programme 0 ∷ []) (state 0 (bed ∷ english ∷ rain ∷ 5 is on (down 32768) (minus 150) ∷ []))
     ∷ unsound play (programme 0 ∷ []) (state 0 (bed ∷ 1 is on (up 0) (pos 1) ∷ rain ∷ door ∷ []))
     -- an object that is not included, and one past the sheet's, that is not "inactive, 0, 0"
-    ∷ unsound play (programme 0 ∷ []) (state 1 (bed ∷ 1 is off (up 5) (pos 0) ∷ german ∷ germanRain ∷ []))
-    ∷ unsound play (programme 0 ∷ []) (state 1 (bed ∷ german ∷ germanRain ∷ 83 is off (up 0) (pos 1) ∷ []))
+    ∷ unsound play (programme 0 ∷ []) (state 1 (bed ∷ 1 is off (up 5) (pos 0) ∷ german ∷ german_rain ∷ []))
+    ∷ unsound play (programme 0 ∷ []) (state 1 (bed ∷ german ∷ german_rain ∷ 83 is off (up 0) (pos 1) ∷ []))
     -- a sound state of another session goes on
     ∷ resumed play (state 0 (bed ∷ 2 is on (up 7) (pos 0) ∷ 3 is off (down 8) (pos 0) ∷ rain ∷ 5 is on Silent (minus 150) ∷ []))
     (object 3 gives 0 ∷ [])
@@ -357,10 +357,10 @@ scripts =
     (0 ∷ 0 ∷ [])
     ∷ script pair (object 0 gives 0 ∷ programme 1 gives 0 ∷ object 0 gives 28 ∷ []) (state 1 (2 is on (up 0) (pos 0) ∷ [])) (0 ∷ [])
     -- Level 2: 28 entries
-    ∷ script twoBeds [] (state 0 (0 is on (up 0) (pos 0) ∷ 1 is on (up 0) (pos 0) ∷ [])) (below 28)
+    ∷ script two_beds [] (state 0 (0 is on (up 0) (pos 0) ∷ 1 is on (up 0) (pos 0) ∷ [])) (below 28)
     ∷ []
 
 -- each script comes to its outcome
-pub scripts-hold : map (λ (x : Script). playedOn (sheetOf x.bytes) (words x.langs) x.beginning (map (λ (y : Step). y.call) x.steps) x.buffer) scripts ≡ map (λ (x : Script). x.outcome) scripts
+pub scripts_hold : map (λ (x : Script). played_on (sheet_of x.bytes) (words x.langs) x.beginning (map (λ (y : Step). y.call) x.steps) x.buffer) scripts ≡ map (λ (x : Script). x.outcome) scripts
 unfolding scripts played
-scripts-hold = refl
+scripts_hold = refl

@@ -6,18 +6,18 @@ use Rattle.values.specs.declared.Gain.TheVariants.{Silent, Tenths}
 use Rattle.factors.specs.declared.Conversion.{Conversion}
 use Rattle.factors.specs.declared.Conversion.TheVariants.{Gives, FactorTooHigh}
 use Rattle.factors.specs.Table.{entries}
-use Rattle.factors.specs.Decibels.{tenthAt}
-use Rattle.factors.specs.Conversion.{factorTooHigh, leastTenth, factorGain, conversion}
+use Rattle.factors.specs.Decibels.{tenth_at}
+use Rattle.factors.specs.Conversion.{factor_too_high, least_tenth, factor_gain, conversion}
 
 -- -32768 for silence, the tenths, 34,000,000 for refusal 34
-unfoldable pub conversionCode : Conversion → ℤ
-conversionCode (Gives Silent) = negsuc 32767
-conversionCode (Gives (Tenths z)) = z
-conversionCode FactorTooHigh = pos (1000000 * factorTooHigh)
+unfoldable pub conversion_code : Conversion → ℤ
+conversion_code (Gives Silent) = negsuc 32767
+conversion_code (Gives (Tenths z)) = z
+conversion_code FactorTooHigh = pos (1000000 * factor_too_high)
 
 -- some factors, computed
-pub conversion-codes :
-    map (λ (f : ℕ). conversionCode (conversion f)) (0 ∷ 1 ∷ 1000000 ∷ 1000001 ∷ 11220184 ∷ 11220185 ∷ [])
+pub conversion_codes :
+    map (λ (f : ℕ). conversion_code (conversion f)) (0 ∷ 1 ∷ 1000000 ∷ 1000001 ∷ 11220184 ∷ 11220185 ∷ [])
     ≡ negsuc 32767 ∷ negsuc 599 ∷ pos 0 ∷ pos 1 ∷ pos 210 ∷ pos 34000000 ∷ []
-unfolding entries tenthAt leastTenth factorGain conversion conversionCode
-conversion-codes = refl
+unfolding entries tenth_at least_tenth factor_gain conversion conversion_code
+conversion_codes = refl

@@ -1,7 +1,7 @@
 // Host players "call check .. directly on byte slices and numbers".
 ghost use Rattle.std.specs.Prelude.{◌≡◌};
 ghost use Rattle.checker.specs.Checked.{checked};
-ghost use Rattle.profile.specs.Verdict.{verdictCode};
+ghost use Rattle.profile.specs.Verdict.{verdict_code};
 
 use checker::search::check;
 use profile::places::verdict_code;
@@ -10,7 +10,7 @@ use profile::places::verdict_code;
 // record: any lengths, any bytes.
 #[unsafe(no_mangle)]
 pub extern "C" fn sheet_check(sheet: &[u8], langs: &[u8]) -> u32
-    ensures { result ≡ verdictCode (checked sheet.now langs.now) }
+    ensures { result ≡ verdict_code (checked sheet.now langs.now) }
 {
     verdict_code(check(sheet, langs))
 }

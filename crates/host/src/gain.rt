@@ -1,7 +1,7 @@
 // Host players turn linear gain into tenths of a dB.
 ghost use Rattle.std.specs.Prelude.{◌≡◌};
 ghost use Rattle.factors.specs.Conversion.{conversion};
-ghost use Rattle.host.specs.HostGain.{conversionCode};
+ghost use Rattle.host.specs.HostGain.{conversion_code};
 
 use factors::convert::gain_of_factor as converted;
 use factors::{Conversion, FACTOR_TOO_HIGH};
@@ -15,7 +15,7 @@ const SILENCE: i32 = -32768;
 
 // The number of an answer.
 fn conversion_code(conversion: Conversion) -> i32
-    ensures { result ≡ conversionCode conversion }
+    ensures { result ≡ conversion_code conversion }
 {
     match conversion {
         Conversion::Gives(gain) => match gain {
@@ -29,7 +29,7 @@ fn conversion_code(conversion: Conversion) -> i32
 // The gain of a factor in millionths: the tenths, -32768 for silence, 34,000,000 for refusal 34. Any number.
 #[unsafe(no_mangle)]
 pub extern "C" fn gain_of_factor(millionths: u32) -> i32
-    ensures { result ≡ conversionCode (conversion millionths) }
+    ensures { result ≡ conversion_code (conversion millionths) }
 {
     conversion_code(converted(millionths))
 }

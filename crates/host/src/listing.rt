@@ -1,9 +1,9 @@
 // Host players call "the listing of a programme's start, directly on byte slices and numbers".
 ghost use Rattle.std.specs.Prelude.{◌%◌, ◌*◌, ◌/◌, ◌≤◌, length, ◌≡◌};
 ghost use Rattle.std.proofs.lemmas.List.Edits.{sets};
-ghost use Rattle.host.specs.HostListing.{bytesOf, hostBuffered, hostListed, negated};
-ghost use Rattle.listener.specs.State.{refusalNumber};
-ghost use Rattle.sheet.specs.Words.{sheetOf, words};
+ghost use Rattle.host.specs.HostListing.{bytes_of, host_buffered, host_listed, negated};
+ghost use Rattle.listener.specs.State.{refusal_number};
+ghost use Rattle.sheet.specs.Words.{sheet_of, words};
 
 use listener::refusals::refusal_number;
 use listener::writing::list_start;
@@ -11,7 +11,7 @@ use listener::{Answer, MOST_ENTRIES, Refusal};
 
 // "the refusal's number negated"; `!n` is -(n + 1).
 fn refusal_code(refusal: Refusal) -> i32
-    ensures { result ≡ negated (refusalNumber refusal) }
+    ensures { result ≡ negated (refusal_number refusal) }
 {
     !((refusal_number(refusal) - 1) as i32)
 }
@@ -33,7 +33,7 @@ fn low(w: u16) -> u8
 // Writes each word "as two bytes, high first", from the buffer's start.
 fn write_words(words: &[u16], buffer: &mut [u8])
     requires { 2 * length words.now ≤ length buffer.old }
-    ensures { buffer.new ≡ sets buffer.old 0 (bytesOf words.now) }
+    ensures { buffer.new ≡ sets buffer.old 0 (bytes_of words.now) }
 {
     let mut at: usize = 0;
     let mut i: usize = 0;
@@ -54,7 +54,7 @@ pub extern "C" fn sheet_start_listing(
     programme: u32,
     buffer: &mut [u8],
 ) -> i32
-    ensures { (result ≡ hostListed (sheetOf sheet.now) (words langs.now) programme (length buffer.old)) × (buffer.new ≡ hostBuffered (sheetOf sheet.now) (words langs.now) programme buffer.old) }
+    ensures { (result ≡ host_listed (sheet_of sheet.now) (words langs.now) programme (length buffer.old)) × (buffer.new ≡ host_buffered (sheet_of sheet.now) (words langs.now) programme buffer.old) }
 {
     let mut words: [u16; MOST_ENTRIES] = [0; MOST_ENTRIES];
     let listing = list_start(sheet, langs, programme, &mut words);

@@ -6,69 +6,69 @@ use native.Mathlib.Omega.{arith}
 use native.Mathlib.Nat.{add-zero}
 use borrow.Author.Tests.{eqb-true, eqb-false, eq-eqb, ne_eqb, ltb-true, ltb-false}
 use lib.Dec.{eqb, ltb}
-use Rattle.profile.specs.Counting.{any, howMany, sum}
-use Rattle.profile.proofs.BoolLaws.{or-false}
-use Rattle.profile.proofs.CountingLaws.{any-howMany}
-use Rattle.profile.proofs.SumLaws.{sum-eq, sum-swap, sum-two, howMany-sum, howMany-eq}
+use Rattle.profile.specs.Counting.{any, how_many, sum}
+use Rattle.profile.proofs.BoolLaws.{or_false}
+use Rattle.profile.proofs.CountingLaws.{any_how_many}
+use Rattle.profile.proofs.SumLaws.{sum_eq, sum_swap, sum_two, how_many_sum, how_many_eq}
 
 -- no two of x 0 to x (n - 1) are the same
 abbrev pub Apart : (ℕ → ℕ) → ℕ → Type 0
 Apart x n = (k : ℕ) → k < n → any (λ i. eqb (x i) (x k)) k ≡ false
 
-pub eqb-turned : (a b : ℕ) → eqb a b ≡ eqb b a
-eqb-turned a b =
+pub eqb_turned : (a b : ℕ) → eqb a b ≡ eqb b a
+eqb_turned a b =
     (elim (eqb a b) as (λ t. eqb a b ≡ t → t ≡ eqb b a) [
       | true ↦ λ e. sym (eq-eqb b a (sym (eqb-true a b e)))
       | false ↦ λ e. sym (ne_eqb b a (λ q. eqb-false a b e (sym q)))
     ]) refl
 
 -- tests that agree
-pub any-eq : (p q : ℕ → Bool) (n : ℕ) → ((i : ℕ) → i < n → p i ≡ q i) → any p n ≡ any q n
-any-eq p q n h = any-howMany p n ∙ ap (λ (c : ℕ). not (eqb c 0)) (howMany-eq p q n h) ∙ sym (any-howMany q n)
+pub any_eq : (p q : ℕ → Bool) (n : ℕ) → ((i : ℕ) → i < n → p i ≡ q i) → any p n ≡ any q n
+any_eq p q n h = any_how_many p n ∙ ap (λ (c : ℕ). not (eqb c 0)) (how_many_eq p q n h) ∙ sym (any_how_many q n)
 
 -- two summands together are at most the sum
-pub sum-pair : (f : ℕ → ℕ) (n j k : ℕ) → (j ≡ k → ⊥) → j < n → k < n → f j + f k ≤ sum f n
-sum-pair f n j k other l m =
+pub sum_pair : (f : ℕ → ℕ) (n j k : ℕ) → (j ≡ k → ⊥) → j < n → k < n → f j + f k ≤ sum f n
+sum_pair f n j k other l m =
     (elim (ltb j k) as (λ b. ltb j k ≡ b → f j + f k ≤ sum f n) [
-      | true ↦ λ e. sum-two f n j k (ltb-true j k e) m
+      | true ↦ λ e. sum_two f n j k (ltb-true j k e) m
       | false ↦ λ e. (elim (ltb k j) as (λ b. ltb k j ≡ b → f j + f k ≤ sum f n) [
-        | true ↦ λ h. omega (arith, sum-two f n k j (ltb-true k j h) l)
+        | true ↦ λ h. omega (arith, sum_two f n k j (ltb-true k j h) l)
         | false ↦ λ h. let z : j ≡ k = omega (arith, ltb-false j k e, ltb-false k j h) in absurd (other z)
       ]) refl
     ]) refl
 
 -- one of them at most is o
-once : (x : ℕ → ℕ) (o n : ℕ) → Apart x n → howMany (λ i. eqb (x i) o) n ≡ cond (any (λ i. eqb (x i) o) n) 1 0
-unfolding any howMany
+once : (x : ℕ → ℕ) (o n : ℕ) → Apart x n → how_many (λ i. eqb (x i) o) n ≡ cond (any (λ i. eqb (x i) o) n) 1 0
+unfolding any how_many
 once x o zero h = refl
 once x o (suc n) h =
-    (elim (eqb (x n) o) as (λ b. eqb (x n) o ≡ b → howMany (λ i. eqb (x i) o) n + cond b 1 0 ≡ cond (any (λ i. eqb (x i) o) n || b) 1 0) [
+    (elim (eqb (x n) o) as (λ b. eqb (x n) o ≡ b → how_many (λ i. eqb (x i) o) n + cond b 1 0 ≡ cond (any (λ i. eqb (x i) o) n || b) 1 0) [
       | true ↦ λ e.
           let none : any (λ i. eqb (x i) o) n ≡ false = ap (λ (w : ℕ). any (λ i. eqb (x i) w) n) (sym (eqb-true (x n) o e)) ∙ h n (omega arith) in
-          let z : howMany (λ i. eqb (x i) o) n ≡ 0 = once x o n (λ k l. h k (omega arith)) ∙ ap (λ (b : Bool). cond b 1 0) none in
+          let z : how_many (λ i. eqb (x i) o) n ≡ 0 = once x o n (λ k l. h k (omega arith)) ∙ ap (λ (b : Bool). cond b 1 0) none in
           rw (none, z) refl
-      | false ↦ λ e. add-zero (howMany (λ i. eqb (x i) o) n) ∙ once x o n (λ k l. h k (omega arith)) ∙ ap (λ (b : Bool). cond b 1 0) (sym (or-false (any (λ i. eqb (x i) o) n)))
+      | false ↦ λ e. add-zero (how_many (λ i. eqb (x i) o) n) ∙ once x o n (λ k l. h k (omega arith)) ∙ ap (λ (b : Bool). cond b 1 0) (sym (or_false (any (λ i. eqb (x i) o) n)))
     ]) refl
 
 -- How many of the m places k have one of the n numbers, where no two numbers are the same and each is at one place or none: as many as
 -- there are numbers at a place.
 pub exchange : (place : ℕ → ℕ) (m : ℕ) (x : ℕ → ℕ) (n : ℕ) (placed : ℕ → Bool) → Apart x n
-    → ((i : ℕ) → i < n → howMany (λ k. eqb (place k) (x i)) m ≡ cond (placed i) 1 0)
-    → howMany (λ k. any (λ i. eqb (x i) (place k)) n) m ≡ howMany placed n
+    → ((i : ℕ) → i < n → how_many (λ k. eqb (place k) (x i)) m ≡ cond (placed i) 1 0)
+    → how_many (λ k. any (λ i. eqb (x i) (place k)) n) m ≡ how_many placed n
 exchange place m x n placed apart each =
-    howMany-sum (λ k. any (λ i. eqb (x i) (place k)) n) m
-    ∙ sum-eq (λ k. cond (any (λ i. eqb (x i) (place k)) n) 1 0) (λ k. sum (λ i. cond (eqb (x i) (place k)) 1 0) n) m (λ k l. sym (once x (place k) n apart) ∙ howMany-sum (λ i. eqb (x i) (place k)) n)
-    ∙ sum-swap (λ k i. cond (eqb (x i) (place k)) 1 0) m n
-    ∙ sum-eq (λ i. sum (λ k. cond (eqb (x i) (place k)) 1 0) m) (λ i. cond (placed i) 1 0) n (λ i l. sym (howMany-sum (λ k. eqb (x i) (place k)) m) ∙ howMany-eq (λ k. eqb (x i) (place k)) (λ k. eqb (place k) (x i)) m (λ k h. eqb-turned (x i) (place k)) ∙ each i l)
-    ∙ sym (howMany-sum placed n)
+    how_many_sum (λ k. any (λ i. eqb (x i) (place k)) n) m
+    ∙ sum_eq (λ k. cond (any (λ i. eqb (x i) (place k)) n) 1 0) (λ k. sum (λ i. cond (eqb (x i) (place k)) 1 0) n) m (λ k l. sym (once x (place k) n apart) ∙ how_many_sum (λ i. eqb (x i) (place k)) n)
+    ∙ sum_swap (λ k i. cond (eqb (x i) (place k)) 1 0) m n
+    ∙ sum_eq (λ i. sum (λ k. cond (eqb (x i) (place k)) 1 0) m) (λ i. cond (placed i) 1 0) n (λ i l. sym (how_many_sum (λ k. eqb (x i) (place k)) m) ∙ how_many_eq (λ k. eqb (x i) (place k)) (λ k. eqb (place k) (x i)) m (λ k h. eqb_turned (x i) (place k)) ∙ each i l)
+    ∙ sym (how_many_sum placed n)
 
 -- two of n that have the test
-pub two-counted : (p : ℕ → Bool) (n j k : ℕ) → (j ≡ k → ⊥) → j < n → k < n → p j ≡ true → p k ≡ true → 1 < howMany p n
-two-counted p n j k other l m a b =
-    let pair : cond (p j) 1 0 + cond (p k) 1 0 ≤ sum (λ i. cond (p i) 1 0) n = sum-pair (λ i. cond (p i) 1 0) n j k other l m in
+pub two_counted : (p : ℕ → Bool) (n j k : ℕ) → (j ≡ k → ⊥) → j < n → k < n → p j ≡ true → p k ≡ true → 1 < how_many p n
+two_counted p n j k other l m a b =
+    let pair : cond (p j) 1 0 + cond (p k) 1 0 ≤ sum (λ i. cond (p i) 1 0) n = sum_pair (λ i. cond (p i) 1 0) n j k other l m in
     let x : ◌≡◌ {A = ℕ} (cond (p j) 1 0) 1 = ap (λ (b : Bool). cond b 1 0) a in
     let y : ◌≡◌ {A = ℕ} (cond (p k) 1 0) 1 = ap (λ (b : Bool). cond b 1 0) b in
-    omega (arith, pair, x, y, howMany-sum p n)
+    omega (arith, pair, x, y, how_many_sum p n)
 
 pub positive : (n : ℕ) → (n ≡ 0 → ⊥) → 0 < n
 positive zero h = absurd (h refl)

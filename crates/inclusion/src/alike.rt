@@ -1,10 +1,10 @@
 // Value sets with the same words, in a table by set: one more than the set that stands for it, 0 where it stands for itself.
 ghost use Rattle.std.specs.Prelude.{◌<◌, length, false, ◌≡◌};
 ghost use Rattle.inclusion.specs.steps.Alike.{Alike, representative};
-ghost use Rattle.profile.specs.Rules.{setsDiffer};
-ghost use Rattle.sheet.specs.Fields.{valueSets};
+ghost use Rattle.profile.specs.Rules.{sets_differ};
+ghost use Rattle.sheet.specs.Fields.{value_sets};
 ghost use Rattle.sheet.specs.Layout.{offset};
-ghost use Rattle.sheet.specs.Words.{sheetOf};
+ghost use Rattle.sheet.specs.Words.{sheet_of};
 ghost use Rattle.tables.specs.steps.Marks.{Standing};
 
 use crate::marks::at;
@@ -25,7 +25,7 @@ pub fn representative(alike: &[u16], v: u16) -> u16
 // The first set with the words of v among the n sets of a span, of which 8 at most are tried; v where there is none. Section 7 begins at
 // `base`.
 fn first_alike(s: &[u8], base: u16, from: u16, n: u16, v: u16) -> u16
-    ensures { (v < 65535 → result < 65535) × (base ≡ offset (sheetOf s.now) valueSets → setsDiffer (sheetOf s.now) result v ≡ false) }
+    ensures { (v < 65535 → result < 65535) × (base ≡ offset (sheet_of s.now) value_sets → sets_differ (sheet_of s.now) result v ≡ false) }
 {
     if 65527 < from {
         return v;
@@ -46,7 +46,7 @@ fn first_alike(s: &[u8], base: u16, from: u16, n: u16, v: u16) -> u16
 
 // The same with the span of the object that stands for the owner of v, the leader of its group.
 fn leader_alike(s: &[u8], base: u16, owners: &[u16], leaders: &[u16], v: u16) -> u16
-    ensures { (v < 65535 → result < 65535) × (base ≡ offset (sheetOf s.now) valueSets → setsDiffer (sheetOf s.now) result v ≡ false) }
+    ensures { (v < 65535 → result < 65535) × (base ≡ offset (sheet_of s.now) value_sets → sets_differ (sheet_of s.now) result v ≡ false) }
 {
     let c = at(owners, v);
     if c == 0 {
@@ -65,7 +65,7 @@ fn leader_alike(s: &[u8], base: u16, owners: &[u16], leaders: &[u16], v: u16) ->
 // Writes the sets that stand for others into a table of noughts, by the owners of the sets and the leaders of the objects. It can be told
 // by the words alone that they do: where these tables are wrong, fewer sets stand for others.
 pub fn fill_alike(s: &[u8], owners: &[u16], leaders: &[u16], table: &mut [u16])
-    ensures { (length table.new ≡ length table.old) × (Standing (λ x. 0) table.old → Alike (sheetOf s.now) table.new) }
+    ensures { (length table.new ≡ length table.old) × (Standing (λ x. 0) table.old → Alike (sheet_of s.now) table.new) }
 {
     let base = offset(s, VALUE_SETS);
     let n = count(s, VALUE_SETS);

@@ -1,7 +1,7 @@
 // What a programme includes and the sets that it names, entered into a table by object (see groups).
 ghost use Rattle.std.specs.Prelude.{length, true, ◌≡◌};
-ghost use Rattle.inclusion.specs.steps.Entering.{Entered, ObjectsEntered, SetsNoted, objectFrom, Begins};
-ghost use Rattle.sheet.specs.Words.{sheetOf};
+ghost use Rattle.inclusion.specs.steps.Entering.{Entered, ObjectsEntered, SetsNoted, object_from, Begins};
+ghost use Rattle.sheet.specs.Words.{sheet_of};
 ghost use Rattle.tables.specs.steps.Right.{Owners};
 
 use crate::SectionOffsets;
@@ -13,7 +13,7 @@ use sheet::words::{word, word_count};
 
 // The object of the content that an entry of a content list names.
 pub fn object_from(s: &[u8], sections: SectionOffsets, from: u16, i: u16) -> u16
-    ensures { result ≡ objectFrom (sheetOf s.now) sections from i }
+    ensures { result ≡ object_from (sheet_of s.now) sections from i }
 {
     let c = word(
         s,
@@ -24,7 +24,7 @@ pub fn object_from(s: &[u8], sections: SectionOffsets, from: u16, i: u16) -> u16
 
 // Marks the objects that the programme includes with 1, where 0 stood.
 fn enter_objects(s: &[u8], sections: SectionOffsets, p: u16, included: &mut [u16]) -> bool
-    ensures { (length included.new ≡ length included.old) × (result ≡ true → Begins (sheetOf s.now) sections → ObjectsEntered (sheetOf s.now) p included.old included.new) }
+    ensures { (length included.new ≡ length included.old) × (result ≡ true → Begins (sheet_of s.now) sections → ObjectsEntered (sheet_of s.now) p included.old included.new) }
 {
     let from = field(s, PROGRAMMES, p, CONTENT_LIST);
     let n = number(s, PROGRAMMES, p, CONTENT_LIST);
@@ -51,7 +51,7 @@ fn enter_sets(
     p: u16,
     included: &mut [u16],
 ) -> bool
-    ensures { (length included.new ≡ length included.old) × (result ≡ true → Begins (sheetOf s.now) sections → Owners (sheetOf s.now) owners.now → SetsNoted (sheetOf s.now) alike.now p included.old included.new) }
+    ensures { (length included.new ≡ length included.old) × (result ≡ true → Begins (sheet_of s.now) sections → Owners (sheet_of s.now) owners.now → SetsNoted (sheet_of s.now) alike.now p included.old included.new) }
 {
     let base = sections.references as usize;
     let total = count(s, VALUE_SETS);
@@ -92,7 +92,7 @@ pub fn enter(
     p: u16,
     included: &mut [u16],
 ) -> bool
-    ensures { (length included.new ≡ length included.old) × (result ≡ true → Begins (sheetOf s.now) sections → Owners (sheetOf s.now) owners.now → Entered (sheetOf s.now) both alike.now p included.old included.new) }
+    ensures { (length included.new ≡ length included.old) × (result ≡ true → Begins (sheet_of s.now) sections → Owners (sheet_of s.now) owners.now → Entered (sheet_of s.now) both alike.now p included.old included.new) }
 {
     if !enter_objects(s, sections, p, included) {
         return false;

@@ -1,13 +1,13 @@
 // The groups of a sheet, by what a table has for their members: 0 for an object that the programme does not include, 1 for one that it
 // includes, and where it names a set for it, 2 more than the number of that set.
 ghost use Rattle.std.specs.Prelude.{ℕ, ◌+◌, ◌-◌, ◌<◌, ◌≤◌, get_or, length, false, true, ◌⊎◌, ◌≡◌};
-ghost use Rattle.inclusion.specs.steps.Groups.{GroupKept, ListKept, PairKept, manyListed};
+ghost use Rattle.inclusion.specs.steps.Groups.{GroupKept, ListKept, PairKept, many_listed};
 ghost use Rattle.inclusion.specs.steps.Entering.{Begins};
 ghost use Rattle.inclusion.specs.steps.Rows.{OnlyComplement, RowAdded, RowsAdded, RowsComplete};
-ghost use Rattle.profile.specs.Rules.{setsDiffer};
-ghost use Rattle.sheet.specs.Fields.{objects, valueSets};
+ghost use Rattle.profile.specs.Rules.{sets_differ};
+ghost use Rattle.sheet.specs.Fields.{objects, value_sets};
 ghost use Rattle.sheet.specs.Layout.{count, offset};
-ghost use Rattle.sheet.specs.Words.{sheetOf};
+ghost use Rattle.sheet.specs.Words.{sheet_of};
 
 use crate::SectionOffsets;
 use crate::marks::at;
@@ -19,7 +19,7 @@ use sheet::words::{word, word_count};
 
 // Whether the sets of two members may differ, by what the table has for them; either may have none.
 fn noted_differ(s: &[u8], sets: u16, e: u16, c: u16) -> bool
-    ensures { result ≡ false → sets ≡ offset (sheetOf s.now) valueSets → 1 < e → 1 < c → setsDiffer (sheetOf s.now) (e - 2) (c - 2) ≡ false }
+    ensures { result ≡ false → sets ≡ offset (sheet_of s.now) value_sets → 1 < e → 1 < c → sets_differ (sheet_of s.now) (e - 2) (c - 2) ≡ false }
 {
     if e == c {
         return false;
@@ -43,7 +43,7 @@ fn members_kept(
     included: &[u16],
     e: u16,
 ) -> bool
-    ensures { result ≡ true → Begins (sheetOf s.now) sections → ListKept (sheetOf s.now) included.now sections.references first n e }
+    ensures { result ≡ true → Begins (sheet_of s.now) sections → ListKept (sheet_of s.now) included.now sections.references first n e }
 {
     let base = sections.references as usize;
     let sets = sections.sets;
@@ -68,7 +68,7 @@ fn members_kept(
 
 // A group of two, by what the table has for both.
 fn pair_kept(s: &[u8], sets: u16, e: u16, c: u16) -> bool
-    ensures { result ≡ true → sets ≡ offset (sheetOf s.now) valueSets → PairKept (sheetOf s.now) e c }
+    ensures { result ≡ true → sets ≡ offset (sheet_of s.now) value_sets → PairKept (sheet_of s.now) e c }
 {
     if e == c {
         return true;
@@ -84,7 +84,7 @@ fn pair_kept(s: &[u8], sets: u16, e: u16, c: u16) -> bool
 
 // The group of a leader of which two members or more are included; m is its complement where it has one.
 pub fn group_kept(s: &[u8], sections: SectionOffsets, included: &[u16], l: u16, m: u16) -> bool
-    ensures { result ≡ true → Begins (sheetOf s.now) sections → OnlyComplement (sheetOf s.now) l m → GroupKept (sheetOf s.now) included.now l }
+    ensures { result ≡ true → Begins (sheet_of s.now) sections → OnlyComplement (sheet_of s.now) l m → GroupKept (sheet_of s.now) included.now l }
 {
     let n = number(s, OBJECTS, l, COMPLEMENT_LIST);
     let e = at(included, l);
@@ -97,7 +97,7 @@ pub fn group_kept(s: &[u8], sections: SectionOffsets, included: &[u16], l: u16, 
 
 // Whether of such a group one member at most is included. Section 6 begins at `base`.
 fn one_included(s: &[u8], base: u16, first: u16, n: u16, included: &[u16], e: u16) -> bool
-    ensures { result ≡ true → manyListed (sheetOf s.now) included.now base first n e ≤ 1 }
+    ensures { result ≡ true → many_listed (sheet_of s.now) included.now base first n e ≤ 1 }
 {
     let mut many: u32 = one(e != 0) as u32;
     let mut i: u16 = 0;
@@ -114,7 +114,7 @@ fn one_included(s: &[u8], base: u16, first: u16, n: u16, included: &[u16], e: u1
 
 // The group of a leader that has m as a complement. Where one of the two is not included, all are not, so that one member at most may be.
 fn row_kept(s: &[u8], sections: SectionOffsets, included: &[u16], l: u16, m: u16) -> bool
-    ensures { result ≡ true → Begins (sheetOf s.now) sections → OnlyComplement (sheetOf s.now) l m → GroupKept (sheetOf s.now) included.now l }
+    ensures { result ≡ true → Begins (sheet_of s.now) sections → OnlyComplement (sheet_of s.now) l m → GroupKept (sheet_of s.now) included.now l }
 {
     let first = field(s, OBJECTS, l, COMPLEMENT_LIST);
     let n = number(s, OBJECTS, l, COMPLEMENT_LIST);
@@ -149,7 +149,7 @@ pub fn groups_kept(
     g: u16,
     included: &[u16],
 ) -> bool
-    ensures { result ≡ true → Begins (sheetOf s.now) sections → RowsComplete (sheetOf s.now) leading.now partners.now g → (l : ℕ) → l < count (sheetOf s.now) objects → GroupKept (sheetOf s.now) included.now l }
+    ensures { result ≡ true → Begins (sheet_of s.now) sections → RowsComplete (sheet_of s.now) leading.now partners.now g → (l : ℕ) → l < count (sheet_of s.now) objects → GroupKept (sheet_of s.now) included.now l }
 {
     let n = g as usize;
     if g == 65535 {
@@ -198,7 +198,7 @@ fn add_row(leading: &mut [u16], partners: &mut [u16], g: u16, l: u16, m: u16) ->
 
 // Adds a row for each complement of an object, as long as there is place.
 fn add_rows(s: &[u8], leading: &mut [u16], partners: &mut [u16], before: u16, l: u16) -> u16
-    ensures { (length leading.new ≡ length leading.old) × (length partners.new ≡ length partners.old) × RowsAdded (sheetOf s.now) leading.old partners.old leading.new partners.new before l result }
+    ensures { (length leading.new ≡ length leading.old) × (length partners.new ≡ length partners.old) × RowsAdded (sheet_of s.now) leading.old partners.old leading.new partners.new before l result }
 {
     let n = number(s, OBJECTS, l, COMPLEMENT_LIST);
     let mut g: u16 = before;
@@ -221,7 +221,7 @@ fn add_rows(s: &[u8], leading: &mut [u16], partners: &mut [u16], before: u16, l:
 
 // Lists each leader with each of its complements, and tells how many rows there are: 65535 where there is no place for them.
 pub fn list_leaders(s: &[u8], leading: &mut [u16], partners: &mut [u16]) -> u16
-    ensures { (length leading.new ≡ length leading.old) × (length partners.new ≡ length partners.old) × RowsComplete (sheetOf s.now) leading.new partners.new result }
+    ensures { (length leading.new ≡ length leading.old) × (length partners.new ≡ length partners.old) × RowsComplete (sheet_of s.now) leading.new partners.new result }
 {
     let n = count(s, OBJECTS);
     let mut g: u16 = 0;

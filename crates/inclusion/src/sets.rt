@@ -1,10 +1,10 @@
 // Value sets compared.
 ghost use Rattle.std.specs.Prelude.{◌+◌, ◌≤◌, eqb, get_or, length, false, not, ◌≡◌};
 ghost use Rattle.profile.specs.Counting.{any};
-ghost use Rattle.profile.specs.Rules.{setsDiffer};
-ghost use Rattle.sheet.specs.Fields.{valueSets};
+ghost use Rattle.profile.specs.Rules.{sets_differ};
+ghost use Rattle.sheet.specs.Fields.{value_sets};
 ghost use Rattle.sheet.specs.Layout.{offset};
-ghost use Rattle.sheet.specs.Words.{sheetOf};
+ghost use Rattle.sheet.specs.Words.{sheet_of};
 
 // Whether the 14 bytes from one index on differ from those from another on.
 fn bytes_differ(s: &[u8], a: usize, b: usize) -> bool
@@ -22,7 +22,7 @@ fn bytes_differ(s: &[u8], a: usize, b: usize) -> bool
 
 // Whether two sets may differ in any of seven words, where section 7 begins at `base`. One past the sheet's end may.
 pub fn sets_differ(s: &[u8], base: u16, u: u16, v: u16) -> bool
-    ensures { result ≡ false → base ≡ offset (sheetOf s.now) valueSets → setsDiffer (sheetOf s.now) u v ≡ false }
+    ensures { result ≡ false → base ≡ offset (sheet_of s.now) value_sets → sets_differ (sheet_of s.now) u v ≡ false }
 {
     let a = 2 * (base as usize + 7 * (u as usize));
     let b = 2 * (base as usize + 7 * (v as usize));

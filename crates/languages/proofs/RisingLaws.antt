@@ -10,18 +10,18 @@ use lib.Dec.{eqb, leb, ltb}
 use lib.ListN.{length, get_or}
 use borrow.Author.Tests.{eq-eqb, ne_eqb, lt-ltb, le-ltb, le-leb, lt-leb, leb-true, leb-false, eqb-true, eqb-false}
 use Rattle.sheet.specs.Words.{words}
-use Rattle.sheet.proofs.WordLaws.{at, how-many}
+use Rattle.sheet.proofs.WordLaws.{at, how_many_lem}
 use lib.Bits.{bit_and, bit_or}
 use Rattle.profile.specs.Counting.{any}
-use Rattle.profile.specs.Languages.{isRising}
-use Rattle.profile.proofs.BoolLaws.{or-false, or-true}
-use Rattle.languages.specs.steps.Falls.{fallsAt}
+use Rattle.profile.specs.Languages.{is_rising}
+use Rattle.profile.proofs.BoolLaws.{or_false, or_true}
+use Rattle.languages.specs.steps.Falls.{falls_at}
 
 -- two words of two bytes are compared by the high ones, and by the low ones where those are equal
 compared : (a b c d : ℕ) → b < 256 → d < 256 → leb (256 * c + d) (256 * a + b) ≡ (ltb c a || eqb c a && leb d b)
 compared a b c d l m =
     (elim (leb (256 * c + d) (256 * a + b)) as (λ t. leb (256 * c + d) (256 * a + b) ≡ t → t ≡ (ltb c a || eqb c a && leb d b)) [
-      | true ↦ λ e. ⊎_elim (λ q. let z : c ≡ a = q in rw (eq-eqb c a z, le-leb d b (omega (arith, z, leb-true _ _ e))) (sym (or-true (ltb c a)))) (λ h. rw (lt-ltb c a h) refl) (eq-or-lt_of_le (high (leb-true _ _ e)))
+      | true ↦ λ e. ⊎_elim (λ q. let z : c ≡ a = q in rw (eq-eqb c a z, le-leb d b (omega (arith, z, leb-true _ _ e))) (sym (or_true (ltb c a)))) (λ h. rw (lt-ltb c a h) refl) (eq-or-lt_of_le (high (leb-true _ _ e)))
       | false ↦ λ e. let low = leb-false _ _ e in
           ⊎_elim (λ q. let z : a ≡ c = q in rw (le-ltb c a (omega arith), eq-eqb c a (sym z), lt-leb d b (omega (arith, z, low))) refl) (λ h. rw (le-ltb c a (omega arith), ne_eqb c a (λ q. let z : c ≡ a = q in omega arith)) refl) (eq-or-lt_of_le (other low))
     ]) refl
@@ -37,8 +37,8 @@ abbrev pub falls : List ℕ → ℕ → Bool
 falls langs i = leb (get_or langs (i + 1) 0) (get_or langs i 0)
 
 module _ (bytes : List ℕ) (small : (i : ℕ) → get_or bytes i 0 < 256) where
-  pair : (i : ℕ) → i + 1 < length bytes / 2 → fallsAt bytes (2 * i) ≡ falls (words bytes) i
-  unfolding fallsAt
+  pair : (i : ℕ) → i + 1 < length bytes / 2 → falls_at bytes (2 * i) ≡ falls (words bytes) i
+  unfolding falls_at
   pair i l =
       let e : 2 * (i + 1) ≡ 2 * i + 2 = omega arith in
       let f : 2 * i + 2 + 1 ≡ 2 * i + 3 = omega arith in
@@ -47,61 +47,61 @@ module _ (bytes : List ℕ) (small : (i : ℕ) → get_or bytes i 0 < 256) where
       let even : 2 * i % 2 ≡ 0 = omega arith in
       rw (even, this, next) (sym (compared (get_or bytes (2 * i) 0) (get_or bytes (2 * i + 1) 0) (get_or bytes (2 * i + 2) 0) (get_or bytes (2 * i + 3) 0) (small (2 * i + 1)) (small (2 * i + 3))))
 
-  odd : (i : ℕ) → fallsAt bytes (2 * i + 1) ≡ false
-  unfolding fallsAt
+  odd : (i : ℕ) → falls_at bytes (2 * i + 1) ≡ false
+  unfolding falls_at
   odd i = let e : (2 * i + 1) % 2 ≡ 1 = omega arith in rw e refl
 
   -- a byte at which no word begins, and the next
-  two-more : (m : ℕ) → fallsAt bytes m ≡ false → any (fallsAt bytes) (suc (suc m)) ≡ (any (fallsAt bytes) m || fallsAt bytes (suc m))
+  two_more : (m : ℕ) → falls_at bytes m ≡ false → any (falls_at bytes) (suc (suc m)) ≡ (any (falls_at bytes) m || falls_at bytes (suc m))
   unfolding any
-  two-more m e = rw (e, or-false (any (fallsAt bytes) m)) refl
+  two_more m e = rw (e, or_false (any (falls_at bytes) m)) refl
 
-  falls-by-bytes : (k : ℕ) → suc k < length bytes / 2 → any (fallsAt bytes) (2 * k + 1) ≡ any (falls (words bytes)) (suc k)
-  falls-by-bytes zero l = unfold any in pair 0 (omega arith)
-  falls-by-bytes (suc k) l =
+  falls_by_bytes : (k : ℕ) → suc k < length bytes / 2 → any (falls_at bytes) (2 * k + 1) ≡ any (falls (words bytes)) (suc k)
+  falls_by_bytes zero l = unfold any in pair 0 (omega arith)
+  falls_by_bytes (suc k) l =
       let e : 2 * suc k + 1 ≡ suc (suc (2 * k + 1)) = omega arith in
       let f : suc (2 * k + 1) ≡ 2 * suc k = omega arith in
-      let here : fallsAt bytes (suc (2 * k + 1)) ≡ falls (words bytes) (suc k) = ap (fallsAt bytes) f ∙ pair (suc k) (omega arith) in
-      ap (any (fallsAt bytes)) e ∙ two-more (2 * k + 1) (odd k) ∙ rw (here, falls-by-bytes k (omega arith)) (unfold any in refl)
+      let here : falls_at bytes (suc (2 * k + 1)) ≡ falls (words bytes) (suc k) = ap (falls_at bytes) f ∙ pair (suc k) (omega arith) in
+      ap (any (falls_at bytes)) e ∙ two_more (2 * k + 1) (odd k) ∙ rw (here, falls_by_bytes k (omega arith)) (unfold any in refl)
 
   -- all words but the last, with an odd last byte or not
-  all-falls : 4 ≤ length bytes → any (fallsAt bytes) (length bytes - 3) ≡ any (falls (words bytes)) (length (words bytes) - 1)
-  all-falls l =
-      let n : length (words bytes) ≡ length bytes / 2 = how-many bytes in
+  all_falls : 4 ≤ length bytes → any (falls_at bytes) (length bytes - 3) ≡ any (falls (words bytes)) (length (words bytes) - 1)
+  all_falls l =
+      let n : length (words bytes) ≡ length bytes / 2 = how_many_lem bytes in
       let k = length bytes / 2 - 2 in
       let h : suc k ≡ length (words bytes) - 1 = omega (arith, n, l) in
-      let by = falls-by-bytes k (omega (arith, l)) ∙ ap (any (falls (words bytes))) h in
-      (elim (eqb (length bytes % 2) 0) as (λ b. eqb (length bytes % 2) 0 ≡ b → any (fallsAt bytes) (length bytes - 3) ≡ any (falls (words bytes)) (length (words bytes) - 1)) [
-        | true ↦ λ q. let e : length bytes - 3 ≡ 2 * k + 1 = omega (arith, l, eqb-true _ _ q) in ap (any (fallsAt bytes)) e ∙ by
-        | false ↦ λ q. let e : length bytes - 3 ≡ suc (2 * k + 1) = omega (arith, l, eqb-false _ _ q) in ap (any (fallsAt bytes)) e ∙ one-more (2 * k + 1) (odd k) ∙ by
+      let by = falls_by_bytes k (omega (arith, l)) ∙ ap (any (falls (words bytes))) h in
+      (elim (eqb (length bytes % 2) 0) as (λ b. eqb (length bytes % 2) 0 ≡ b → any (falls_at bytes) (length bytes - 3) ≡ any (falls (words bytes)) (length (words bytes) - 1)) [
+        | true ↦ λ q. let e : length bytes - 3 ≡ 2 * k + 1 = omega (arith, l, eqb-true _ _ q) in ap (any (falls_at bytes)) e ∙ by
+        | false ↦ λ q. let e : length bytes - 3 ≡ suc (2 * k + 1) = omega (arith, l, eqb-false _ _ q) in ap (any (falls_at bytes)) e ∙ one_more (2 * k + 1) (odd k) ∙ by
       ]) refl
     where
-      one-more : (m : ℕ) → fallsAt bytes m ≡ false → any (fallsAt bytes) (suc m) ≡ any (fallsAt bytes) m
-      one-more m e = unfold any in rw (e, or-false (any (fallsAt bytes) m)) refl
+      one_more : (m : ℕ) → falls_at bytes m ≡ false → any (falls_at bytes) (suc m) ≡ any (falls_at bytes) m
+      one_more m e = unfold any in rw (e, or_false (any (falls_at bytes) m)) refl
 
   -- no fall found: the list rises
-  pub rises-by-bytes : 4 ≤ length bytes → (found : ℕ) → found ≡ cond (any (fallsAt bytes) (length bytes - 3)) 1 0 → eqb found 0 ≡ isRising (words bytes)
-  unfolding isRising
-  rises-by-bytes l found e = rw (e, all-falls l) (none (any (falls (words bytes)) (length (words bytes) - 1)))
+  pub rises_by_bytes : 4 ≤ length bytes → (found : ℕ) → found ≡ cond (any (falls_at bytes) (length bytes - 3)) 1 0 → eqb found 0 ≡ is_rising (words bytes)
+  unfolding is_rising
+  rises_by_bytes l found e = rw (e, all_falls l) (none (any (falls (words bytes)) (length (words bytes) - 1)))
     where
       none : (b : Bool) → eqb (cond b 1 0) 0 ≡ not b
       none true = refl
       none false = refl
 
 -- a list of less than two words rises
-pub few-rise : (bytes : List ℕ) → length bytes < 4 → true ≡ isRising (words bytes)
-unfolding isRising any
-few-rise bytes l = let e : length (words bytes) - 1 ≡ 0 = omega (arith, how-many bytes, l) in rw e refl
+pub few_rise : (bytes : List ℕ) → length bytes < 4 → true ≡ is_rising (words bytes)
+unfolding is_rising any
+few_rise bytes l = let e : length (words bytes) - 1 ≡ 0 = omega (arith, how_many_lem bytes, l) in rw e refl
 
 -- numbers that stand for tests
-pub bits-and : (a b : Bool) → bit_and (cond a 1 0) (cond b 1 0) ≡ cond (a && b) 1 0
-bits-and true true = refl
-bits-and true false = refl
-bits-and false true = refl
-bits-and false false = refl
+pub bits_and : (a b : Bool) → bit_and (cond a 1 0) (cond b 1 0) ≡ cond (a && b) 1 0
+bits_and true true = refl
+bits_and true false = refl
+bits_and false true = refl
+bits_and false false = refl
 
-pub bits-or : (a b : Bool) → bit_or (cond a 1 0) (cond b 1 0) ≡ cond (a || b) 1 0
-bits-or true true = refl
-bits-or true false = refl
-bits-or false true = refl
-bits-or false false = refl
+pub bits_or : (a b : Bool) → bit_or (cond a 1 0) (cond b 1 0) ≡ cond (a || b) 1 0
+bits_or true true = refl
+bits_or true false = refl
+bits_or false true = refl
+bits_or false false = refl

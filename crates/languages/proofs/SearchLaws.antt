@@ -10,59 +10,59 @@ use lib.Dec.{eqb, leb}
 use lib.ListN.{length, get_or}
 use borrow.Author.Tests.{eqb-false, ne_eqb, leb-false, leb-true}
 use Rattle.profile.specs.Counting.{any}
-use Rattle.profile.specs.Languages.{isListed, isRising}
-use Rattle.profile.proofs.RisingLaws.{rising-later}
-use Rattle.profile.proofs.SumLaws.{any-one, any-nowhere}
+use Rattle.profile.specs.Languages.{is_listed, is_rising}
+use Rattle.profile.proofs.RisingLaws.{rising_later}
+use Rattle.profile.proofs.SumLaws.{any_one, any_nowhere}
 
 -- the places that have the word are among so many from one on
 abbrev pub Among : List ℕ → ℕ → ℕ → ℕ → Type 0
 Among langs w base size = (k : ℕ) → k < length langs → get_or langs k 0 ≡ w → (base ≤ k) × (k < base + size)
 
-module _ (langs : List ℕ) (rises : isRising langs ≡ true) where
+module _ (langs : List ℕ) (rises : is_rising langs ≡ true) where
   -- at most the word at a place: its place is not before that
-  pub among-upper : (w base size half : ℕ) → base + half < length langs → get_or langs (base + half) 0 ≤ w → half ≤ size
+  pub among_upper : (w base size half : ℕ) → base + half < length langs → get_or langs (base + half) 0 ≤ w → half ≤ size
       → Among langs w base size → Among langs w (base + half) (size - half)
-  among-upper w base size half l h f among k m e =
+  among_upper w base size half l h f among k m e =
       (elim (leb (base + half) k) as (λ b. leb (base + half) k ≡ b → (base + half ≤ k) × (k < base + half + (size - half))) [
         | true ↦ λ q. (leb-true _ _ q, omega (arith, (among k m e).1))
-        | false ↦ λ q. absurd (omega (arith, e, rising-later langs rises k (base + half) (leb-false _ _ q) l))
+        | false ↦ λ q. absurd (omega (arith, e, rising_later langs rises k (base + half) (leb-false _ _ q) l))
       ]) refl
 
   -- above it: its place is before that
-  pub among-lower : (w base size half : ℕ) → base + half < length langs → w < get_or langs (base + half) 0 → half ≤ size - half
+  pub among_lower : (w base size half : ℕ) → base + half < length langs → w < get_or langs (base + half) 0 → half ≤ size - half
       → Among langs w base size → Among langs w base (size - half)
-  among-lower w base size half l h f among k m e =
+  among_lower w base size half l h f among k m e =
       (elim (leb (base + half) k) as (λ b. leb (base + half) k ≡ b → (base ≤ k) × (k < base + (size - half))) [
-        | true ↦ λ q. absurd (⊎_elim (λ z. let y : base + half ≡ k = z in omega (arith, e, ap (λ i. get_or langs i 0) y)) (λ z. omega (arith, e, rising-later langs rises (base + half) k z m)) (eq-or-lt_of_le (leb-true _ _ q)))
+        | true ↦ λ q. absurd (⊎_elim (λ z. let y : base + half ≡ k = z in omega (arith, e, ap (λ i. get_or langs i 0) y)) (λ z. omega (arith, e, rising_later langs rises (base + half) k z m)) (eq-or-lt_of_le (leb-true _ _ q)))
         | false ↦ λ q. ((among k m e).0, omega (arith, leb-false _ _ q))
       ]) refl
 
   -- a turn of the search: half of the places are left
-  pub among-half : (w base size half : ℕ) → 1 ≤ half → half + half ≤ size → base + size ≤ length langs → Among langs w base size
+  pub among_half : (w base size half : ℕ) → 1 ≤ half → half + half ≤ size → base + size ≤ length langs → Among langs w base size
       → (cond (leb (get_or langs (base + half) 0) w) (base + half) base + (size - half) ≤ length langs)
       × Among langs w (cond (leb (get_or langs (base + half) 0) w) (base + half) base) (size - half)
-  among-half w base size half h f l among =
+  among_half w base size half h f l among =
       (elim (leb (get_or langs (base + half) 0) w) as (λ b. leb (get_or langs (base + half) 0) w ≡ b → (cond b (base + half) base + (size - half) ≤ length langs) × Among langs w (cond b (base + half) base) (size - half)) [
-        | true ↦ λ q. (omega arith, among-upper w base size half (omega arith) (leb-true _ _ q) (omega arith) among)
-        | false ↦ λ q. (omega arith, among-lower w base size half (omega arith) (leb-false _ _ q) (omega arith) among)
+        | true ↦ λ q. (omega arith, among_upper w base size half (omega arith) (leb-true _ _ q) (omega arith) among)
+        | false ↦ λ q. (omega arith, among_lower w base size half (omega arith) (leb-false _ _ q) (omega arith) among)
       ]) refl
 
 -- all places at first
-pub among-all : (langs : List ℕ) (w : ℕ) → Among langs w 0 (length langs)
-among-all langs w k m e = (omega arith, omega arith)
+pub among_all : (langs : List ℕ) (w : ℕ) → Among langs w 0 (length langs)
+among_all langs w k m e = (omega arith, omega arith)
 
 -- no list, no word
-pub nothing-listed : (langs : List ℕ) (w : ℕ) → length langs ≡ 0 → isListed langs w ≡ false
-unfolding isListed any
-nothing-listed langs w e = rw e refl
+pub nothing_listed : (langs : List ℕ) (w : ℕ) → length langs ≡ 0 → is_listed langs w ≡ false
+unfolding is_listed any
+nothing_listed langs w e = rw e refl
 
 -- one place is left: the word is listed exactly if it stands there
-pub listed-there : (langs : List ℕ) (w base : ℕ) → base < length langs → Among langs w base 1 → eqb (get_or langs base 0) w ≡ isListed langs w
-unfolding isListed
-listed-there langs w base l among =
+pub listed_there : (langs : List ℕ) (w base : ℕ) → base < length langs → Among langs w base 1 → eqb (get_or langs base 0) w ≡ is_listed langs w
+unfolding is_listed
+listed_there langs w base l among =
     (elim (eqb (get_or langs base 0) w) as (λ b. eqb (get_or langs base 0) w ≡ b → eqb (get_or langs base 0) w ≡ any (λ i. eqb (get_or langs i 0) w) (length langs)) [
-      | true ↦ λ q. q ∙ sym (any-one (λ i. eqb (get_or langs i 0) w) (length langs) base l q)
-      | false ↦ λ q. q ∙ sym (any-nowhere (λ i. eqb (get_or langs i 0) w) (length langs) (λ k m. ne_eqb (get_or langs k 0) w (λ z.
+      | true ↦ λ q. q ∙ sym (any_one (λ i. eqb (get_or langs i 0) w) (length langs) base l q)
+      | false ↦ λ q. q ∙ sym (any_nowhere (λ i. eqb (get_or langs i 0) w) (length langs) (λ k m. ne_eqb (get_or langs k 0) w (λ z.
           let e : get_or langs k 0 ≡ w = z in
           let a = among k m e in
           let y : k ≡ base = omega (arith, a.0, a.1) in

@@ -1,6 +1,6 @@
 // A lent list that rises, and which words are good under it.
 ghost use Rattle.std.specs.Prelude.{List, ℕ, Some, None, cond, length, leb, ◌/◌, ◌≡◌, true};
-ghost use Rattle.profile.specs.Languages.{goodLanguage, isListed, isReserved, isRising};
+ghost use Rattle.profile.specs.Languages.{good_language, is_listed, is_reserved, is_rising};
 ghost use Rattle.languages.specs.steps.Table.{Tabled};
 ghost use Rattle.sheet.specs.Words.{words};
 
@@ -22,7 +22,7 @@ impl<'a> Model for Languages<'a> {
 
     ghost view = { λ l. words l.bytes.now };
 
-    ghost invariant = { λ l. (isRising (words l.bytes.now) ≡ true) × Tabled (words l.bytes.now) l.table.now };
+    ghost invariant = { λ l. (is_rising (words l.bytes.now) ≡ true) × Tabled (words l.bytes.now) l.table.now };
 }
 
 // One of two indices.
@@ -33,9 +33,9 @@ fn picked(test: bool, a: usize, b: usize) -> usize
 }
 
 // "from qaa to qtz (second letter a to t)".
-#[tactic(auto, unfolding(profile::specs::Languages::isReserved))]
+#[tactic(auto, unfolding(profile::specs::Languages::is_reserved))]
 fn is_reserved(w: u16) -> bool
-    ensures { result ≡ isReserved w }
+    ensures { result ≡ is_reserved w }
 {
     (w / 1024 == 17) & (w / 32 % 32 <= 20)
 }
@@ -43,7 +43,7 @@ fn is_reserved(w: u16) -> bool
 impl<'a> Languages<'a> {
     // The list of lent bytes, if it rises.
     pub fn lent(langs: &'a [u8]) -> Option<Languages<'a>>
-        ensures { result ≡ cond (isRising (words langs.now)) (Some (words langs.now)) None }
+        ensures { result ≡ cond (is_rising (words langs.now)) (Some (words langs.now)) None }
     {
         if rises(langs) {
             Some(Languages {
@@ -57,7 +57,7 @@ impl<'a> Languages<'a> {
 
     // "strictly rising": so is each list of this type.
     pub fn rises(&self) -> bool
-        ensures { result ≡ isRising self.now }
+        ensures { result ≡ is_rising self.now }
     {
         let _ = &self.bytes;
         true
@@ -86,7 +86,7 @@ impl<'a> Languages<'a> {
 
     // Whether the list has the word. Half of the words that it can be among are left at each turn.
     fn is_listed(&self, w: u16) -> bool
-        ensures { result ≡ isListed self.now w }
+        ensures { result ≡ is_listed self.now w }
     {
         let langs = self.bytes;
         let n = word_count(langs);
@@ -106,7 +106,7 @@ impl<'a> Languages<'a> {
 
     // "a code of three letters is good if listed, or from qaa to qtz".
     pub fn good(&self, w: u16) -> bool
-        ensures { result ≡ goodLanguage self.now w }
+        ensures { result ≡ good_language self.now w }
     {
         let i = w as usize;
         if i < self.table.len() {

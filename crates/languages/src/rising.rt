@@ -1,8 +1,8 @@
 // Whether a lent list rises. This is asked at every call, so it is written for the compiler to test many words at once: over all bytes, with
 // a number for each test, and no branch.
 ghost use Rattle.std.specs.Prelude.{cond, length, ◌+◌, ◌<◌, ◌≡◌};
-ghost use Rattle.languages.specs.steps.Falls.{fallsAt};
-ghost use Rattle.profile.specs.Languages.{isRising};
+ghost use Rattle.languages.specs.steps.Falls.{falls_at};
+ghost use Rattle.profile.specs.Languages.{is_rising};
 ghost use Rattle.sheet.specs.Words.{words};
 
 // 1 for a test that holds, else 0.
@@ -15,7 +15,7 @@ fn bit(test: bool) -> u8
 // 1 where a word begins at byte j and the next is at most it.
 fn fall_bit(langs: &[u8], j: usize) -> u8
     requires { j + 3 < length langs.now }
-    ensures { result ≡ cond (fallsAt langs.now j) 1 0 }
+    ensures { result ≡ cond (falls_at langs.now j) 1 0 }
 {
     let below = bit(langs[j + 2] < langs[j]);
     let level = bit(langs[j + 2] == langs[j]) & bit(langs[j + 3] <= langs[j + 1]);
@@ -24,7 +24,7 @@ fn fall_bit(langs: &[u8], j: usize) -> u8
 
 // "strictly rising": no word is at most the one before it.
 pub fn rises(langs: &[u8]) -> bool
-    ensures { result ≡ isRising (words langs.now) }
+    ensures { result ≡ is_rising (words langs.now) }
 {
     let m = langs.len();
     if m < 4 {

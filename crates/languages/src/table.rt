@@ -2,7 +2,7 @@
 ghost use Rattle.std.specs.Prelude.{cond, length, ltb, set, ◌&&◌, ◌≡◌};
 ghost use Rattle.languages.specs.steps.Table.{Tabled};
 ghost use Rattle.sheet.specs.Words.{words};
-ghost use Rattle.values.specs.Language.{threeLetters};
+ghost use Rattle.values.specs.Language.{three_letters};
 
 use sheet::words::{word, word_count};
 use values::language::three_letters;
@@ -12,7 +12,7 @@ pub const LANGUAGE_WORDS: usize = 27483;
 
 // Writes 1 at a word of three letters.
 fn mark_code(w: u16, table: &mut [u8; LANGUAGE_WORDS])
-    ensures { table.new ≡ cond (threeLetters w && ltb w (length table.old)) (set table.old w 1) table.old }
+    ensures { table.new ≡ cond (three_letters w && ltb w (length table.old)) (set table.old w 1) table.old }
 {
     let i = w as usize;
     if three_letters(w) & (i < LANGUAGE_WORDS) {

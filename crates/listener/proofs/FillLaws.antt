@@ -11,7 +11,7 @@ use lib.Seq.{get_or-set_same, get_or-set_other, ext_get_or}
 use borrow.Author.Count.{below_none, below_more}
 use borrow.Author.Tests.{ltb-true, ltb-false}
 use Rattle.profile.specs.Counting.{tabulate}
-use Rattle.profile.proofs.ListLaws.{length-tabulate, getD-tabulate}
+use Rattle.profile.proofs.ListLaws.{length_tabulate, get_d_tabulate}
 
 module _ {X : Type 0} where
   -- the first i places of t, of n, are right
@@ -20,8 +20,8 @@ module _ {X : Type 0} where
     pub inside : i ≤ n
     pub right : (k : ℕ) → k < i → get_or t k d ≡ f k
 
-  pub filled-more : {n : ℕ} {f : ℕ → X} {d : X} {t : List X} {i : ℕ} (v : X) → Filled n f d t i → i < n → v ≡ f i → Filled n f d (set t i v) (i + 1)
-  filled-more {n} {f} {d} {t} {i} v h l e =
+  pub filled_more : {n : ℕ} {f : ℕ → X} {d : X} {t : List X} {i : ℕ} (v : X) → Filled n f d t i → i < n → v ≡ f i → Filled n f d (set t i v) (i + 1)
+  filled_more {n} {f} {d} {t} {i} v h l e =
       let b : i < length t = omega (arith, h.long) in
       record {
         long = length-set t i v ∙ h.long;
@@ -31,34 +31,34 @@ module _ {X : Type 0} where
             (get_or-set_same t i v d b ∙ e);
       }
 
-  pub filled-all : {n : ℕ} {f : ℕ → X} {d : X} {t : List X} {i : ℕ} → Filled n f d t i → n ≤ i → t ≡ tabulate f n
-  filled-all {n} {f} {d} {t} {i} h l =
-      ext_get_or d t (tabulate f n) (h.long ∙ sym (length-tabulate f n))
-      (λ k m. h.right k (omega (arith, h.long, h.inside)) ∙ sym (getD-tabulate f n k d (omega (arith, h.long))))
+  pub filled_all : {n : ℕ} {f : ℕ → X} {d : X} {t : List X} {i : ℕ} → Filled n f d t i → n ≤ i → t ≡ tabulate f n
+  filled_all {n} {f} {d} {t} {i} h l =
+      ext_get_or d t (tabulate f n) (h.long ∙ sym (length_tabulate f n))
+      (λ k m. h.right k (omega (arith, h.long, h.inside)) ∙ sym (get_d_tabulate f n k d (omega (arith, h.long))))
 
   -- and the others are as they were
   pub record Begun (n : ℕ) (f : ℕ → X) (d e : X) (t : List X) (i : ℕ) : Type 0 where
     pub filled : Filled n f d t i
     pub rest : (k : ℕ) → i ≤ k → k < n → get_or t k d ≡ e
 
-  pub begun-none : (n : ℕ) (f : ℕ → X) (d e : X) → Begun n f d e (replicate n e) 0
-  begun-none n f d e =
+  pub begun_none : (n : ℕ) (f : ℕ → X) (d e : X) → Begun n f d e (replicate n e) 0
+  begun_none n f d e =
       record {
         filled = record { long = length-replicate n e; inside = omega arith; right = below_none _ };
         rest = λ k l m. get_or-replicate n k e d m;
       }
 
-  pub begun-more : {n : ℕ} {f : ℕ → X} {d e : X} {t : List X} {i : ℕ} (v : X) → Begun n f d e t i → i < n → v ≡ f i → Begun n f d e (set t i v) (i + 1)
-  begun-more {n} {f} {d} {e} {t} {i} v h l q =
+  pub begun_more : {n : ℕ} {f : ℕ → X} {d e : X} {t : List X} {i : ℕ} (v : X) → Begun n f d e t i → i < n → v ≡ f i → Begun n f d e (set t i v) (i + 1)
+  begun_more {n} {f} {d} {e} {t} {i} v h l q =
       record {
-        filled = filled-more v h.filled l q;
+        filled = filled_more v h.filled l q;
         rest = λ k m b. get_or-set_other t i k v d (λ z. let y : k ≡ i = z in absurd (omega arith)) ∙ h.rest k (omega arith) b;
       }
 
   -- a loop that ends before the list does, where the others were right before it
-  pub begun-all : {n : ℕ} {f : ℕ → X} {d e : X} {t : List X} {i : ℕ} → Begun n f d e t i → ((k : ℕ) → i ≤ k → k < n → e ≡ f k) → t ≡ tabulate f n
-  begun-all {n} {f} {d} {e} {t} {i} h g =
-      ext_get_or d t (tabulate f n) (h.filled.long ∙ sym (length-tabulate f n)) (λ k m. at k (omega (arith, h.filled.long)) ∙ sym (getD-tabulate f n k d (omega (arith, h.filled.long))))
+  pub begun_all : {n : ℕ} {f : ℕ → X} {d e : X} {t : List X} {i : ℕ} → Begun n f d e t i → ((k : ℕ) → i ≤ k → k < n → e ≡ f k) → t ≡ tabulate f n
+  begun_all {n} {f} {d} {e} {t} {i} h g =
+      ext_get_or d t (tabulate f n) (h.filled.long ∙ sym (length_tabulate f n)) (λ k m. at k (omega (arith, h.filled.long)) ∙ sym (get_d_tabulate f n k d (omega (arith, h.filled.long))))
     where
       at : (k : ℕ) → k < n → get_or t k d ≡ f k
       at k m =

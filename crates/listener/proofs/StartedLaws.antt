@@ -12,31 +12,31 @@ use Rattle.sheet.specs.Fields.{programmes}
 use Rattle.listener.specs.declared.Answer.TheVariants.{Done, Refused}
 use Rattle.listener.specs.declared.Refusal.TheVariants.{NotAccepted, NoProgramme, TooFewWords}
 use Rattle.listener.specs.Programme.{started}
-use Rattle.listener.specs.Calls.{opens, answerBy, notOpen, noProgramme}
-use Rattle.listener.specs.Listing.{tooFewWords, listedBy, bufferedBy}
-use Rattle.listener.specs.StartListing.{startTracks, startNumber, startAnswer, startListed, startBuffered}
-use Rattle.listener.specs.steps.Tracks.{stateTracks, stateNumber}
-use Rattle.listener.proofs.ListedLaws.{listed-tracks, entries-number}
+use Rattle.listener.specs.Calls.{opens, answer_by, not_open, no_programme}
+use Rattle.listener.specs.Listing.{too_few_words, listed_by, buffered_by}
+use Rattle.listener.specs.StartListing.{start_tracks, start_number, start_answer, start_listed, start_buffered}
+use Rattle.listener.specs.steps.Tracks.{state_tracks, state_number}
+use Rattle.listener.proofs.ListedLaws.{listed_tracks_lem, entries_number}
 
 module _ (s : Sheet) (langs : List ℕ) (p : ℕ) (buffer : List ℕ) where
-  pub start-closed : opens s langs ≡ false → (listedBy 0 (Refused NotAccepted) ≡ startListed s langs p (length buffer)) × (buffer ≡ startBuffered s langs p buffer)
-  unfolding startListed startBuffered startAnswer answerBy notOpen bufferedBy
-  start-closed e = (rw e, rw e)
+  pub start_closed : opens s langs ≡ false → (listed_by 0 (Refused NotAccepted) ≡ start_listed s langs p (length buffer)) × (buffer ≡ start_buffered s langs p buffer)
+  unfolding start_listed start_buffered start_answer answer_by not_open buffered_by
+  start_closed e = (rw e, rw e)
 
   module _ (e : opens s langs ≡ true) where
-    pub start-missing : leb (count s programmes) p ≡ true
-        → (listedBy 0 (Refused NoProgramme) ≡ startListed s langs p (length buffer)) × (buffer ≡ startBuffered s langs p buffer)
-    unfolding startListed startBuffered startAnswer answerBy notOpen noProgramme bufferedBy
-    start-missing f = (rw (e, f), rw (e, f))
+    pub start_missing : leb (count s programmes) p ≡ true
+        → (listed_by 0 (Refused NoProgramme) ≡ start_listed s langs p (length buffer)) × (buffer ≡ start_buffered s langs p buffer)
+    unfolding start_listed start_buffered start_answer answer_by not_open no_programme buffered_by
+    start_missing f = (rw (e, f), rw (e, f))
 
     module _ (f : leb (count s programmes) p ≡ false) where
-      pub start-few : ltb (length buffer) (stateNumber s (started s p)) ≡ true
-          → (listedBy 0 (Refused TooFewWords) ≡ startListed s langs p (length buffer)) × (buffer ≡ startBuffered s langs p buffer)
-      unfolding startListed startBuffered startAnswer answerBy notOpen noProgramme tooFewWords bufferedBy
-      start-few g = (rw (e, f, entries-number s (started s p), g), rw (e, f, entries-number s (started s p), g))
+      pub start_few : ltb (length buffer) (state_number s (started s p)) ≡ true
+          → (listed_by 0 (Refused TooFewWords) ≡ start_listed s langs p (length buffer)) × (buffer ≡ start_buffered s langs p buffer)
+      unfolding start_listed start_buffered start_answer answer_by not_open no_programme too_few_words buffered_by
+      start_few g = (rw (e, f, entries_number s (started s p), g), rw (e, f, entries_number s (started s p), g))
 
-      pub start-done : ltb (length buffer) (stateNumber s (started s p)) ≡ false
-          → (◌≡◌ (record { answer = Done; entries = stateNumber s (started s p) }) (startListed s langs p (length buffer)))
-          × (sets buffer 0 (stateTracks s (started s p)) ≡ startBuffered s langs p buffer)
-      unfolding startListed startBuffered startAnswer startTracks startNumber answerBy notOpen noProgramme tooFewWords bufferedBy
-      start-done g = (rw (e, f, entries-number s (started s p), g), rw (e, f, entries-number s (started s p), g, listed-tracks s (started s p)))
+      pub start_done : ltb (length buffer) (state_number s (started s p)) ≡ false
+          → (◌≡◌ (record { answer = Done; entries = state_number s (started s p) }) (start_listed s langs p (length buffer)))
+          × (sets buffer 0 (state_tracks s (started s p)) ≡ start_buffered s langs p buffer)
+      unfolding start_listed start_buffered start_answer start_tracks start_number answer_by not_open no_programme too_few_words buffered_by
+      start_done g = (rw (e, f, entries_number s (started s p), g), rw (e, f, entries_number s (started s p), g, listed_tracks_lem s (started s p)))

@@ -9,83 +9,83 @@ use lib.Dec.{eqb, ltb}
 use lib.ListN.{length, get_or, replicate, get_or-eq_default}
 use Rattle.sheet.specs.Words.{Sheet}
 use Rattle.profile.specs.Counting.{every, tabulate}
-use Rattle.profile.specs.Relations.{member, members, leaderOf}
-use Rattle.profile.proofs.SumLaws.{howMany-eq}
-use Rattle.profile.proofs.ListLaws.{length-tabulate, getD-tabulate}
+use Rattle.profile.specs.Relations.{member, members, leader_of}
+use Rattle.profile.proofs.SumLaws.{how_many_eq}
+use Rattle.profile.proofs.ListLaws.{length_tabulate, get_d_tabulate}
 use Rattle.tables.specs.declared.Naming.TheVariants.{Complements}
-use Rattle.tables.specs.steps.Marks.{Standing, firstBy}
+use Rattle.tables.specs.steps.Marks.{Standing, first_by}
 use Rattle.tables.specs.steps.Right.{Leaders}
 use Rattle.tables.proofs.MarkLaws.{nought}
 use Rattle.tables.proofs.TableLaws.{flag}
 use Rattle.listener.specs.declared.Setting.{Setting}
 use Rattle.listener.specs.declared.State.{State}
-use Rattle.listener.specs.State.{stateObjects, blank, setting, active}
-use Rattle.listener.specs.Sound.{activeMembers, soundActivity, soundAt}
-use Rattle.granted.specs.steps.Flags.{flaggedMembers, flaggedActivity}
+use Rattle.listener.specs.State.{state_objects, blank, setting, active}
+use Rattle.listener.specs.Sound.{active_members, sound_activity, sound_at}
+use Rattle.granted.specs.steps.Flags.{flagged_members, flagged_activity}
 use Rattle.tables.specs.steps.Members.{flagged}
-use Rattle.listener.specs.steps.Settings.{flaggedSound}
+use Rattle.listener.specs.steps.Settings.{flagged_sound}
 
 -- a pass over a table of noughts
-pub leaders-made : (s : Sheet) (n : ℕ) (t : List ℕ) → Standing (λ x. firstBy s Complements x (get_or (replicate n 0) x 0)) t → Leaders s t
-leaders-made s n t h x l = h x l ∙ ap (firstBy s Complements x) (nought n x)
+pub leaders_made : (s : Sheet) (n : ℕ) (t : List ℕ) → Standing (λ x. first_by s Complements x (get_or (replicate n 0) x 0)) t → Leaders s t
+leaders_made s n t h x l = h x l ∙ ap (first_by s Complements x) (nought n x)
 
-pub and-assoc : (a b c : Bool) → ((a && b) && c) ≡ (a && (b && c))
-and-assoc false b c = refl
-and-assoc true b c = refl
+pub and_assoc : (a b c : Bool) → ((a && b) && c) ≡ (a && (b && c))
+and_assoc false b c = refl
+and_assoc true b c = refl
 
 -- a test, and another that is known only behind it
-pub and-behind : (a b r : Bool) → (r ≡ true → a ≡ b) → (a && r) ≡ (r && b)
-and-behind true b true h = h refl
-and-behind false b true h = h refl
-and-behind true b false h = refl
-and-behind false b false h = refl
+pub and_behind : (a b r : Bool) → (r ≡ true → a ≡ b) → (a && r) ≡ (r && b)
+and_behind true b true h = h refl
+and_behind false b true h = h refl
+and_behind true b false h = refl
+and_behind false b false h = refl
 
-pub every-eq : (p q : ℕ → Bool) (n : ℕ) → ((k : ℕ) → k < n → p k ≡ q k) → every p n ≡ every q n
+pub every_eq : (p q : ℕ → Bool) (n : ℕ) → ((k : ℕ) → k < n → p k ≡ q k) → every p n ≡ every q n
 unfolding every
-every-eq p q zero h = refl
-every-eq p q (suc n) h = ap₂ (λ (a b : Bool). a && b) (every-eq p q n (λ k l. h k (omega arith))) (h n (omega arith))
+every_eq p q zero h = refl
+every_eq p q (suc n) h = ap₂ (λ (a b : Bool). a && b) (every_eq p q n (λ k l. h k (omega arith))) (h n (omega arith))
 
-past-active : (st : State) (o : ℕ) → ltb o stateObjects ≡ false → active st o ≡ false
+past_active : (st : State) (o : ℕ) → ltb o state_objects ≡ false → active st o ≡ false
 unfolding active setting
-past-active st o e = ap (λ (b : Bool). (cond b (get_or st.objects o blank) blank).active) e
+past_active st o e = ap (λ (b : Bool). (cond b (get_or st.objects o blank) blank).active) e
 
 -- a state's element is its setting
-pub element-setting : (st : State) (o : ℕ) → o < stateObjects → get_or st.objects o blank ≡ setting st o
+pub element_setting : (st : State) (o : ℕ) → o < state_objects → get_or st.objects o blank ≡ setting st o
 unfolding setting
-element-setting st o l = rw (lt-ltb o stateObjects l) refl
+element_setting st o l = rw (lt-ltb o state_objects l) refl
 
-pub element-active : (st : State) (o : ℕ) → o < stateObjects → (get_or st.objects o blank).active ≡ active st o
+pub element_active : (st : State) (o : ℕ) → o < state_objects → (get_or st.objects o blank).active ≡ active st o
 unfolding active
-element-active st o l = ap (λ (x : Setting). x.active) (element-setting st o l)
+element_active st o l = ap (λ (x : Setting). x.active) (element_setting st o l)
 
 module _ (s : Sheet) (st : State) where
-  abbrev activeFlags : List ℕ
-  activeFlags = tabulate (λ o. cond (active st o) 1 0) stateObjects
+  abbrev active_flags : List ℕ
+  active_flags = tabulate (λ o. cond (active st o) 1 0) state_objects
 
   -- the flags of the active objects
-  flags-active : (o : ℕ) → flagged activeFlags o ≡ active st o
+  flags_active : (o : ℕ) → flagged active_flags o ≡ active st o
   unfolding flagged
-  flags-active o =
-      (elim (ltb o stateObjects) as (λ b. ltb o stateObjects ≡ b → not (eqb (get_or activeFlags o 0) 0) ≡ active st o) [
-        | true ↦ λ e. ap (λ (n : ℕ). not (eqb n 0)) (getD-tabulate {X = ℕ} (λ q. cond (active st q) 1 0) stateObjects o 0 (ltb-true o stateObjects e)) ∙ flag (active st o)
-        | false ↦ λ e. ap (λ (n : ℕ). not (eqb n 0)) (get_or-eq_default activeFlags 0 (past (ltb-false o stateObjects e))) ∙ sym (past-active st o e)
+  flags_active o =
+      (elim (ltb o state_objects) as (λ b. ltb o state_objects ≡ b → not (eqb (get_or active_flags o 0) 0) ≡ active st o) [
+        | true ↦ λ e. ap (λ (n : ℕ). not (eqb n 0)) (get_d_tabulate {X = ℕ} (λ q. cond (active st q) 1 0) state_objects o 0 (ltb-true o state_objects e)) ∙ flag (active st o)
+        | false ↦ λ e. ap (λ (n : ℕ). not (eqb n 0)) (get_or-eq_default active_flags 0 (past (ltb-false o state_objects e))) ∙ sym (past_active st o e)
       ]) refl
     where
-      past : stateObjects ≤ o → length activeFlags ≤ o
-      past l = rw (length-tabulate {X = ℕ} (λ q. cond (active st q) 1 0) stateObjects) l
+      past : state_objects ≤ o → length active_flags ≤ o
+      past l = rw (length_tabulate {X = ℕ} (λ q. cond (active st q) 1 0) state_objects) l
 
-  flags-members : (l : ℕ) → flaggedMembers s activeFlags l ≡ activeMembers s st l
-  unfolding flaggedMembers activeMembers
-  flags-members l = howMany-eq (λ i. flagged activeFlags (member s l i)) (λ i. active st (member s l i)) (members s l) (λ i m. flags-active (member s l i))
+  flags_members : (l : ℕ) → flagged_members s active_flags l ≡ active_members s st l
+  unfolding flagged_members active_members
+  flags_members l = how_many_eq (λ i. flagged active_flags (member s l i)) (λ i. active st (member s l i)) (members s l) (λ i m. flags_active (member s l i))
 
-  flags-activity : (o : ℕ) → flaggedActivity s st.programme activeFlags o ≡ soundActivity s st o
-  unfolding flaggedActivity soundActivity
-  flags-activity o = rw (flags-members (leaderOf s o), flags-active o) refl
+  flags_activity : (o : ℕ) → flagged_activity s st.programme active_flags o ≡ sound_activity s st o
+  unfolding flagged_activity sound_activity
+  flags_activity o = rw (flags_members (leader_of s o), flags_active o) refl
 
-  flags-sound : (o : ℕ) → flaggedSound s st.programme activeFlags o (setting st o) ≡ soundAt s st o
-  unfolding flaggedSound soundAt
-  flags-sound o = rw (flags-activity o) refl
+  flags_sound : (o : ℕ) → flagged_sound s st.programme active_flags o (setting st o) ≡ sound_at s st o
+  unfolding flagged_sound sound_at
+  flags_sound o = rw (flags_activity o) refl
 
   -- objects are sound by the flags where they are by the state
-  pub all-flags : (n : ℕ) → every (λ o. flaggedSound s st.programme activeFlags o (setting st o)) n ≡ every (soundAt s st) n
-  all-flags n = every-eq (λ o. flaggedSound s st.programme activeFlags o (setting st o)) (soundAt s st) n (λ o l. flags-sound o)
+  pub all_flags : (n : ℕ) → every (λ o. flagged_sound s st.programme active_flags o (setting st o)) n ≡ every (sound_at s st) n
+  all_flags n = every_eq (λ o. flagged_sound s st.programme active_flags o (setting st o)) (sound_at s st) n (λ o l. flags_sound o)

@@ -11,7 +11,7 @@ use Rattle.values.specs.declared.Sort.TheVariants.{Gains, Offsets}
 use Rattle.profile.specs.declared.Verdict.{Verdict}
 use Rattle.profile.specs.declared.Verdict.TheVariants.{Accepted, Broken}
 use Rattle.profile.specs.Counting.{tabulate}
-use Rattle.profile.specs.Relations.{leaderOf, includes}
+use Rattle.profile.specs.Relations.{leader_of, includes}
 use Rattle.profile.specs.Verdict.{verdict}
 use Rattle.listener.specs.declared.Setting.{Setting}
 use Rattle.listener.specs.declared.State.{State}
@@ -20,19 +20,19 @@ use Rattle.listener.specs.declared.Refusal.TheVariants.{NotAccepted, Unsound, No
 use Rattle.listener.specs.declared.Answer.{Answer}
 use Rattle.listener.specs.declared.Answer.TheVariants.{Done, Refused}
 use Rattle.listener.specs.declared.Reply.{Reply}
-use Rattle.listener.specs.State.{stateObjects, restingState, setting}
-use Rattle.granted.specs.Granted.{grants, inWholeGroup}
+use Rattle.listener.specs.State.{state_objects, resting_state, setting}
+use Rattle.granted.specs.Granted.{grants, in_whole_group}
 use Rattle.listener.specs.Programme.{started}
-use Rattle.granted.specs.Fitting.{gainFits, offsetFits}
+use Rattle.granted.specs.Fitting.{gain_fits, offset_fits}
 use Rattle.listener.specs.Sound.{sound}
 
-abbrev pub isAccepted : Verdict → Bool
-isAccepted Accepted = true
-isAccepted (Broken rule place) = false
+abbrev pub is_accepted : Verdict → Bool
+is_accepted Accepted = true
+is_accepted (Broken rule place) = false
 
 -- "25. The sheet isn't accepted, or is level 0." Accepted under the list that is lent
 unfoldable pub opens : Sheet → List ℕ → Bool
-opens s langs = isAccepted (verdict s langs) && not (eqb (level s) 0)
+opens s langs = is_accepted (verdict s langs) && not (eqb (level s) 0)
 
 -- a ground for refusal: the refusal, and whether it holds
 pub record Ground : Type 0 where
@@ -40,86 +40,86 @@ pub record Ground : Type 0 where
   pub holds : Bool
 
 -- the first ground that holds, in checking order
-unfoldable pub answerBy : List Ground → Answer
-answerBy [] = Done
-answerBy (g ∷ gs) = cond g.holds (Refused g.refusal) (answerBy gs)
+unfoldable pub answer_by : List Ground → Answer
+answer_by [] = Done
+answer_by (g ∷ gs) = cond g.holds (Refused g.refusal) (answer_by gs)
 
 -- a refused call hands back the state that it was given, one that is done another
-unfoldable pub replyBy : Answer → State → State → Reply
-replyBy Done given made = record { answer = Done; state = made }
-replyBy (Refused r) given made = record { answer = Refused r; state = given }
+unfoldable pub reply_by : Answer → State → State → Reply
+reply_by Done given made = record { answer = Done; state = made }
+reply_by (Refused r) given made = record { answer = Refused r; state = given }
 
 -- "25. The sheet isn't accepted, or is level 0." "26. The state isn't sound for the sheet."
-unfoldable pub notOpen : Sheet → List ℕ → Ground
-notOpen s langs = record { refusal = NotAccepted; holds = not (opens s langs) }
+unfoldable pub not_open : Sheet → List ℕ → Ground
+not_open s langs = record { refusal = NotAccepted; holds = not (opens s langs) }
 
-unfoldable pub notSound : Sheet → State → Ground
-notSound s st = record { refusal = Unsound; holds = not (sound s st) }
+unfoldable pub not_sound : Sheet → State → Ground
+not_sound s st = record { refusal = Unsound; holds = not (sound s st) }
 
 -- "28. The object isn't included in the programme."
-unfoldable pub notIncluded : Sheet → State → ℕ → Ground
-notIncluded s st o = record { refusal = NotIncluded; holds = not (includes s st.programme o) }
+unfoldable pub not_included : Sheet → State → ℕ → Ground
+not_included s st o = record { refusal = NotIncluded; holds = not (includes s st.programme o) }
 
 -- "opening chooses 0"; "Opening can meet 25 only"
 unfoldable pub opened : Sheet → List ℕ → Reply
-opened s langs = replyBy (answerBy (notOpen s langs ∷ [])) restingState (started s 0)
+opened s langs = reply_by (answer_by (not_open s langs ∷ [])) resting_state (started s 0)
 
 -- "27. No such programme."
-unfoldable pub noProgramme : Sheet → ℕ → Ground
-noProgramme s p = record { refusal = NoProgramme; holds = leb (count s programmes) p }
+unfoldable pub no_programme : Sheet → ℕ → Ground
+no_programme s p = record { refusal = NoProgramme; holds = leb (count s programmes) p }
 
 -- "a programme choice 25 to 27"
-unfoldable pub programmeAnswer : Sheet → List ℕ → State → ℕ → Answer
-programmeAnswer s langs st p = answerBy (notOpen s langs ∷ notSound s st ∷ noProgramme s p ∷ [])
+unfoldable pub programme_answer : Sheet → List ℕ → State → ℕ → Answer
+programme_answer s langs st p = answer_by (not_open s langs ∷ not_sound s st ∷ no_programme s p ∷ [])
 
-unfoldable pub chosenProgramme : Sheet → List ℕ → State → ℕ → Reply
-chosenProgramme s langs st p = replyBy (programmeAnswer s langs st p) st (started s p)
+unfoldable pub chosen_programme : Sheet → List ℕ → State → ℕ → Reply
+chosen_programme s langs st p = reply_by (programme_answer s langs st p) st (started s p)
 
 -- "29. The object isn't in a wholly included group."
-unfoldable pub notInGroup : Sheet → State → ℕ → Ground
-notInGroup s st o = record { refusal = NotInGroup; holds = not (inWholeGroup s st.programme o) }
+unfoldable pub not_in_group : Sheet → State → ℕ → Ground
+not_in_group s st o = record { refusal = NotInGroup; holds = not (in_whole_group s st.programme o) }
 
 -- "an object choice 25, 26, 28, 29"
-unfoldable pub objectAnswer : Sheet → List ℕ → State → ℕ → Answer
-objectAnswer s langs st o = answerBy (notOpen s langs ∷ notSound s st ∷ notIncluded s st o ∷ notInGroup s st o ∷ [])
+unfoldable pub object_answer : Sheet → List ℕ → State → ℕ → Answer
+object_answer s langs st o = answer_by (not_open s langs ∷ not_sound s st ∷ not_included s st o ∷ not_in_group s st o ∷ [])
 
 -- "Choosing an object makes it active and the rest of its group inactive."
-unfoldable pub movedSetting : Sheet → State → ℕ → ℕ → Setting
-movedSetting s st o q =
-    cond (eqb (leaderOf s q) (leaderOf s o))
+unfoldable pub moved_setting : Sheet → State → ℕ → ℕ → Setting
+moved_setting s st o q =
+    cond (eqb (leader_of s q) (leader_of s o))
     (record { active = eqb q o; gain = (setting st q).gain; offset = (setting st q).offset })
     (setting st q)
 
 unfoldable pub moved : Sheet → State → ℕ → State
-moved s st o = record { programme = st.programme; objects = tabulate (movedSetting s st o) stateObjects }
+moved s st o = record { programme = st.programme; objects = tabulate (moved_setting s st o) state_objects }
 
-unfoldable pub chosenObject : Sheet → List ℕ → State → ℕ → Reply
-chosenObject s langs st o = replyBy (objectAnswer s langs st o) st (moved s st o)
+unfoldable pub chosen_object : Sheet → List ℕ → State → ℕ → Reply
+chosen_object s langs st o = reply_by (object_answer s langs st o) st (moved s st o)
 
 -- "30. No effective range of that sort."
-unfoldable pub noRange : Sheet → State → ℕ → Sort → Ground
-noRange s st o t = record { refusal = NoRange; holds = not (grants s st.programme o t) }
+unfoldable pub no_range : Sheet → State → ℕ → Sort → Ground
+no_range s st o t = record { refusal = NoRange; holds = not (grants s st.programme o t) }
 
 -- "31. The value isn't legal or is outside that range."
-unfoldable pub outsideRange : Bool → Ground
-outsideRange fits = record { refusal = Outside; holds = not fits }
+unfoldable pub outside_range : Bool → Ground
+outside_range fits = record { refusal = Outside; holds = not fits }
 
 -- "a gain or offset call 25, 26, 28, 30, 31"
-unfoldable pub valueAnswer : Sheet → List ℕ → State → ℕ → Sort → Bool → Answer
-valueAnswer s langs st o t fits = answerBy (notOpen s langs ∷ notSound s st ∷ notIncluded s st o ∷ noRange s st o t ∷ outsideRange fits ∷ [])
+unfoldable pub value_answer : Sheet → List ℕ → State → ℕ → Sort → Bool → Answer
+value_answer s langs st o t fits = answer_by (not_open s langs ∷ not_sound s st ∷ not_included s st o ∷ no_range s st o t ∷ outside_range fits ∷ [])
 
 -- "A gain or offset call stores the value in that object, active or not"
-unfoldable pub withSetting : State → ℕ → Setting → State
-withSetting st o x = record { programme = st.programme; objects = cond (ltb o stateObjects) (set st.objects o x) st.objects }
+unfoldable pub with_setting : State → ℕ → Setting → State
+with_setting st o x = record { programme = st.programme; objects = cond (ltb o state_objects) (set st.objects o x) st.objects }
 
-unfoldable pub withGain : State → ℕ → Gain → State
-withGain st o g = withSetting st o (record { active = (setting st o).active; gain = g; offset = (setting st o).offset })
+unfoldable pub with_gain : State → ℕ → Gain → State
+with_gain st o g = with_setting st o (record { active = (setting st o).active; gain = g; offset = (setting st o).offset })
 
-unfoldable pub withOffset : State → ℕ → ℤ → State
-withOffset st o z = withSetting st o (record { active = (setting st o).active; gain = (setting st o).gain; offset = z })
+unfoldable pub with_offset : State → ℕ → ℤ → State
+with_offset st o z = with_setting st o (record { active = (setting st o).active; gain = (setting st o).gain; offset = z })
 
-unfoldable pub gainSet : Sheet → List ℕ → State → ℕ → Gain → Reply
-gainSet s langs st o g = replyBy (valueAnswer s langs st o Gains (gainFits s st.programme o g)) st (withGain st o g)
+unfoldable pub gain_set : Sheet → List ℕ → State → ℕ → Gain → Reply
+gain_set s langs st o g = reply_by (value_answer s langs st o Gains (gain_fits s st.programme o g)) st (with_gain st o g)
 
-unfoldable pub offsetSet : Sheet → List ℕ → State → ℕ → ℤ → Reply
-offsetSet s langs st o z = replyBy (valueAnswer s langs st o Offsets (offsetFits s st.programme o z)) st (withOffset st o z)
+unfoldable pub offset_set : Sheet → List ℕ → State → ℕ → ℤ → Reply
+offset_set s langs st o z = reply_by (value_answer s langs st o Offsets (offset_fits s st.programme o z)) st (with_offset st o z)

@@ -6,20 +6,20 @@ use Rattle.std.specs.Prelude.{ℕ, Bool, cond, ◌&&◌, ◌||◌, List, [], ◌
 use Rattle.std.proofs.lemmas.List.Edits.{sets}
 use Rattle.sheet.specs.Words.{Sheet}
 use Rattle.sheet.specs.Layout.{count, number, entry}
-use Rattle.sheet.specs.Fields.{objects, trackList, childList}
-use Rattle.profile.specs.Counting.{any, concatBelow, tabulate}
-use Rattle.profile.specs.Relations.{lists, trackAt}
+use Rattle.sheet.specs.Fields.{objects, track_list, child_list}
+use Rattle.profile.specs.Counting.{any, concat_below, tabulate}
+use Rattle.profile.specs.Relations.{lists, track_at}
 use Rattle.listener.specs.declared.State.{State}
 use Rattle.listener.specs.declared.Refusal.TheVariants.{TooFewWords}
 use Rattle.listener.specs.declared.Answer.{Answer}
 use Rattle.listener.specs.declared.Answer.TheVariants.{Done, Refused}
 use Rattle.listener.specs.declared.Listing.{Listing}
-use Rattle.listener.specs.State.{stateObjects, active}
-use Rattle.listener.specs.Calls.{Ground, answerBy, notOpen, notSound}
+use Rattle.listener.specs.State.{state_objects, active}
+use Rattle.listener.specs.Calls.{Ground, answer_by, not_open, not_sound}
 
 -- the object sounds: "while it is active, a child while its parent sounds"
 unfoldable pub sounds : Sheet → State → ℕ → Bool
-sounds s st o = active st o || any (λ q. active st q && lists s objects q childList o) (count s objects)
+sounds s st o = active st o || any (λ q. active st q && lists s objects q child_list o) (count s objects)
 
 -- an entry with the sounding object that it was written from: "An object's own entries are those written from its track list"
 pub record Entry : Type 0 where
@@ -27,47 +27,47 @@ pub record Entry : Type 0 where
   pub track : ℕ
 
 -- an object's own entries, "tracks in list order"
-unfoldable pub ownEntries : Sheet → ℕ → List Entry
-ownEntries s o = tabulate (λ i. record { object = o; track = trackAt s o i }) (number s objects o trackList)
+unfoldable pub own_entries : Sheet → ℕ → List Entry
+own_entries s o = tabulate (λ i. record { object = o; track = track_at s o i }) (number s objects o track_list)
 
 -- what an active object gives: its own entries, then its children's, "children in list order"
-unfoldable pub objectEntries : Sheet → ℕ → List Entry
-objectEntries s o = ownEntries s o ++ concatBelow (λ i. ownEntries s (entry s objects o childList i)) (number s objects o childList)
+unfoldable pub object_entries : Sheet → ℕ → List Entry
+object_entries s o = own_entries s o ++ concat_below (λ i. own_entries s (entry s objects o child_list i)) (number s objects o child_list)
 
 -- "the tracks of active objects by rising index"
 unfoldable pub entries : Sheet → State → List Entry
-entries s st = concatBelow (λ o. cond (active st o) (objectEntries s o) []) stateObjects
+entries s st = concat_below (λ o. cond (active st o) (object_entries s o) []) state_objects
 
 -- what is written: the tracks of the entries
-unfoldable pub listedTracks : Sheet → State → List ℕ
-listedTracks s st = map (λ (e : Entry). e.track) (entries s st)
+unfoldable pub listed_tracks : Sheet → State → List ℕ
+listed_tracks s st = map (λ (e : Entry). e.track) (entries s st)
 
 -- as many words as a listing at level 1 or 2 needs
-abbrev pub enoughWords : ℕ
-enoughWords = 28
+abbrev pub enough_words : ℕ
+enough_words = 28
 
 -- "32. The listing buffer has too few words."
-unfoldable pub tooFewWords : Sheet → State → ℕ → Ground
-tooFewWords s st words = record { refusal = TooFewWords; holds = ltb words (length (entries s st)) }
+unfoldable pub too_few_words : Sheet → State → ℕ → Ground
+too_few_words s st words = record { refusal = TooFewWords; holds = ltb words (length (entries s st)) }
 
 -- "listing 25, 26, 32"
-unfoldable pub listingAnswer : Sheet → List ℕ → State → ℕ → Answer
-listingAnswer s langs st words = answerBy (notOpen s langs ∷ notSound s st ∷ tooFewWords s st words ∷ [])
+unfoldable pub listing_answer : Sheet → List ℕ → State → ℕ → Answer
+listing_answer s langs st words = answer_by (not_open s langs ∷ not_sound s st ∷ too_few_words s st words ∷ [])
 
 -- the number of entries, none where it is refused
-abbrev pub listedBy : ℕ → Answer → Listing
-listedBy n Done = record { answer = Done; entries = n }
-listedBy n (Refused r) = record { answer = Refused r; entries = 0 }
+abbrev pub listed_by : ℕ → Answer → Listing
+listed_by n Done = record { answer = Done; entries = n }
+listed_by n (Refused r) = record { answer = Refused r; entries = 0 }
 
 -- what listing into so many words gives
 unfoldable pub listed : Sheet → List ℕ → State → ℕ → Listing
-listed s langs st words = listedBy (length (entries s st)) (listingAnswer s langs st words)
+listed s langs st words = listed_by (length (entries s st)) (listing_answer s langs st words)
 
 -- "later words stay", a refused listing writes nothing
-unfoldable pub bufferedBy : List ℕ → List ℕ → Answer → List ℕ
-bufferedBy buffer written Done = sets buffer 0 written
-bufferedBy buffer written (Refused r) = buffer
+unfoldable pub buffered_by : List ℕ → List ℕ → Answer → List ℕ
+buffered_by buffer written Done = sets buffer 0 written
+buffered_by buffer written (Refused r) = buffer
 
 -- the buffer's words afterwards
 unfoldable pub buffered : Sheet → List ℕ → State → List ℕ → List ℕ
-buffered s langs st buffer = bufferedBy buffer (listedTracks s st) (listingAnswer s langs st (length buffer))
+buffered s langs st buffer = buffered_by buffer (listed_tracks s st) (listing_answer s langs st (length buffer))

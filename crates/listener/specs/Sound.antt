@@ -5,27 +5,27 @@ use Rattle.std.specs.Prelude.{ℕ, Bool, cond, ◌&&◌, eqb, ltb}
 use Rattle.sheet.specs.Words.{Sheet}
 use Rattle.sheet.specs.Layout.{count}
 use Rattle.sheet.specs.Fields.{programmes}
-use Rattle.profile.specs.Counting.{howMany, every}
-use Rattle.profile.specs.Relations.{member, members, leaderOf, includes}
-use Rattle.granted.specs.Granted.{inWholeGroup}
-use Rattle.granted.specs.Fitting.{soundGain, soundOffset}
+use Rattle.profile.specs.Counting.{how_many, every}
+use Rattle.profile.specs.Relations.{member, members, leader_of, includes}
+use Rattle.granted.specs.Granted.{in_whole_group}
+use Rattle.granted.specs.Fitting.{sound_gain, sound_offset}
 use Rattle.listener.specs.declared.State.{State}
-use Rattle.listener.specs.State.{stateObjects, setting, active, isResting}
+use Rattle.listener.specs.State.{state_objects, setting, active, is_resting}
 
 -- how many members of a leader's group are active
-unfoldable pub activeMembers : Sheet → State → ℕ → ℕ
-activeMembers s st l = howMany (λ i. active st (member s l i)) (members s l)
+unfoldable pub active_members : Sheet → State → ℕ → ℕ
+active_members s st l = how_many (λ i. active st (member s l i)) (members s l)
 
 -- "activity is as started, except that any one member of a wholly included group may be the active one"
-unfoldable pub soundActivity : Sheet → State → ℕ → Bool
-soundActivity s st o = cond (inWholeGroup s st.programme o) (eqb (activeMembers s st (leaderOf s o)) 1) (active st o)
+unfoldable pub sound_activity : Sheet → State → ℕ → Bool
+sound_activity s st o = cond (in_whole_group s st.programme o) (eqb (active_members s st (leader_of s o)) 1) (active st o)
 
 -- one object of a sound state
-unfoldable pub soundAt : Sheet → State → ℕ → Bool
-soundAt s st o =
+unfoldable pub sound_at : Sheet → State → ℕ → Bool
+sound_at s st o =
     cond (includes s st.programme o)
-    (soundActivity s st o && soundGain s st.programme o (setting st o).gain && soundOffset s st.programme o (setting st o).offset)
-    (isResting (setting st o))
+    (sound_activity s st o && sound_gain s st.programme o (setting st o).gain && sound_offset s st.programme o (setting st o).offset)
+    (is_resting (setting st o))
 
 unfoldable pub sound : Sheet → State → Bool
-sound s st = ltb st.programme (count s programmes) && every (soundAt s st) stateObjects
+sound s st = ltb st.programme (count s programmes) && every (sound_at s st) state_objects

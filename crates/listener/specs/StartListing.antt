@@ -6,25 +6,25 @@ use Rattle.sheet.specs.Words.{Sheet}
 use Rattle.listener.specs.declared.Answer.{Answer}
 use Rattle.listener.specs.declared.Listing.{Listing}
 use Rattle.listener.specs.Programme.{started}
-use Rattle.listener.specs.Calls.{answerBy, notOpen, noProgramme}
-use Rattle.listener.specs.Listing.{entries, listedTracks, tooFewWords, listedBy, bufferedBy}
+use Rattle.listener.specs.Calls.{answer_by, not_open, no_programme}
+use Rattle.listener.specs.Listing.{entries, listed_tracks, too_few_words, listed_by, buffered_by}
 
 -- what the listing of a programme's start writes
-unfoldable pub startTracks : Sheet → ℕ → List ℕ
-startTracks s p = listedTracks s (started s p)
+unfoldable pub start_tracks : Sheet → ℕ → List ℕ
+start_tracks s p = listed_tracks s (started s p)
 
 -- how many entries it has
-unfoldable pub startNumber : Sheet → ℕ → ℕ
-startNumber s p = length (entries s (started s p))
+unfoldable pub start_number : Sheet → ℕ → ℕ
+start_number s p = length (entries s (started s p))
 
 -- "refuses by 25, 27, 32"
-unfoldable pub startAnswer : Sheet → List ℕ → ℕ → ℕ → Answer
-startAnswer s langs p words = answerBy (notOpen s langs ∷ noProgramme s p ∷ tooFewWords s (started s p) words ∷ [])
+unfoldable pub start_answer : Sheet → List ℕ → ℕ → ℕ → Answer
+start_answer s langs p words = answer_by (not_open s langs ∷ no_programme s p ∷ too_few_words s (started s p) words ∷ [])
 
 -- what it gives for so many words
-unfoldable pub startListed : Sheet → List ℕ → ℕ → ℕ → Listing
-startListed s langs p words = listedBy (startNumber s p) (startAnswer s langs p words)
+unfoldable pub start_listed : Sheet → List ℕ → ℕ → ℕ → Listing
+start_listed s langs p words = listed_by (start_number s p) (start_answer s langs p words)
 
 -- the buffer's words afterwards
-unfoldable pub startBuffered : Sheet → List ℕ → ℕ → List ℕ → List ℕ
-startBuffered s langs p buffer = bufferedBy buffer (startTracks s p) (startAnswer s langs p (length buffer))
+unfoldable pub start_buffered : Sheet → List ℕ → ℕ → List ℕ → List ℕ
+start_buffered s langs p buffer = buffered_by buffer (start_tracks s p) (start_answer s langs p (length buffer))

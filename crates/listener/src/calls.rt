@@ -1,13 +1,13 @@
 // Opening and the four calls: methods by value, each with the refusals of document 01 in its checking order.
 ghost use Rattle.std.specs.Prelude.{◌≡◌};
-ghost use Rattle.listener.specs.Calls.{chosenObject, chosenProgramme, gainSet, moved, offsetSet, opened, opens};
-ghost use Rattle.granted.specs.Fitting.{gainFits, offsetFits};
+ghost use Rattle.listener.specs.Calls.{chosen_object, chosen_programme, gain_set, moved, offset_set, opened, opens};
+ghost use Rattle.granted.specs.Fitting.{gain_fits, offset_fits};
 ghost use Rattle.granted.specs.Granted.{grants};
-ghost use Rattle.listener.specs.State.{restingState};
-ghost use Rattle.listener.specs.steps.Answers.{groupAnswer, isDone, numberAnswer, rangeAnswer, whenSound};
-ghost use Rattle.listener.specs.steps.Settings.{movedFrom};
+ghost use Rattle.listener.specs.State.{resting_state};
+ghost use Rattle.listener.specs.steps.Answers.{group_answer, is_done, number_answer, range_answer, when_sound};
+ghost use Rattle.listener.specs.steps.Settings.{moved_from};
 ghost use Rattle.profile.specs.Relations.{includes};
-ghost use Rattle.sheet.specs.Words.{sheetOf, words};
+ghost use Rattle.sheet.specs.Words.{sheet_of, words};
 ghost use Rattle.tables.specs.steps.Right.{Leaders};
 ghost use Rattle.values.specs.declared.Sort.TheVariants.{Gains, Offsets};
 
@@ -28,7 +28,7 @@ use values::{Gain, Sort};
 
 // Whether the sheet is accepted under the lent list of languages, and not of level 0.
 pub fn opens(s: &[u8], langs: &[u8]) -> bool
-    ensures { result ≡ opens (sheetOf s.now) (words langs.now) }
+    ensures { result ≡ opens (sheet_of s.now) (words langs.now) }
 {
     let verdict = check(s, langs);
     match verdict {
@@ -39,7 +39,7 @@ pub fn opens(s: &[u8], langs: &[u8]) -> bool
 
 // "Refused opening gives programme 0 and 84 times inactive, 0, 0."
 fn resting_state() -> State
-    ensures { result ≡ restingState }
+    ensures { result ≡ resting_state }
 {
     let x = resting();
     State {
@@ -50,7 +50,7 @@ fn resting_state() -> State
 
 // "opening chooses 0"; it can meet 25 only.
 pub fn open(s: &[u8], langs: &[u8]) -> Reply
-    ensures { result ≡ opened (sheetOf s.now) (words langs.now) }
+    ensures { result ≡ opened (sheet_of s.now) (words langs.now) }
 {
     if opens(s, langs) {
         Reply {
@@ -67,7 +67,7 @@ pub fn open(s: &[u8], langs: &[u8]) -> Reply
 
 // 25 and 26, then whatever else the call can meet.
 pub fn when_sound(s: &[u8], langs: &[u8], state: State, rest: Answer) -> Answer
-    ensures { result ≡ whenSound (sheetOf s.now) (words langs.now) state rest }
+    ensures { result ≡ when_sound (sheet_of s.now) (words langs.now) state rest }
 {
     if opens(s, langs) {
         if sound(s, state) {
@@ -82,7 +82,7 @@ pub fn when_sound(s: &[u8], langs: &[u8], state: State, rest: Answer) -> Answer
 
 // 27.
 fn number_answer(s: &[u8], p: u16) -> Answer
-    ensures { result ≡ numberAnswer (sheetOf s.now) p }
+    ensures { result ≡ number_answer (sheet_of s.now) p }
 {
     if count(s, PROGRAMMES) <= p {
         Answer::Refused(Refusal::NoProgramme)
@@ -93,7 +93,7 @@ fn number_answer(s: &[u8], p: u16) -> Answer
 
 // 28 and 29.
 fn group_answer(s: &[u8], p: u16, o: u16) -> Answer
-    ensures { result ≡ groupAnswer (sheetOf s.now) p o }
+    ensures { result ≡ group_answer (sheet_of s.now) p o }
 {
     if includes(s, p, o) {
         if in_whole_group(s, p, o) {
@@ -108,7 +108,7 @@ fn group_answer(s: &[u8], p: u16, o: u16) -> Answer
 
 // 28, 30 and 31.
 fn range_answer(s: &[u8], p: u16, o: u16, granted: bool, fits: bool) -> Answer
-    ensures { result ≡ rangeAnswer (includes (sheetOf s.now) p o) granted fits }
+    ensures { result ≡ range_answer (includes (sheet_of s.now) p o) granted fits }
 {
     if includes(s, p, o) {
         if granted {
@@ -126,14 +126,14 @@ fn range_answer(s: &[u8], p: u16, o: u16, granted: bool, fits: bool) -> Answer
 }
 
 fn gain_answer(s: &[u8], p: u16, o: u16, gain: Gain) -> Answer
-    ensures { result ≡ rangeAnswer (includes (sheetOf s.now) p o) (grants (sheetOf s.now) p o Gains) (gainFits (sheetOf s.now) p o gain) }
+    ensures { result ≡ range_answer (includes (sheet_of s.now) p o) (grants (sheet_of s.now) p o Gains) (gain_fits (sheet_of s.now) p o gain) }
 {
     let range = granted_range(s, p, o, Sort::Gains);
     range_answer(s, p, o, is_range(range), gain_within(range, gain))
 }
 
 fn offset_answer(s: &[u8], p: u16, o: u16, offset: i16) -> Answer
-    ensures { result ≡ rangeAnswer (includes (sheetOf s.now) p o) (grants (sheetOf s.now) p o Offsets) (offsetFits (sheetOf s.now) p o offset) }
+    ensures { result ≡ range_answer (includes (sheet_of s.now) p o) (grants (sheet_of s.now) p o Offsets) (offset_fits (sheet_of s.now) p o offset) }
 {
     let range = granted_range(s, p, o, Sort::Offsets);
     range_answer(s, p, o, is_range(range), offset_within(range, offset))
@@ -141,7 +141,7 @@ fn offset_answer(s: &[u8], p: u16, o: u16, offset: i16) -> Answer
 
 // A call that is done gives a new state, a refused one that which it was given.
 fn is_done(answer: Answer) -> bool
-    ensures { result ≡ isDone answer }
+    ensures { result ≡ is_done answer }
 {
     match answer {
         Answer::Done => true,
@@ -151,7 +151,7 @@ fn is_done(answer: Answer) -> bool
 
 // An object choice: 28 and 29 are asked only after 25 and 26.
 fn object_answer(s: &[u8], langs: &[u8], state: State, o: u16) -> Answer
-    ensures { result ≡ whenSound (sheetOf s.now) (words langs.now) state (groupAnswer (sheetOf s.now) state.programme o) }
+    ensures { result ≡ when_sound (sheet_of s.now) (words langs.now) state (group_answer (sheet_of s.now) state.programme o) }
 {
     let p = state.programme;
     let first = when_sound(s, langs, state, Answer::Done);
@@ -163,7 +163,7 @@ fn object_answer(s: &[u8], langs: &[u8], state: State, o: u16) -> Answer
 
 // "Choosing an object makes it active and the rest of its group inactive."
 fn moved_setting(s: &[u8], leaders: &[u16], o: u16, q: u16, x: Setting) -> Setting
-    ensures { Leaders (sheetOf s.now) leaders.now → result ≡ movedFrom (sheetOf s.now) o q x }
+    ensures { Leaders (sheet_of s.now) leaders.now → result ≡ moved_from (sheet_of s.now) o q x }
 {
     if leader_by(s, leaders, q) == leader_by(s, leaders, o) {
         let gain = x.gain;
@@ -178,7 +178,7 @@ fn moved_setting(s: &[u8], leaders: &[u16], o: u16, q: u16, x: Setting) -> Setti
 }
 
 fn moved(s: &[u8], state: State, o: u16) -> State
-    ensures { result ≡ moved (sheetOf s.now) state o }
+    ensures { result ≡ moved (sheet_of s.now) state o }
 {
     let mut leaders: [u16; STATE_OBJECTS] = [0; STATE_OBJECTS];
     find_leaders(s, &mut leaders);
@@ -199,7 +199,7 @@ fn moved(s: &[u8], state: State, o: u16) -> State
 impl State {
     // Starts a programme.
     pub fn choose_programme(self, s: &[u8], langs: &[u8], p: u16) -> Reply
-        ensures { result ≡ chosenProgramme (sheetOf s.now) (words langs.now) self p }
+        ensures { result ≡ chosen_programme (sheet_of s.now) (words langs.now) self p }
     {
         let answer = when_sound(s, langs, self, number_answer(s, p));
         match answer {
@@ -216,7 +216,7 @@ impl State {
 
     // Makes an object the active one of its group.
     pub fn choose_object(self, s: &[u8], langs: &[u8], o: u16) -> Reply
-        ensures { result ≡ chosenObject (sheetOf s.now) (words langs.now) self o }
+        ensures { result ≡ chosen_object (sheet_of s.now) (words langs.now) self o }
     {
         let answer = object_answer(s, langs, self, o);
         match answer {
@@ -233,7 +233,7 @@ impl State {
 
     // Stores a gain in an object, active or not.
     pub fn set_gain(mut self, s: &[u8], langs: &[u8], o: u16, gain: Gain) -> Reply
-        ensures { result ≡ gainSet (sheetOf s.now) (words langs.now) self o gain }
+        ensures { result ≡ gain_set (sheet_of s.now) (words langs.now) self o gain }
     {
         let p = self.programme;
         let answer = if opens(s, langs) {
@@ -262,7 +262,7 @@ impl State {
 
     // Stores an offset in an object, active or not.
     pub fn set_offset(mut self, s: &[u8], langs: &[u8], o: u16, offset: i16) -> Reply
-        ensures { result ≡ offsetSet (sheetOf s.now) (words langs.now) self o offset }
+        ensures { result ≡ offset_set (sheet_of s.now) (words langs.now) self o offset }
     {
         let p = self.programme;
         let answer = if opens(s, langs) {

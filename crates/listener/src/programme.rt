@@ -1,7 +1,7 @@
 // What choosing a programme gives the state.
 ghost use Rattle.std.specs.Prelude.{◌≡◌};
-ghost use Rattle.listener.specs.Programme.{startSetting, started};
-ghost use Rattle.sheet.specs.Words.{sheetOf};
+ghost use Rattle.listener.specs.Programme.{start_setting, started};
+ghost use Rattle.sheet.specs.Words.{sheet_of};
 ghost use Rattle.tables.specs.steps.Right.{Included, Leaders};
 
 use crate::settings::resting;
@@ -16,7 +16,7 @@ use values::signed::signed;
 
 // What choosing a programme gives an object.
 fn start_setting(s: &[u8], p: u16, leaders: &[u16], marks: &[u16], o: u16) -> Setting
-    ensures { Leaders (sheetOf s.now) leaders.now → Included (sheetOf s.now) p marks.now → result ≡ startSetting (sheetOf s.now) p o }
+    ensures { Leaders (sheet_of s.now) leaders.now → Included (sheet_of s.now) p marks.now → result ≡ start_setting (sheet_of s.now) p o }
 {
     if included_by(s, p, marks, o) {
         Setting {
@@ -31,7 +31,7 @@ fn start_setting(s: &[u8], p: u16, leaders: &[u16], marks: &[u16], o: u16) -> Se
 
 // A programme as it starts. What it doesn't include, as all numbers from n on, is at rest.
 pub fn started(s: &[u8], p: u16) -> State
-    ensures { result ≡ started (sheetOf s.now) p }
+    ensures { result ≡ started (sheet_of s.now) p }
 {
     let mut leaders: [u16; STATE_OBJECTS] = [0; STATE_OBJECTS];
     find_leaders(s, &mut leaders);

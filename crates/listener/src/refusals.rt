@@ -1,11 +1,11 @@
 // Document 01's numbers of the listener's own refusals.
 ghost use Rattle.std.specs.Prelude.{◌≡◌};
-ghost use Rattle.listener.specs.State.{refusalNumber};
+ghost use Rattle.listener.specs.State.{refusal_number};
 
 use crate::Refusal;
 
 pub fn refusal_number(refusal: Refusal) -> u16
-    ensures { result ≡ refusalNumber refusal }
+    ensures { result ≡ refusal_number refusal }
 {
     match refusal {
         Refusal::NotAccepted => 25,

@@ -1,6 +1,6 @@
 // Settings at rest.
 ghost use Rattle.std.specs.Prelude.{◌≡◌};
-ghost use Rattle.listener.specs.State.{isResting, resting};
+ghost use Rattle.listener.specs.State.{is_resting, resting};
 
 use crate::Setting;
 use granted::fitting::{same_gain, same_offset};
@@ -19,7 +19,7 @@ pub fn resting() -> Setting
 
 // Whether a setting is "inactive, 0, 0".
 pub fn is_resting(x: Setting) -> bool
-    ensures { result ≡ isResting x }
+    ensures { result ≡ is_resting x }
 {
     let gain = x.gain;
     let offset = x.offset;

@@ -1,10 +1,10 @@
 // Whether a state is sound for a sheet.
 ghost use Rattle.std.specs.Prelude.{ℕ, ◌<◌, ◌≤◌, length, false, ◌≡◌};
 ghost use Rattle.listener.specs.Sound.{sound};
-ghost use Rattle.listener.specs.State.{stateObjects};
-ghost use Rattle.listener.specs.steps.Settings.{flaggedSound};
+ghost use Rattle.listener.specs.State.{state_objects};
+ghost use Rattle.listener.specs.steps.Settings.{flagged_sound};
 ghost use Rattle.profile.specs.Relations.{includes};
-ghost use Rattle.sheet.specs.Words.{sheetOf};
+ghost use Rattle.sheet.specs.Words.{sheet_of};
 ghost use Rattle.tables.specs.steps.Marks.{Standing};
 ghost use Rattle.tables.specs.steps.Right.{Included, Leaders};
 
@@ -20,10 +20,10 @@ use tables::Mark;
 use tables::marks::mark_at;
 use tables::reads::included_by;
 
-// Writes 1 for the objects that the programme includes, into a table of noughts. Gives one more than the highest number of one below `stateObjects`,
+// Writes 1 for the objects that the programme includes, into a table of noughts. Gives one more than the highest number of one below `state_objects`,
 // 0 where there is none.
 pub fn enter_included(s: &[u8], p: u16, marks: &mut [u16]) -> u16
-    ensures { (length marks.new ≡ length marks.old) × (result ≤ stateObjects) × ((o : ℕ) → result ≤ o → o < stateObjects → includes (sheetOf s.now) p o ≡ false) × (Standing (λ x. 0) marks.old → Included (sheetOf s.now) p marks.new) }
+    ensures { (length marks.new ≡ length marks.old) × (result ≤ state_objects) × ((o : ℕ) → result ≤ o → o < state_objects → includes (sheet_of s.now) p o ≡ false) × (Standing (λ x. 0) marks.old → Included (sheet_of s.now) p marks.new) }
 {
     let n = number(s, PROGRAMMES, p, CONTENT_LIST);
     let mut past: u16 = 0;
@@ -50,7 +50,7 @@ fn sound_at(
     o: u16,
     x: Setting,
 ) -> bool
-    ensures { Leaders (sheetOf s.now) leaders.now → Included (sheetOf s.now) p marks.now → result ≡ flaggedSound (sheetOf s.now) p active.now o x }
+    ensures { Leaders (sheet_of s.now) leaders.now → Included (sheet_of s.now) p marks.now → result ≡ flagged_sound (sheet_of s.now) p active.now o x }
 {
     if included_by(s, p, marks, o) {
         let gain = x.gain;
@@ -64,7 +64,7 @@ fn sound_at(
 // Whether a state is sound for the sheet. What the programme doesn't include is at rest, so it has no part in a group. The loops stand
 // in one function, since a call that takes a state copies it; the long one comes last, when that copy is long done.
 pub fn sound(s: &[u8], state: State) -> bool
-    ensures { result ≡ sound (sheetOf s.now) state }
+    ensures { result ≡ sound (sheet_of s.now) state }
 {
     let p = state.programme;
     if count(s, PROGRAMMES) <= p {

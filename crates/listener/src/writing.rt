@@ -1,11 +1,11 @@
 // Listing: the tracks of the active objects, into lent words.
 ghost use Rattle.std.specs.Prelude.{◌+◌, ◌≤◌, length, cond, [], ◌≡◌};
 ghost use Rattle.std.proofs.lemmas.List.Edits.{sets};
-ghost use Rattle.listener.specs.Listing.{buffered, listed, listedBy};
-ghost use Rattle.listener.specs.StartListing.{startBuffered, startListed};
+ghost use Rattle.listener.specs.Listing.{buffered, listed, listed_by};
+ghost use Rattle.listener.specs.StartListing.{start_buffered, start_listed};
 ghost use Rattle.listener.specs.declared.Answer.TheVariants.{Refused};
-ghost use Rattle.listener.specs.steps.Tracks.{childTracks, objectNumber, objectTracks, ownTracks, stateNumber, stateTracks};
-ghost use Rattle.sheet.specs.Words.{sheetOf, words};
+ghost use Rattle.listener.specs.steps.Tracks.{child_tracks, object_number, object_tracks, own_tracks, state_number, state_tracks};
+ghost use Rattle.sheet.specs.Words.{sheet_of, words};
 
 use crate::calls::{opens, when_sound};
 use crate::programme::started;
@@ -16,7 +16,7 @@ use sheet::layout::{count, entry, number};
 
 // How many entries an object gives if it is active: its own tracks and its children's.
 fn number_when(s: &[u8], active: bool, o: u16) -> u64
-    ensures { (result ≡ cond active (objectNumber (sheetOf s.now) o) 0) × (result ≤ 4295032830) }
+    ensures { (result ≡ cond active (object_number (sheet_of s.now) o) 0) × (result ≤ 4295032830) }
 {
     if active {
         number(s, OBJECTS, o, TRACK_LIST) as u64 + children_tracks(s, o) as u64
@@ -27,7 +27,7 @@ fn number_when(s: &[u8], active: bool, o: u16) -> u64
 
 // How many entries the listing has.
 fn state_number(s: &[u8], state: State) -> u64
-    ensures { result ≡ stateNumber (sheetOf s.now) state }
+    ensures { result ≡ state_number (sheet_of s.now) state }
 {
     let mut total: u64 = 0;
     let mut o: u16 = 0;
@@ -41,8 +41,8 @@ fn state_number(s: &[u8], state: State) -> u64
 
 // Writes an object's own tracks from a place on.
 fn write_own(s: &[u8], o: u16, buffer: &mut [u16], at: usize) -> usize
-    requires { at + length (ownTracks (sheetOf s.now) o) ≤ length buffer.old }
-    ensures { (result ≡ at + length (ownTracks (sheetOf s.now) o)) × (buffer.new ≡ sets buffer.old at (ownTracks (sheetOf s.now) o)) }
+    requires { at + length (own_tracks (sheet_of s.now) o) ≤ length buffer.old }
+    ensures { (result ≡ at + length (own_tracks (sheet_of s.now) o)) × (buffer.new ≡ sets buffer.old at (own_tracks (sheet_of s.now) o)) }
 {
     let n = number(s, OBJECTS, o, TRACK_LIST);
     let mut pos = at;
@@ -57,8 +57,8 @@ fn write_own(s: &[u8], o: u16, buffer: &mut [u16], at: usize) -> usize
 
 // Writes its children's.
 fn write_children(s: &[u8], o: u16, buffer: &mut [u16], at: usize) -> usize
-    requires { at + length (childTracks (sheetOf s.now) o) ≤ length buffer.old }
-    ensures { (result ≡ at + length (childTracks (sheetOf s.now) o)) × (buffer.new ≡ sets buffer.old at (childTracks (sheetOf s.now) o)) }
+    requires { at + length (child_tracks (sheet_of s.now) o) ≤ length buffer.old }
+    ensures { (result ≡ at + length (child_tracks (sheet_of s.now) o)) × (buffer.new ≡ sets buffer.old at (child_tracks (sheet_of s.now) o)) }
 {
     let n = number(s, OBJECTS, o, CHILD_LIST);
     let mut pos = at;
@@ -72,8 +72,8 @@ fn write_children(s: &[u8], o: u16, buffer: &mut [u16], at: usize) -> usize
 
 // Writes both.
 fn write_object(s: &[u8], o: u16, buffer: &mut [u16], at: usize) -> usize
-    requires { at + length (objectTracks (sheetOf s.now) o) ≤ length buffer.old }
-    ensures { (result ≡ at + length (objectTracks (sheetOf s.now) o)) × (buffer.new ≡ sets buffer.old at (objectTracks (sheetOf s.now) o)) }
+    requires { at + length (object_tracks (sheet_of s.now) o) ≤ length buffer.old }
+    ensures { (result ≡ at + length (object_tracks (sheet_of s.now) o)) × (buffer.new ≡ sets buffer.old at (object_tracks (sheet_of s.now) o)) }
 {
     let pos = write_own(s, o, buffer, at);
     write_children(s, o, buffer, pos)
@@ -81,8 +81,8 @@ fn write_object(s: &[u8], o: u16, buffer: &mut [u16], at: usize) -> usize
 
 // Writes them if the object is active.
 fn write_when(s: &[u8], active: bool, o: u16, buffer: &mut [u16], at: usize) -> usize
-    requires { at + length (cond active (objectTracks (sheetOf s.now) o) []) ≤ length buffer.old }
-    ensures { (result ≡ at + length (cond active (objectTracks (sheetOf s.now) o) [])) × (buffer.new ≡ sets buffer.old at (cond active (objectTracks (sheetOf s.now) o) [])) }
+    requires { at + length (cond active (object_tracks (sheet_of s.now) o) []) ≤ length buffer.old }
+    ensures { (result ≡ at + length (cond active (object_tracks (sheet_of s.now) o) [])) × (buffer.new ≡ sets buffer.old at (cond active (object_tracks (sheet_of s.now) o) [])) }
 {
     if active {
         write_object(s, o, buffer, at)
@@ -93,8 +93,8 @@ fn write_when(s: &[u8], active: bool, o: u16, buffer: &mut [u16], at: usize) -> 
 
 // Writes all of them from the buffer's start.
 fn write_state(s: &[u8], state: State, buffer: &mut [u16]) -> usize
-    requires { length (stateTracks (sheetOf s.now) state) ≤ length buffer.old }
-    ensures { (result ≡ length (stateTracks (sheetOf s.now) state)) × (buffer.new ≡ sets buffer.old 0 (stateTracks (sheetOf s.now) state)) }
+    requires { length (state_tracks (sheet_of s.now) state) ≤ length buffer.old }
+    ensures { (result ≡ length (state_tracks (sheet_of s.now) state)) × (buffer.new ≡ sets buffer.old 0 (state_tracks (sheet_of s.now) state)) }
 {
     let mut pos: usize = 0;
     let mut o: u16 = 0;
@@ -109,7 +109,7 @@ fn write_state(s: &[u8], state: State, buffer: &mut [u16]) -> usize
 impl State {
     // Writes the tracks of the active objects and gives how many; a refused listing writes nothing.
     pub fn list(self, s: &[u8], langs: &[u8], buffer: &mut [u16]) -> Listing
-        ensures { (result ≡ listed (sheetOf s.now) (words langs.now) self (length buffer.old)) × (buffer.new ≡ buffered (sheetOf s.now) (words langs.now) self buffer.old) }
+        ensures { (result ≡ listed (sheet_of s.now) (words langs.now) self (length buffer.old)) × (buffer.new ≡ buffered (sheet_of s.now) (words langs.now) self buffer.old) }
     {
         let first = when_sound(s, langs, self, Answer::Done);
         match first {
@@ -132,7 +132,7 @@ impl State {
 
 // A refused listing "gives its number alone".
 fn refused(refusal: Refusal) -> Listing
-    ensures { result ≡ listedBy 0 (Refused refusal) }
+    ensures { result ≡ listed_by 0 (Refused refusal) }
 {
     Listing {
         answer: Answer::Refused(refusal),
@@ -142,7 +142,7 @@ fn refused(refusal: Refusal) -> Listing
 
 // The listing of a programme's start, without a state: 25, 27 and 32, in this order.
 pub fn list_start(s: &[u8], langs: &[u8], p: u32, buffer: &mut [u16]) -> Listing
-    ensures { (result ≡ startListed (sheetOf s.now) (words langs.now) p (length buffer.old)) × (buffer.new ≡ startBuffered (sheetOf s.now) (words langs.now) p buffer.old) }
+    ensures { (result ≡ start_listed (sheet_of s.now) (words langs.now) p (length buffer.old)) × (buffer.new ≡ start_buffered (sheet_of s.now) (words langs.now) p buffer.old) }
 {
     if !opens(s, langs) {
         return refused(Refusal::NotAccepted);

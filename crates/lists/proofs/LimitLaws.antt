@@ -9,11 +9,11 @@ use Rattle.sheet.specs.Words.{Sheet}
 use Rattle.sheet.specs.Layout.{level}
 use Rattle.profile.specs.Limits.{exceeds, limit}
 
-pub and-nothing : (b : Bool) → (b && false) ≡ false
-and-nothing true = refl
-and-nothing false = refl
+pub and_nothing : (b : Bool) → (b && false) ≡ false
+and_nothing true = refl
+and_nothing false = refl
 
 -- no list of no entries does
-pub no-excess : (s : Sheet) (column : ℕ) → exceeds s column 0 ≡ false
+pub no_excess : (s : Sheet) (column : ℕ) → exceeds s column 0 ≡ false
 unfolding exceeds
-no-excess s column = rw (le-ltb (limit (level s) column) 0 (omega arith)) (and-nothing (not (eqb (level s) 0)))
+no_excess s column = rw (le-ltb (limit (level s) column) 0 (omega arith)) (and_nothing (not (eqb (level s) 0)))

@@ -6,52 +6,52 @@ use mathlib.Core.Bool.{Bool, false, not, ◌||◌}
 use lib.Dec.{leb, ltb}
 use Rattle.sheet.specs.Words.{Sheet, word}
 use Rattle.sheet.specs.Layout.{count, field, number, start, entry, reference}
-use Rattle.sheet.specs.Fields.{programmes, contents, objects, references, valueSets, contentLanguage, contentObject, contentLabels, contentLoudness, programmeLanguage, contentList, setList, programmeLabels, programmeLoudness}
+use Rattle.sheet.specs.Fields.{programmes, contents, objects, references, value_sets, content_language, content_object, content_labels, content_loudness, programme_language, content_list, set_list, programme_labels, programme_loudness}
 use Rattle.values.specs.Language.{loudness}
-use Rattle.profile.specs.Counting.{any, twoOf}
-use Rattle.profile.specs.Languages.{goodLanguage}
-use Rattle.profile.specs.Limits.{exceeds, labelsLimit, programmeContentsLimit, programmeSetsLimit}
-use Rattle.profile.specs.Rules.{rule4, rule5, rule6, rule8, rule9, beyond, lacks, listLacks, badSpeech, badLabel, repeats, outside}
-use Rattle.profile.proofs.BoolLaws.{or-false, or-none-3, or-none-4}
-use Rattle.lists.specs.steps.Entries.{entryAt, lackingAt, noLanguageAt, sameAt}
-use Rattle.lists.proofs.LimitLaws.{no-excess}
-use Rattle.lists.specs.steps.Speech.{speechBroken, contentBroken, programmeListsBroken, programmeBroken}
+use Rattle.profile.specs.Counting.{any, two_of}
+use Rattle.profile.specs.Languages.{good_language}
+use Rattle.profile.specs.Limits.{exceeds, labels_limit, programme_contents_limit, programme_sets_limit}
+use Rattle.profile.specs.Rules.{rule4, rule5, rule6, rule8, rule9, beyond, lacks, list_lacks, bad_speech, bad_label, repeats, outside}
+use Rattle.profile.proofs.BoolLaws.{or_false, or_none_3, or_none_4}
+use Rattle.lists.specs.steps.Entries.{entry_at, lacking_at, no_language_at, same_at}
+use Rattle.lists.proofs.LimitLaws.{no_excess}
+use Rattle.lists.specs.steps.Speech.{speech_broken, content_broken, programme_lists_broken, programme_broken}
 
 -- an or of six that fails
-or-none-6 : (a b c d e f : Bool) → (a || b || c || d || e || f) ≡ false → (a ≡ false) × (b ≡ false) × (c ≡ false) × (d ≡ false) × (e ≡ false) × (f ≡ false)
-or-none-6 a b c d e f h =
-    let l = or-none-3 (a || b || c || d) e f h in
-    let m = or-none-4 a b c d l.0 in
+or_none_6 : (a b c d e f : Bool) → (a || b || c || d || e || f) ≡ false → (a ≡ false) × (b ≡ false) × (c ≡ false) × (d ≡ false) × (e ≡ false) × (f ≡ false)
+or_none_6 a b c d e f h =
+    let l = or_none_3 (a || b || c || d) e f h in
+    let m = or_none_4 a b c d l.0 in
     (m.0, m.1, m.2, m.3, l.1, l.2)
 
 -- a record without labels
-pub no-labels : (s : Sheet) (langs : List ℕ) (lang first loud : ℕ) → (ltb (count s references) (first + 0) || (not (goodLanguage langs lang) || not (loudness loud))) ≡ speechBroken s langs lang first 0 loud
-unfolding speechBroken any twoOf
-no-labels s langs lang first loud = simp (no-excess s labelsLimit, or-false)
+pub no_labels : (s : Sheet) (langs : List ℕ) (lang first loud : ℕ) → (ltb (count s references) (first + 0) || (not (good_language langs lang) || not (loudness loud))) ≡ speech_broken s langs lang first 0 loud
+unfolding speech_broken any two_of
+no_labels s langs lang first loud = simp (no_excess s labels_limit, or_false)
 
 -- the words of a content at their places
-pub content-kept : (s : Sheet) (langs : List ℕ) (k : ℕ) {at lang object first n loud : ℕ} → at ≡ start s contents k → lang ≡ word s (at + contentLanguage) → object ≡ word s (at + contentObject) → first ≡ word s (at + contentLabels) → n ≡ word s (at + (contentLabels + 1))
-    → loud ≡ word s (at + contentLoudness) → speechBroken s langs lang first n loud ≡ false → leb (count s objects) object ≡ false → contentBroken s langs k ≡ false
-unfolding speechBroken contentBroken rule4 beyond rule5 lacks rule6 badSpeech badLabel rule8 rule9 repeats number field entry reference entryAt noLanguageAt sameAt
-content-kept s langs k a e0 e1 e2 e3 e4 p q = let f = rw (e1, a) at q in simp (f, or-false) (rw (e0, e2, e3, e4, a) at p)
+pub content_kept : (s : Sheet) (langs : List ℕ) (k : ℕ) {at lang object first n loud : ℕ} → at ≡ start s contents k → lang ≡ word s (at + content_language) → object ≡ word s (at + content_object) → first ≡ word s (at + content_labels) → n ≡ word s (at + (content_labels + 1))
+    → loud ≡ word s (at + content_loudness) → speech_broken s langs lang first n loud ≡ false → leb (count s objects) object ≡ false → content_broken s langs k ≡ false
+unfolding speech_broken content_broken rule4 beyond rule5 lacks rule6 bad_speech bad_label rule8 rule9 repeats number field entry reference entry_at no_language_at same_at
+content_kept s langs k a e0 e1 e2 e3 e4 p q = let f = rw (e1, a) at q in simp (f, or_false) (rw (e0, e2, e3, e4, a) at p)
 
 -- the words of a programme at their places
-programme-words-kept : (s : Sheet) (langs : List ℕ) (k : ℕ) → speechBroken s langs (word s (start s programmes k + programmeLanguage)) (word s (start s programmes k + programmeLabels)) (word s (start s programmes k + 6)) (word s (start s programmes k + programmeLoudness)) ≡ false
-    → programmeListsBroken s (word s (start s programmes k + 1)) (word s (start s programmes k + 2)) (word s (start s programmes k + 3)) (word s (start s programmes k + 4)) ≡ false → programmeBroken s langs k ≡ false
-unfolding speechBroken programmeListsBroken programmeBroken rule4 beyond rule5 lacks listLacks rule6 badSpeech badLabel rule8 rule9 repeats number field entry reference entryAt lackingAt noLanguageAt sameAt
-programme-words-kept s langs k e f =
-    let p = or-none-4 (ltb (count s references) (word s (start s programmes k + 5) + word s (start s programmes k + 6))) (badSpeech s langs programmes k programmeLanguage programmeLabels programmeLoudness) (exceeds s labelsLimit (word s (start s programmes k + 6))) (repeats s programmes k programmeLabels) e in
-    let q = or-none-6
+programme_words_kept : (s : Sheet) (langs : List ℕ) (k : ℕ) → speech_broken s langs (word s (start s programmes k + programme_language)) (word s (start s programmes k + programme_labels)) (word s (start s programmes k + 6)) (word s (start s programmes k + programme_loudness)) ≡ false
+    → programme_lists_broken s (word s (start s programmes k + 1)) (word s (start s programmes k + 2)) (word s (start s programmes k + 3)) (word s (start s programmes k + 4)) ≡ false → programme_broken s langs k ≡ false
+unfolding speech_broken programme_lists_broken programme_broken rule4 beyond rule5 lacks list_lacks rule6 bad_speech bad_label rule8 rule9 repeats number field entry reference entry_at lacking_at no_language_at same_at
+programme_words_kept s langs k e f =
+    let p = or_none_4 (ltb (count s references) (word s (start s programmes k + 5) + word s (start s programmes k + 6))) (bad_speech s langs programmes k programme_language programme_labels programme_loudness) (exceeds s labels_limit (word s (start s programmes k + 6))) (repeats s programmes k programme_labels) e in
+    let q = or_none_6
     (ltb (count s references) (word s (start s programmes k + 1) + word s (start s programmes k + 2)))
     (ltb (count s references) (word s (start s programmes k + 3) + word s (start s programmes k + 4)))
-    (outside s programmeContentsLimit (word s (start s programmes k + 2)))
-    (exceeds s programmeSetsLimit (word s (start s programmes k + 4)))
-    (listLacks s contents programmes k contentList)
-    (listLacks s valueSets programmes k setList)
+    (outside s programme_contents_limit (word s (start s programmes k + 2)))
+    (exceeds s programme_sets_limit (word s (start s programmes k + 4)))
+    (list_lacks s contents programmes k content_list)
+    (list_lacks s value_sets programmes k set_list)
     f in
-    simp (p.0, p.1, p.2, p.3, q.0, q.1, q.2, q.3, q.4, q.5, or-false)
+    simp (p.0, p.1, p.2, p.3, q.0, q.1, q.2, q.3, q.4, q.5, or_false)
 
-pub programme-kept : (s : Sheet) (langs : List ℕ) (k : ℕ) {at lang first n from sets labels m loud : ℕ} → at ≡ start s programmes k → lang ≡ word s (at + programmeLanguage) → first ≡ word s (at + contentList) → n ≡ word s (at + (contentList + 1))
-    → from ≡ word s (at + setList) → sets ≡ word s (at + (setList + 1)) → labels ≡ word s (at + programmeLabels) → m ≡ word s (at + (programmeLabels + 1)) → loud ≡ word s (at + programmeLoudness)
-    → speechBroken s langs lang labels m loud ≡ false → programmeListsBroken s first n from sets ≡ false → programmeBroken s langs k ≡ false
-programme-kept s langs k a e0 e1 e2 e3 e4 e5 e6 e7 p q = programme-words-kept s langs k (rw (e0, e5, e6, e7, a) at p) (rw (e1, e2, e3, e4, a) at q)
+pub programme_kept : (s : Sheet) (langs : List ℕ) (k : ℕ) {at lang first n from sets labels m loud : ℕ} → at ≡ start s programmes k → lang ≡ word s (at + programme_language) → first ≡ word s (at + content_list) → n ≡ word s (at + (content_list + 1))
+    → from ≡ word s (at + set_list) → sets ≡ word s (at + (set_list + 1)) → labels ≡ word s (at + programme_labels) → m ≡ word s (at + (programme_labels + 1)) → loud ≡ word s (at + programme_loudness)
+    → speech_broken s langs lang labels m loud ≡ false → programme_lists_broken s first n from sets ≡ false → programme_broken s langs k ≡ false
+programme_kept s langs k a e0 e1 e2 e3 e4 e5 e6 e7 p q = programme_words_kept s langs k (rw (e0, e5, e6, e7, a) at p) (rw (e1, e2, e3, e4, a) at q)

@@ -1,8 +1,8 @@
 // Loops over the entries of a list: n entries of section 6, whose offset is `base`, from `first` on.
 ghost use Rattle.std.specs.Prelude.{◌+◌, ltb, false, true, ◌≡◌};
-ghost use Rattle.profile.specs.Counting.{any, twoOf};
-ghost use Rattle.lists.specs.steps.Entries.{badChildAt, entryAt, lackingAt, noLanguageAt, outOfOrderAt, sameAt};
-ghost use Rattle.sheet.specs.Words.{sheetOf};
+ghost use Rattle.profile.specs.Counting.{any, two_of};
+ghost use Rattle.lists.specs.steps.Entries.{bad_child_at, entry_at, lacking_at, no_language_at, out_of_order_at, same_at};
+ghost use Rattle.sheet.specs.Words.{sheet_of};
 
 use languages::list::Languages;
 use relations::objects::has_objects_pack;
@@ -19,14 +19,14 @@ pub fn beyond(count: u16, first: u16, n: u16) -> bool
 
 // The entry at a place of the list.
 pub fn entry_at(s: &[u8], base: u16, first: u16, i: u16) -> u16
-    ensures { result ≡ entryAt (sheetOf s.now) base first i }
+    ensures { result ≡ entry_at (sheet_of s.now) base first i }
 {
     word(s, base as usize + (first as usize + i as usize))
 }
 
 // Whether some entry names an index that a section of so many records lacks.
 pub fn any_lacking(s: &[u8], base: u16, first: u16, n: u16, many: u16) -> bool
-    ensures { result ≡ any (lackingAt (sheetOf s.now) base first many) n }
+    ensures { result ≡ any (lacking_at (sheet_of s.now) base first many) n }
 {
     let mut found = false;
     let mut i: u16 = 0;
@@ -39,7 +39,7 @@ pub fn any_lacking(s: &[u8], base: u16, first: u16, n: u16, many: u16) -> bool
 
 // Whether some entry is no good language.
 pub fn any_no_language(s: &[u8], langs: &Languages, base: u16, first: u16, n: u16) -> bool
-    ensures { result ≡ any (noLanguageAt (sheetOf s.now) langs.now base first) n }
+    ensures { result ≡ any (no_language_at (sheet_of s.now) langs.now base first) n }
 {
     let mut found = false;
     let mut i: u16 = 0;
@@ -52,7 +52,7 @@ pub fn any_no_language(s: &[u8], langs: &Languages, base: u16, first: u16, n: u1
 
 // Whether the entry at a place is that of an earlier place.
 fn earlier(s: &[u8], base: u16, first: u16, j: u16) -> bool
-    ensures { result ≡ any (λ i. sameAt (sheetOf s.now) base first i j) j }
+    ensures { result ≡ any (λ i. same_at (sheet_of s.now) base first i j) j }
 {
     let y = entry_at(s, base, first, j);
     let mut found = false;
@@ -66,7 +66,7 @@ fn earlier(s: &[u8], base: u16, first: u16, j: u16) -> bool
 
 // Whether two places have the same entry.
 pub fn any_twice(s: &[u8], base: u16, first: u16, n: u16) -> bool
-    ensures { result ≡ twoOf (sameAt (sheetOf s.now) base first) n }
+    ensures { result ≡ two_of (same_at (sheet_of s.now) base first) n }
 {
     let mut found = false;
     let mut j: u16 = 0;
@@ -79,7 +79,7 @@ pub fn any_twice(s: &[u8], base: u16, first: u16, n: u16) -> bool
 
 // Whether the entries are good languages and each is above the one before; then none comes twice.
 pub fn labels_rise(s: &[u8], langs: &Languages, base: u16, first: u16, n: u16) -> bool
-    ensures { result ≡ true → (any (noLanguageAt (sheetOf s.now) langs.now base first) n ≡ false) × (twoOf (sameAt (sheetOf s.now) base first) n ≡ false) }
+    ensures { result ≡ true → (any (no_language_at (sheet_of s.now) langs.now base first) n ≡ false) × (two_of (same_at (sheet_of s.now) base first) n ≡ false) }
 {
     let mut last: u16 = 0;
     let mut i: u16 = 0;
@@ -96,7 +96,7 @@ pub fn labels_rise(s: &[u8], langs: &Languages, base: u16, first: u16, n: u16) -
 
 // Whether some entry is no track, a track of another pack, or one whose ordinal is not its place in the list.
 pub fn any_out_of_order(s: &[u8], base: u16, first: u16, n: u16, pack: u16) -> bool
-    ensures { result ≡ any (outOfOrderAt (sheetOf s.now) base first pack) n }
+    ensures { result ≡ any (out_of_order_at (sheet_of s.now) base first pack) n }
 {
     let many = count(s, TRACKS);
     let mut found = false;
@@ -114,7 +114,7 @@ pub fn any_out_of_order(s: &[u8], base: u16, first: u16, n: u16, pack: u16) -> b
 
 // Whether some entry is no object, or one without a pack of kind 3.
 pub fn any_bad_child(s: &[u8], base: u16, first: u16, n: u16, many: u16) -> bool
-    ensures { result ≡ any (badChildAt (sheetOf s.now) base first many) n }
+    ensures { result ≡ any (bad_child_at (sheet_of s.now) base first many) n }
 {
     let mut found = false;
     let mut i: u16 = 0;

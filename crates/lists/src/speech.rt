@@ -1,7 +1,7 @@
 // Programmes and contents: the rules that need no table.
 ghost use Rattle.std.specs.Prelude.{false, ◌≡◌};
-ghost use Rattle.lists.specs.steps.Speech.{contentBroken, programmeBroken, programmeListsBroken, speechBroken};
-ghost use Rattle.sheet.specs.Words.{sheetOf};
+ghost use Rattle.lists.specs.steps.Speech.{content_broken, programme_broken, programme_lists_broken, speech_broken};
+ghost use Rattle.sheet.specs.Words.{sheet_of};
 
 use crate::entries::{any_lacking, any_no_language, any_twice, beyond, labels_rise};
 use crate::words::{ends_before, number_at, record_at, word_at};
@@ -20,14 +20,14 @@ const LONGEST: u16 = 16;
 
 // The language and the loudness of a content without labels.
 fn unlabelled_breaks(s: &[u8], langs: &Languages, lang: u16, first: u16, loud: u16) -> bool
-    ensures { result ≡ speechBroken (sheetOf s.now) langs.now lang first 0 loud }
+    ensures { result ≡ speech_broken (sheet_of s.now) langs.now lang first 0 loud }
 {
     beyond(count(s, REFERENCES), first, 0) | (!langs.good(lang) | !loudness(loud))
 }
 
 // The language, the labels and the loudness of a programme or content.
 fn labelled_breaks(s: &[u8], langs: &Languages, lang: u16, first: u16, n: u16, loud: u16) -> bool
-    ensures { result ≡ speechBroken (sheetOf s.now) langs.now lang first n loud }
+    ensures { result ≡ speech_broken (sheet_of s.now) langs.now lang first n loud }
 {
     let base = offset(s, REFERENCES);
     if labels_rise(s, langs, base, first, n) {
@@ -43,7 +43,7 @@ fn labelled_breaks(s: &[u8], langs: &Languages, lang: u16, first: u16, n: u16, l
 
 // Whether a content may break one of rules 4, 5, 6, 8 and 9.
 pub fn content_breaks(s: &[u8], langs: &Languages, k: u16) -> bool
-    ensures { result ≡ false → contentBroken (sheetOf s.now) langs.now k ≡ false }
+    ensures { result ≡ false → content_broken (sheet_of s.now) langs.now k ≡ false }
 {
     let at = record_at(s, CONTENTS, k);
     if ends_before(s, CONTENTS, at) {
@@ -67,7 +67,7 @@ pub fn content_breaks(s: &[u8], langs: &Languages, k: u16) -> bool
 
 // The content list and the set list of a programme.
 fn programme_lists_break(s: &[u8], first: u16, n: u16, from: u16, sets: u16) -> bool
-    ensures { result ≡ programmeListsBroken (sheetOf s.now) first n from sets }
+    ensures { result ≡ programme_lists_broken (sheet_of s.now) first n from sets }
 {
     let base = offset(s, REFERENCES);
     let many = count(s, REFERENCES);
@@ -81,7 +81,7 @@ fn programme_lists_break(s: &[u8], first: u16, n: u16, from: u16, sets: u16) -> 
 
 // Whether a programme may break one of rules 4, 5, 6, 8 and 9.
 pub fn programme_breaks(s: &[u8], langs: &Languages, k: u16) -> bool
-    ensures { result ≡ false → programmeBroken (sheetOf s.now) langs.now k ≡ false }
+    ensures { result ≡ false → programme_broken (sheet_of s.now) langs.now k ≡ false }
 {
     let at = record_at(s, PROGRAMMES, k);
     if ends_before(s, PROGRAMMES, at) {

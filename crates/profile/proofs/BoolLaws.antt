@@ -3,28 +3,28 @@ use mathlib.Core.Path.{◌≡◌, refl, sym}
 use mathlib.Core.Bool.{Bool, true, false, true≢false, not, ◌&&◌, ◌||◌}
 use mathlib.Core.Logic.{◌⊎◌, inl, inr}
 
-pub or-true : (b : Bool) → (b || true) ≡ true
-or-true true = refl
-or-true false = refl
+pub or_true : (b : Bool) → (b || true) ≡ true
+or_true true = refl
+or_true false = refl
 
-pub or-false : (b : Bool) → (b || false) ≡ b
-or-false true = refl
-or-false false = refl
+pub or_false : (b : Bool) → (b || false) ≡ b
+or_false true = refl
+or_false false = refl
 
 -- an or that fails
-pub or-none : (a b : Bool) → (a || b) ≡ false → (a ≡ false) × (b ≡ false)
-or-none true b e = absurd (true≢false e)
-or-none false b e = (refl, e)
+pub or_none : (a b : Bool) → (a || b) ≡ false → (a ≡ false) × (b ≡ false)
+or_none true b e = absurd (true≢false e)
+or_none false b e = (refl, e)
 
 -- an and that holds
-pub and-both : (a b : Bool) → (a && b) ≡ true → (a ≡ true) × (b ≡ true)
-and-both true b e = (refl, e)
-and-both false b e = absurd (true≢false (sym e))
+pub and_both : (a b : Bool) → (a && b) ≡ true → (a ≡ true) × (b ≡ true)
+and_both true b e = (refl, e)
+and_both false b e = absurd (true≢false (sym e))
 
 -- an and that fails although its first part holds
-pub and-second : (a b : Bool) → (a && b) ≡ false → a ≡ true → b ≡ false
-and-second true b e h = e
-and-second false b e h = absurd (true≢false (sym h))
+pub and_second : (a b : Bool) → (a && b) ≡ false → a ≡ true → b ≡ false
+and_second true b e h = e
+and_second false b e h = absurd (true≢false (sym h))
 
 -- one of a test and its negation holds, at both sides of two tests that do not agree
 pub opposites : (a b : Bool) → (a && b || not a && not b) ≡ false → a ≡ not b
@@ -41,22 +41,22 @@ together false true e = absurd (true≢false e)
 together false false e = refl
 
 -- an or of three, of four, that fails
-pub or-none-3 : (a b c : Bool) → (a || b || c) ≡ false → (a ≡ false) × (b ≡ false) × (c ≡ false)
-or-none-3 a b c e = let l = or-none (a || b) c e in let m = or-none a b l.0 in (m.0, m.1, l.1)
+pub or_none_3 : (a b c : Bool) → (a || b || c) ≡ false → (a ≡ false) × (b ≡ false) × (c ≡ false)
+or_none_3 a b c e = let l = or_none (a || b) c e in let m = or_none a b l.0 in (m.0, m.1, l.1)
 
-pub or-none-4 : (a b c d : Bool) → (a || b || c || d) ≡ false → (a ≡ false) × (b ≡ false) × (c ≡ false) × (d ≡ false)
-or-none-4 a b c d e = let l = or-none (a || b || c) d e in let m = or-none-3 a b c l.0 in (m.0, m.1, m.2, l.1)
+pub or_none_4 : (a b c d : Bool) → (a || b || c || d) ≡ false → (a ≡ false) × (b ≡ false) × (c ≡ false) × (d ≡ false)
+or_none_4 a b c d e = let l = or_none (a || b || c) d e in let m = or_none_3 a b c l.0 in (m.0, m.1, m.2, l.1)
 
 -- of two cases one holds, and what each forbids fails
-pub one-of : (a b c d : Bool) → (a || b) ≡ true → (b && c) ≡ false → (a && d) ≡ false → (c ≡ false) ⊎ (d ≡ false)
-one-of true b c d h e f = inr f
-one-of false true c d h e f = inl e
-one-of false false c d h e f = absurd (true≢false (sym h))
+pub one_of : (a b c d : Bool) → (a || b) ≡ true → (b && c) ≡ false → (a && d) ≡ false → (c ≡ false) ⊎ (d ≡ false)
+one_of true b c d h e f = inr f
+one_of false true c d h e f = inl e
+one_of false false c d h e f = absurd (true≢false (sym h))
 
-pub first-of-7 : (a b c d e f g : Bool) → (a || b || c || d || e || f || g) ≡ false → a ≡ false
-first-of-7 a b c d e f g h = (or-none-4 a b c d (or-none-4 (a || b || c || d) e f g h).0).0
+pub first_of_7 : (a b c d e f g : Bool) → (a || b || c || d || e || f || g) ≡ false → a ≡ false
+first_of_7 a b c d e f g h = (or_none_4 a b c d (or_none_4 (a || b || c || d) e f g h).0).0
 
 -- an or that holds
-pub or-either : (a b : Bool) → (a || b) ≡ true → (a ≡ true) ⊎ (b ≡ true)
-or-either true b e = inl refl
-or-either false b e = inr e
+pub or_either : (a b : Bool) → (a || b) ≡ true → (a ≡ true) ⊎ (b ≡ true)
+or_either true b e = inl refl
+or_either false b e = inr e

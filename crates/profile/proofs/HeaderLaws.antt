@@ -8,72 +8,72 @@ use lib.Dec.{ltb}
 use Rattle.sheet.specs.Words.{Sheet}
 use Rattle.profile.specs.declared.Verdict.TheVariants.{Accepted, Broken}
 use Rattle.profile.specs.declared.Place.TheVariants.{Header}
-use Rattle.profile.specs.Counting.{lowest, lowestFrom}
-use Rattle.profile.specs.Languages.{isRising}
+use Rattle.profile.specs.Counting.{lowest, lowest_from}
+use Rattle.profile.specs.Languages.{is_rising}
 use Rattle.profile.specs.Rules.{rule33}
-use Rattle.profile.specs.Verdict.{rules, ruleCount, ruleAt, numberAt, breaks, subjectKind, subjects, brokenRecord, sectionBroken, brokenSection, ruleBroken, brokenPosition, brokenAt, placeAt, verdict}
+use Rattle.profile.specs.Verdict.{rules, rule_count, rule_at, number_at, breaks, subject_kind, subjects, broken_record, section_broken, broken_section, rule_broken, broken_position, broken_at, place_at, verdict}
 
 -- the lowest number that has p is 0 where 0 has it, and 1 where 1 has it and 0 has not
-lowest-first : (p : ℕ → Bool) (n : ℕ) → p 0 ≡ true → lowest p (suc n) ≡ 0
-unfolding lowest lowestFrom
-lowest-first p n e = rw e refl
+lowest_first : (p : ℕ → Bool) (n : ℕ) → p 0 ≡ true → lowest p (suc n) ≡ 0
+unfolding lowest lowest_from
+lowest_first p n e = rw e refl
 
-pub lowest-second : (p : ℕ → Bool) (n : ℕ) → p 0 ≡ false → p 1 ≡ true → lowest p (suc (suc n)) ≡ 1
-unfolding lowest lowestFrom
-lowest-second p n e f = rw (e, f) refl
+pub lowest_second : (p : ℕ → Bool) (n : ℕ) → p 0 ≡ false → p 1 ≡ true → lowest p (suc (suc n)) ≡ 1
+unfolding lowest lowest_from
+lowest_second p n e f = rw (e, f) refl
 
 -- a rule with the header as its place, which is broken
-module _ (s : Sheet) (langs : List ℕ) (rule : ℕ) (one-subject : subjects s rule 0 ≡ 1) (header : breaks s langs rule 0 0 ≡ true) where
-  first-record : brokenRecord s langs rule 0 ≡ 0
-  unfolding brokenRecord
-  first-record = rw one-subject (lowest-first (breaks s langs rule 0) 0 header)
+module _ (s : Sheet) (langs : List ℕ) (rule : ℕ) (one_subject : subjects s rule 0 ≡ 1) (header : breaks s langs rule 0 0 ≡ true) where
+  first_record : broken_record s langs rule 0 ≡ 0
+  unfolding broken_record
+  first_record = rw one_subject (lowest_first (breaks s langs rule 0) 0 header)
 
-  header-section : sectionBroken s langs rule 0 ≡ true
-  unfolding sectionBroken
-  header-section = rw (first-record, one-subject) refl
+  header_section : section_broken s langs rule 0 ≡ true
+  unfolding section_broken
+  header_section = rw (first_record, one_subject) refl
 
-  first-section : brokenSection s langs rule ≡ 0
-  unfolding brokenSection
-  first-section = lowest-first (sectionBroken s langs rule) 7 header-section
+  first_section : broken_section s langs rule ≡ 0
+  unfolding broken_section
+  first_section = lowest_first (section_broken s langs rule) 7 header_section
 
-  pub rule-broken : ruleBroken s langs rule ≡ true
-  unfolding ruleBroken
-  rule-broken = rw first-section refl
+  pub rule_broken_lem : rule_broken s langs rule ≡ true
+  unfolding rule_broken
+  rule_broken_lem = rw first_section refl
 
-  pub placed : brokenAt s langs rule ≡ Broken rule Header
-  unfolding brokenAt placeAt
+  pub placed : broken_at s langs rule ≡ Broken rule Header
+  unfolding broken_at place_at
   placed =
-      ap (λ (section : ℕ). Broken rule (placeAt section (brokenRecord s langs rule section))) first-section
-      ∙ ap (λ (k : ℕ). Broken rule (placeAt 0 k)) first-record
+      ap (λ (section : ℕ). Broken rule (place_at section (broken_record s langs rule section))) first_section
+      ∙ ap (λ (k : ℕ). Broken rule (place_at 0 k)) first_record
 
 -- the verdict by the position that the search finds
-pub found-verdict-at : (s : Sheet) (langs : List ℕ) (i : ℕ) → brokenPosition s langs ≡ i → verdict s langs ≡ cond (ltb i ruleCount) (brokenAt s langs (numberAt i)) Accepted
+pub found_verdict_at : (s : Sheet) (langs : List ℕ) (i : ℕ) → broken_position s langs ≡ i → verdict s langs ≡ cond (ltb i rule_count) (broken_at s langs (number_at i)) Accepted
 unfolding verdict
-found-verdict-at s langs i e = ap (λ (j : ℕ). cond (ltb j ruleCount) (brokenAt s langs (numberAt j)) Accepted) e
+found_verdict_at s langs i e = ap (λ (j : ℕ). cond (ltb j rule_count) (broken_at s langs (number_at j)) Accepted) e
 
 -- rule 33 is the first of all
 module _ (s : Sheet) (langs : List ℕ) where
-  list-subject : subjects s 33 0 ≡ 1
-  unfolding subjects subjectKind
-  list-subject = refl
+  list_subject : subjects s 33 0 ≡ 1
+  unfolding subjects subject_kind
+  list_subject = refl
 
   -- the list does not rise
-  module _ (falls : isRising langs ≡ false) where
-    list-broken : breaks s langs 33 0 0 ≡ true
+  module _ (falls : is_rising langs ≡ false) where
+    list_broken : breaks s langs 33 0 0 ≡ true
     unfolding breaks rule33
-    list-broken = ap not falls
+    list_broken = ap not falls
 
-    list-number : ruleBroken s langs (numberAt 0) ≡ true
-    unfolding numberAt ruleAt rules
-    list-number = rule-broken s langs 33 list-subject list-broken
+    list_number : rule_broken s langs (number_at 0) ≡ true
+    unfolding number_at rule_at rules
+    list_number = rule_broken_lem s langs 33 list_subject list_broken
 
-    list-position : brokenPosition s langs ≡ 0
-    unfolding brokenPosition ruleCount rules
-    list-position = lowest-first (λ i. ruleBroken s langs (numberAt i)) 24 list-number
+    list_position : broken_position s langs ≡ 0
+    unfolding broken_position rule_count rules
+    list_position = lowest_first (λ i. rule_broken s langs (number_at i)) 24 list_number
 
-    list-known : cond (ltb 0 ruleCount) (brokenAt s langs (numberAt 0)) Accepted ≡ brokenAt s langs 33
-    unfolding ruleCount numberAt ruleAt rules
-    list-known = refl
+    list_known : cond (ltb 0 rule_count) (broken_at s langs (number_at 0)) Accepted ≡ broken_at s langs 33
+    unfolding rule_count number_at rule_at rules
+    list_known = refl
 
-    pub not-rising : verdict s langs ≡ Broken 33 Header
-    not-rising = found-verdict-at s langs 0 list-position ∙ list-known ∙ placed s langs 33 list-subject list-broken
+    pub not_rising : verdict s langs ≡ Broken 33 Header
+    not_rising = found_verdict_at s langs 0 list_position ∙ list_known ∙ placed s langs 33 list_subject list_broken

@@ -6,14 +6,14 @@ use native.Mathlib.Omega.{arith}
 use lib.ListN.{get_or, get_or-eq_default}
 use Rattle.profile.specs.Limits.{limits}
 
-pub past-columns : (r column : ℕ) → 15 ≤ column → get_or (get_or limits r []) column 0 ≡ 0
+pub past_columns : (r column : ℕ) → 15 ≤ column → get_or (get_or limits r []) column 0 ≡ 0
 unfolding limits
-past-columns zero column h = get_or-eq_default (get_or limits 0 []) 0 {n = column} h
-past-columns (suc zero) column h = get_or-eq_default (get_or limits 1 []) 0 {n = column} h
-past-columns (suc (suc r)) column h = refl
+past_columns zero column h = get_or-eq_default (get_or limits 0 []) 0 {n = column} h
+past_columns (suc zero) column h = get_or-eq_default (get_or limits 1 []) 0 {n = column} h
+past_columns (suc (suc r)) column h = refl
 
-pub past-rows : (r column : ℕ) → 2 ≤ r → get_or (get_or limits r []) column 0 ≡ 0
+pub past_rows : (r column : ℕ) → 2 ≤ r → get_or (get_or limits r []) column 0 ≡ 0
 unfolding limits
-past-rows zero column h = absurd (omega arith)
-past-rows (suc zero) column h = absurd (omega arith)
-past-rows (suc (suc r)) column h = refl
+past_rows zero column h = absurd (omega arith)
+past_rows (suc zero) column h = absurd (omega arith)
+past_rows (suc (suc r)) column h = refl

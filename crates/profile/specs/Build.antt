@@ -1,6 +1,6 @@
 -- A builder of sheets for the cases: it lays sections out as document 01's "The sheet" says. Assumes nothing.
 use Rattle.std.specs.Prelude.{ℕ, zero, suc, ◌+◌, ◌*◌, ◌/◌, ◌%◌, List, [], ◌∷◌, ◌++◌, map, length, set, replicate}
-use Rattle.sheet.specs.Layout.{start, recordWords}
+use Rattle.sheet.specs.Layout.{start, record_words}
 
 -- a part of a record: a word, or a list, which is two words and entries in section 6
 pub data Part : Type 0 where
@@ -11,25 +11,25 @@ abbrev pub Row : Type 0
 Row = List Part
 
 -- the entries of a record's lists
-unfoldable pub rowEntries : Row → List ℕ
-rowEntries [] = []
-rowEntries (word w ∷ r) = rowEntries r
-rowEntries (list xs ∷ r) = xs ++ rowEntries r
+unfoldable pub row_entries : Row → List ℕ
+row_entries [] = []
+row_entries (word w ∷ r) = row_entries r
+row_entries (list xs ∷ r) = xs ++ row_entries r
 
 -- the words of a record whose entries begin at `at` in section 6
-unfoldable pub rowWords : ℕ → Row → List ℕ
-rowWords at [] = []
-rowWords at (word w ∷ r) = w ∷ rowWords at r
-rowWords at (list xs ∷ r) = at ∷ length xs ∷ rowWords (at + length xs) r
+unfoldable pub row_words : ℕ → Row → List ℕ
+row_words at [] = []
+row_words at (word w ∷ r) = w ∷ row_words at r
+row_words at (list xs ∷ r) = at ∷ length xs ∷ row_words (at + length xs) r
 
 -- the words of a section, and what its lists put into section 6
-unfoldable pub sectionWords : ℕ → List Row → List ℕ
-sectionWords at [] = []
-sectionWords at (r ∷ rs) = rowWords at r ++ sectionWords (at + length (rowEntries r)) rs
+unfoldable pub section_words : ℕ → List Row → List ℕ
+section_words at [] = []
+section_words at (r ∷ rs) = row_words at r ++ section_words (at + length (row_entries r)) rs
 
-unfoldable pub sectionEntries : List Row → List ℕ
-sectionEntries [] = []
-sectionEntries (r ∷ rs) = rowEntries r ++ sectionEntries rs
+unfoldable pub section_entries : List Row → List ℕ
+section_entries [] = []
+section_entries (r ∷ rs) = row_entries r ++ section_entries rs
 
 -- a sheet's records, section by section
 pub record Parts : Type 0 where
@@ -44,32 +44,32 @@ pub record Parts : Type 0 where
 -- count and offset of each section, from word 16 on without gaps
 unfoldable pub pairs : ℕ → ℕ → List ℕ → List ℕ
 pairs section at [] = []
-pairs section at (n ∷ ns) = n ∷ at ∷ pairs (section + 1) (at + n * recordWords section) ns
+pairs section at (n ∷ ns) = n ∷ at ∷ pairs (section + 1) (at + n * record_words section) ns
 
 unfoldable pub build : Parts → List ℕ
 build p =
-    let ep = sectionEntries p.programmes in
-    let ec = sectionEntries p.contents in
-    let es = ep ++ ec ++ sectionEntries p.objects in
+    let ep = section_entries p.programmes in
+    let ec = section_entries p.contents in
+    let es = ep ++ ec ++ section_entries p.objects in
     1
     ∷ p.level
     ∷ pairs 1 16 (length p.programmes ∷ length p.contents ∷ length p.objects ∷ length p.packs ∷ length p.tracks ∷ length es ∷ length p.sets ∷ [])
-    ++ sectionWords 0 p.programmes
-    ++ sectionWords (length ep) p.contents
-    ++ sectionWords (length ep + length ec) p.objects
-    ++ sectionWords 0 p.packs
-    ++ sectionWords 0 p.tracks
+    ++ section_words 0 p.programmes
+    ++ section_words (length ep) p.contents
+    ++ section_words (length ep + length ec) p.objects
+    ++ section_words 0 p.packs
+    ++ section_words 0 p.tracks
     ++ es
-    ++ sectionWords 0 p.sets
+    ++ section_words 0 p.sets
 
 -- the sheet with another word at a position of a record
 unfoldable pub put : ℕ → ℕ → ℕ → ℕ → List ℕ → List ℕ
 put section k at w ws = set ws (start (record { bytes = 2 * length ws; words = ws }) section k + at) w
 
 -- the bytes of words, high byte first
-unfoldable pub bytesOf : List ℕ → List ℕ
-bytesOf [] = []
-bytesOf (w ∷ ws) = w / 256 ∷ w % 256 ∷ bytesOf ws
+unfoldable pub bytes_of : List ℕ → List ℕ
+bytes_of [] = []
+bytes_of (w ∷ ws) = w / 256 ∷ w % 256 ∷ bytes_of ws
 
 -- 5575 is "eng"
 abbrev pub eng : ℕ
@@ -121,16 +121,16 @@ below (suc n) = below n ++ n ∷ []
 unfoldable pub speakers : ℕ → Row
 speakers channels = plain (1 ∷ channels ∷ 0 ∷ [])
 
-unfoldable pub frontPack : Row
-frontPack = plain (3 ∷ 1 ∷ 1 ∷ [])
+unfoldable pub front_pack : Row
+front_pack = plain (3 ∷ 1 ∷ 1 ∷ [])
 
-unfoldable pub sidePack : Row
-sidePack = plain (3 ∷ 1 ∷ 0 ∷ [])
+unfoldable pub side_pack : Row
+side_pack = plain (3 ∷ 1 ∷ 0 ∷ [])
 
 -- the tracks of a pack's channels
-unfoldable pub channelTracks : ℕ → ℕ → List Row
-channelTracks pack channels = map (λ n. plain (pack ∷ n ∷ [])) (below channels)
+unfoldable pub channel_tracks : ℕ → ℕ → List Row
+channel_tracks pack channels = map (λ n. plain (pack ∷ n ∷ [])) (below channels)
 
 -- a value set without offset words: gain, own, gain minimum, gain maximum
-unfoldable pub gainRow : ℕ → ℕ → ℕ → ℕ → Row
-gainRow gain own minimum maximum = plain (gain ∷ own ∷ minimum ∷ maximum ∷ replicate 3 absent)
+unfoldable pub gain_row : ℕ → ℕ → ℕ → ℕ → Row
+gain_row gain own minimum maximum = plain (gain ∷ own ∷ minimum ∷ maximum ∷ replicate 3 absent)

@@ -7,9 +7,9 @@ any p zero = false
 any p (suc n) = any p n || p n
 
 -- how many numbers below n have p
-unfoldable pub howMany : (ℕ → Bool) → ℕ → ℕ
-howMany p zero = 0
-howMany p (suc n) = howMany p n + cond (p n) 1 0
+unfoldable pub how_many : (ℕ → Bool) → ℕ → ℕ
+how_many p zero = 0
+how_many p (suc n) = how_many p n + cond (p n) 1 0
 
 -- f of the numbers below n, added up
 unfoldable pub sum : (ℕ → ℕ) → ℕ → ℕ
@@ -22,17 +22,17 @@ largest f zero = 0
 largest f (suc n) = max (largest f n) (f n)
 
 -- the lowest of the n numbers from i on that has p, or i + n
-unfoldable pub lowestFrom : (ℕ → Bool) → ℕ → ℕ → ℕ
-lowestFrom p i zero = i
-lowestFrom p i (suc n) = let rest = lowestFrom p (suc i) n in cond (p i) i rest
+unfoldable pub lowest_from : (ℕ → Bool) → ℕ → ℕ → ℕ
+lowest_from p i zero = i
+lowest_from p i (suc n) = let rest = lowest_from p (suc i) n in cond (p i) i rest
 
 -- the lowest number below n that has p, or n
 unfoldable pub lowest : (ℕ → Bool) → ℕ → ℕ
-lowest p n = lowestFrom p 0 n
+lowest p n = lowest_from p 0 n
 
 -- two of the numbers below n are alike by r
-unfoldable pub twoOf : (ℕ → ℕ → Bool) → ℕ → Bool
-twoOf r n = any (λ j. any (λ i. r i j) j) n
+unfoldable pub two_of : (ℕ → ℕ → Bool) → ℕ → Bool
+two_of r n = any (λ j. any (λ i. r i j) j) n
 
 -- every number below n has p
 unfoldable pub every : (ℕ → Bool) → ℕ → Bool
@@ -40,10 +40,10 @@ every p zero = true
 every p (suc n) = every p n && p n
 
 -- the lists that f gives the numbers below n, one behind the other
-unfoldable pub concatBelow : {X : Type 0} → (ℕ → List X) → ℕ → List X
-concatBelow f zero = []
-concatBelow f (suc n) = concatBelow f n ++ f n
+unfoldable pub concat_below : {X : Type 0} → (ℕ → List X) → ℕ → List X
+concat_below f zero = []
+concat_below f (suc n) = concat_below f n ++ f n
 
 -- what f gives the numbers below n, as a list
 unfoldable pub tabulate : {X : Type 0} → (ℕ → X) → ℕ → List X
-tabulate f n = concatBelow (λ k. f k ∷ []) n
+tabulate f n = concat_below (λ k. f k ∷ []) n

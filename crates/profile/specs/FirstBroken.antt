@@ -18,4 +18,4 @@ Earlier rule section k rule' section' k' =
 -- broken there, and nothing earlier is
 pub record FirstBroken (s : Sheet) (langs : List ℕ) (rule section k : ℕ) : Type 0 where
   pub here : BrokenAt s langs rule section k
-  pub nothing-earlier : (rule' section' k' : ℕ) → Earlier rule' section' k' rule section k → BrokenAt s langs rule' section' k' → ⊥
+  pub nothing_earlier : (rule' section' k' : ℕ) → Earlier rule' section' k' rule section k → BrokenAt s langs rule' section' k' → ⊥

@@ -1,14 +1,14 @@
 -- A third table of cases, about the list of languages: each sheet with the list that it is lent. Document 02, L2. Assumes nothing.
 use Rattle.std.specs.Prelude.{ℕ, ◌+◌, ◌*◌, ◌≡◌, refl, List, [], ◌∷◌, ◌++◌, map}
-use Rattle.sheet.specs.Words.{words, sheetOf}
-use Rattle.sheet.specs.Fields.{programmes, contents, programmeLanguage, contentLanguage}
+use Rattle.sheet.specs.Words.{words, sheet_of}
+use Rattle.sheet.specs.Fields.{programmes, contents, programme_language, content_language}
 use Rattle.profile.specs.declared.Place.TheVariants.{Header, Programme, Content}
 use Rattle.profile.specs.declared.Verdict.{Verdict}
 use Rattle.profile.specs.declared.Verdict.TheVariants.{Accepted, Broken}
 use Rattle.profile.specs.Verdict.{verdict}
 use Rattle.profile.specs.Judged.{judged}
-use Rattle.profile.specs.Build.{build, put, bytesOf, eng, programme, content, object, leaf, below, speakers, channelTracks, plain, rowEntries, rowWords, sectionWords, sectionEntries, pairs}
-use Rattle.profile.specs.Cases.{Case, sheetA}
+use Rattle.profile.specs.Build.{build, put, bytes_of, eng, programme, content, object, leaf, below, speakers, channel_tracks, plain, row_entries, row_words, section_words, section_entries, pairs}
+use Rattle.profile.specs.Cases.{Case, sheet_a}
 use Rattle.profile.specs.RuleCases.{labelled}
 
 -- the word of three letters, by their numbers: a = 1 to z = 26
@@ -35,19 +35,19 @@ xqx = letters 24 17 24
 -- A with another language word of its programme, of its content, under a list of words
 unfoldable pub spoken : ℕ → ℕ → List ℕ → Verdict → Case
 spoken p c langs v =
-    record { bytes = bytesOf (put programmes 0 programmeLanguage p (put contents 0 contentLanguage c sheetA)); langs = bytesOf langs; answer = v }
+    record { bytes = bytes_of (put programmes 0 programme_language p (put contents 0 content_language c sheet_a)); langs = bytes_of langs; answer = v }
 
 -- a programme in English with labels of its content, under a list of words
 unfoldable pub told : List ℕ → List ℕ → Verdict → Case
-told labels langs v = record { bytes = bytesOf (build (labelled 1 [] labels)); langs = bytesOf langs; answer = v }
+told labels langs v = record { bytes = bytes_of (build (labelled 1 [] labels)); langs = bytes_of langs; answer = v }
 
 -- lent bytes that are no whole words
-unfoldable pub lentBytes : List ℕ → List ℕ → Verdict → Case
-lentBytes bytes langs v = record { bytes = bytes; langs = langs; answer = v }
+unfoldable pub lent_bytes : List ℕ → List ℕ → Verdict → Case
+lent_bytes bytes langs v = record { bytes = bytes; langs = langs; answer = v }
 
-unfoldable pub languageCases : List Case
-unfolding spoken told lentBytes labelled sheetA build put bytesOf programme content object leaf below speakers channelTracks plain rowEntries rowWords sectionWords sectionEntries pairs judged
-languageCases =
+unfoldable pub language_cases : List Case
+unfolding spoken told lent_bytes labelled sheet_a build put bytes_of programme content object leaf below speakers channel_tracks plain row_entries row_words section_words section_entries pairs judged
+language_cases =
     -- listed, and not
     spoken eng eng (eng ∷ []) Accepted
     ∷ spoken eng eng [] (Broken 6 (Programme 0))
@@ -70,18 +70,18 @@ languageCases =
     ∷ told (eng ∷ qua ∷ []) (eng ∷ []) (Broken 6 (Content 0))
     ∷ told (xqx ∷ eng ∷ []) (eng ∷ []) (Broken 6 (Content 0))
     -- "an odd last byte ignored": "eng" and a byte; a byte alone is an empty list
-    ∷ lentBytes (bytesOf sheetA) (bytesOf (eng ∷ []) ++ 0 ∷ []) Accepted
-    ∷ lentBytes (bytesOf sheetA) (21 ∷ []) (Broken 6 (Programme 0))
+    ∷ lent_bytes (bytes_of sheet_a) (bytes_of (eng ∷ []) ++ 0 ∷ []) Accepted
+    ∷ lent_bytes (bytes_of sheet_a) (21 ∷ []) (Broken 6 (Programme 0))
     -- 33: equal neighbours, falling ones, at the end of the list too; before rule 1 and before rule 6
     ∷ spoken eng eng (eng ∷ eng ∷ []) (Broken 33 Header)
     ∷ spoken eng eng ((eng + 1) ∷ eng ∷ []) (Broken 33 Header)
     ∷ spoken eng eng (1 ∷ eng ∷ (eng + 2) ∷ (eng + 1) ∷ []) (Broken 33 Header)
     ∷ spoken xqx xqx (2 ∷ 1 ∷ []) (Broken 33 Header)
-    ∷ lentBytes [] (0 ∷ 2 ∷ 0 ∷ 1 ∷ []) (Broken 33 Header)
-    ∷ lentBytes [] (0 ∷ 1 ∷ 0 ∷ 2 ∷ []) (Broken 1 Header)
+    ∷ lent_bytes [] (0 ∷ 2 ∷ 0 ∷ 1 ∷ []) (Broken 33 Header)
+    ∷ lent_bytes [] (0 ∷ 1 ∷ 0 ∷ 2 ∷ []) (Broken 1 Header)
     ∷ []
 
 -- each of them has that verdict
-pub language-cases-hold : map (λ (c : Case). verdict (sheetOf c.bytes) (words c.langs)) languageCases ≡ map (λ (c : Case). c.answer) languageCases
-unfolding languageCases judged
-language-cases-hold = refl
+pub language_cases_hold : map (λ (c : Case). verdict (sheet_of c.bytes) (words c.langs)) language_cases ≡ map (λ (c : Case). c.answer) language_cases
+unfolding language_cases judged
+language_cases_hold = refl

@@ -14,50 +14,50 @@ limits =
     ∷ []
 
 -- a limit's column in the rows
-abbrev pub programmesLimit : ℕ
-programmesLimit = 0
+abbrev pub programmes_limit : ℕ
+programmes_limit = 0
 
-abbrev pub contentsLimit : ℕ
-contentsLimit = 1
+abbrev pub contents_limit : ℕ
+contents_limit = 1
 
-abbrev pub objectsLimit : ℕ
-objectsLimit = 2
+abbrev pub objects_limit : ℕ
+objects_limit = 2
 
-abbrev pub packsLimit : ℕ
-packsLimit = 3
+abbrev pub packs_limit : ℕ
+packs_limit = 3
 
-abbrev pub tracksLimit : ℕ
-tracksLimit = 4
+abbrev pub tracks_limit : ℕ
+tracks_limit = 4
 
-abbrev pub programmeContentsLimit : ℕ
-programmeContentsLimit = 5
+abbrev pub programme_contents_limit : ℕ
+programme_contents_limit = 5
 
-abbrev pub programmeSetsLimit : ℕ
-programmeSetsLimit = 6
+abbrev pub programme_sets_limit : ℕ
+programme_sets_limit = 6
 
-abbrev pub labelsLimit : ℕ
-labelsLimit = 7
+abbrev pub labels_limit : ℕ
+labels_limit = 7
 
-abbrev pub childrenLimit : ℕ
-childrenLimit = 8
+abbrev pub children_limit : ℕ
+children_limit = 8
 
-abbrev pub complementsLimit : ℕ
-complementsLimit = 9
+abbrev pub complements_limit : ℕ
+complements_limit = 9
 
-abbrev pub spanLimit : ℕ
-spanLimit = 10
+abbrev pub span_limit : ℕ
+span_limit = 10
 
-abbrev pub channelsLimit : ℕ
-channelsLimit = 11
+abbrev pub channels_limit : ℕ
+channels_limit = 11
 
-abbrev pub groupsLimit : ℕ
-groupsLimit = 12
+abbrev pub groups_limit : ℕ
+groups_limit = 12
 
-abbrev pub unitsLimit : ℕ
-unitsLimit = 13
+abbrev pub units_limit : ℕ
+units_limit = 13
 
-abbrev pub countedLimit : ℕ
-countedLimit = 14
+abbrev pub counted_limit : ℕ
+counted_limit = 14
 
 -- the limit of a level, 1 or 2
 unfoldable pub limit : ℕ → ℕ → ℕ

@@ -1,7 +1,7 @@
 // The limits of levels 1 and 2 (document 01, "Level limits").
 ghost use Rattle.std.specs.Prelude.{◌-◌, ◌≡◌};
 ghost use Rattle.profile.specs.Limits.{exceeds, limit};
-ghost use Rattle.sheet.specs.Words.{sheetOf};
+ghost use Rattle.sheet.specs.Words.{sheet_of};
 
 use sheet::layout::level;
 
@@ -64,7 +64,7 @@ pub fn limit(level: u16, column: u8) -> u16
 
 // Whether n is above the sheet's limit; level 0 has none.
 pub fn exceeds(s: &[u8], column: u8, n: u64) -> bool
-    ensures { result ≡ exceeds (sheetOf s.now) column n }
+    ensures { result ≡ exceeds (sheet_of s.now) column n }
 {
     let l = level(s);
     (l != 0) & ((limit(l, column) as u64) < n)

@@ -1,12 +1,12 @@
 // The numbers that document 01 gives verdicts and places.
 ghost use Rattle.std.specs.Prelude.{◌<◌, ◌≡◌};
-ghost use Rattle.profile.specs.Verdict.{placeAt, recordOf, sectionOf, verdictCode};
+ghost use Rattle.profile.specs.Verdict.{place_at, record_of, section_of, verdict_code};
 
 use crate::{Place, Verdict};
 
 // The section of a place.
 pub fn section(place: Place) -> u32
-    ensures { (result ≡ sectionOf place) × (result < 8) }
+    ensures { (result ≡ section_of place) × (result < 8) }
 {
     match place {
         Place::Header => 0,
@@ -22,7 +22,7 @@ pub fn section(place: Place) -> u32
 
 // The record of a place, 0 for the header.
 pub fn place_record(place: Place) -> u32
-    ensures { (result ≡ recordOf place) × (result < 65536) }
+    ensures { (result ≡ record_of place) × (result < 65536) }
 {
     match place {
         Place::Header => 0,
@@ -38,7 +38,7 @@ pub fn place_record(place: Place) -> u32
 
 // The place of a section and a record.
 pub fn place_at(section: u8, k: u16) -> Place
-    ensures { result ≡ placeAt section k }
+    ensures { result ≡ place_at section k }
 {
     match section {
         1 => Place::Programme(k),
@@ -54,7 +54,7 @@ pub fn place_at(section: u8, k: u16) -> Place
 
 // 0, or 1,000,000 times the rule plus 100,000 times the section plus the record.
 pub fn verdict_code(verdict: Verdict) -> u32
-    ensures { result ≡ verdictCode verdict }
+    ensures { result ≡ verdict_code verdict }
 {
     match verdict {
         Verdict::Accepted => 0,

@@ -1,9 +1,9 @@
 // One loop over the entries of a list, with the test picked by an enum.
 ghost use Rattle.std.specs.Prelude.{◌≤◌, cond, ◌≡◌};
 ghost use Rattle.profile.specs.Relations.{lists, times};
-ghost use Rattle.relations.specs.steps.Tests.{anyEntry, entryTest, howManyEntries};
+ghost use Rattle.relations.specs.steps.Tests.{any_entry, entry_test, how_many_entries};
 ghost use Rattle.sheet.specs.Layout.{number};
-ghost use Rattle.sheet.specs.Words.{sheetOf};
+ghost use Rattle.sheet.specs.Words.{sheet_of};
 
 use crate::EntryTest;
 use crate::objects::{has_objects_pack, lacks};
@@ -20,7 +20,7 @@ pub fn one(test: bool) -> u16
 
 // Whether an entry passes the test.
 pub fn entry_test(s: &[u8], test: EntryTest, e: u16) -> bool
-    ensures { result ≡ entryTest (sheetOf s.now) test e }
+    ensures { result ≡ entry_test (sheet_of s.now) test e }
 {
     match test {
         EntryTest::Is(x) => e == x,
@@ -35,7 +35,7 @@ pub fn entry_test(s: &[u8], test: EntryTest, e: u16) -> bool
 
 // How many entries of the list at a position of a record pass the test.
 pub fn how_many_entries(s: &[u8], section: u8, k: u16, at: u8, test: EntryTest) -> u16
-    ensures { (result ≡ howManyEntries (sheetOf s.now) section k at test) × (result ≤ number (sheetOf s.now) section k at) }
+    ensures { (result ≡ how_many_entries (sheet_of s.now) section k at test) × (result ≤ number (sheet_of s.now) section k at) }
 {
     let n = number(s, section, k, at);
     let mut found: u16 = 0;
@@ -49,21 +49,21 @@ pub fn how_many_entries(s: &[u8], section: u8, k: u16, at: u8, test: EntryTest) 
 
 // Whether some entry passes the test.
 pub fn any_entry(s: &[u8], section: u8, k: u16, at: u8, test: EntryTest) -> bool
-    ensures { result ≡ anyEntry (sheetOf s.now) section k at test }
+    ensures { result ≡ any_entry (sheet_of s.now) section k at test }
 {
     how_many_entries(s, section, k, at, test) != 0
 }
 
 // Whether the list has x.
 pub fn lists(s: &[u8], section: u8, k: u16, at: u8, x: u16) -> bool
-    ensures { result ≡ lists (sheetOf s.now) section k at x }
+    ensures { result ≡ lists (sheet_of s.now) section k at x }
 {
     any_entry(s, section, k, at, EntryTest::Is(x))
 }
 
 // How often the list names x.
 pub fn times(s: &[u8], section: u8, k: u16, at: u8, x: u16) -> u16
-    ensures { (result ≡ times (sheetOf s.now) section k at x) × (result ≤ number (sheetOf s.now) section k at) }
+    ensures { (result ≡ times (sheet_of s.now) section k at x) × (result ≤ number (sheet_of s.now) section k at) }
 {
     how_many_entries(s, section, k, at, EntryTest::Is(x))
 }

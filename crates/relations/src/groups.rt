@@ -1,7 +1,7 @@
 // Complementary groups.
 ghost use Rattle.std.specs.Prelude.{◌≤◌, ◌≡◌};
-ghost use Rattle.profile.specs.Relations.{leaderOf, member, members};
-ghost use Rattle.sheet.specs.Words.{sheetOf};
+ghost use Rattle.profile.specs.Relations.{leader_of, member, members};
+ghost use Rattle.sheet.specs.Words.{sheet_of};
 
 use crate::RecordTest;
 use crate::records::{complement, lowest_record};
@@ -10,7 +10,7 @@ use sheet::layout::{entry, number};
 
 // "A group is a leader [..] followed by those it lists." Member i of a leader's group.
 pub fn member(s: &[u8], l: u16, i: u16) -> u16
-    ensures { result ≡ member (sheetOf s.now) l i }
+    ensures { result ≡ member (sheet_of s.now) l i }
 {
     if i == 0 {
         l
@@ -21,14 +21,14 @@ pub fn member(s: &[u8], l: u16, i: u16) -> u16
 
 // How many members the group has.
 pub fn members(s: &[u8], l: u16) -> u32
-    ensures { (result ≡ members (sheetOf s.now) l) × (result ≤ 65536) }
+    ensures { (result ≡ members (sheet_of s.now) l) × (result ≤ 65536) }
 {
     number(s, OBJECTS, l, COMPLEMENT_LIST) as u32 + 1
 }
 
 // The leader of an object's group: the object that lists it, else itself.
 pub fn leader_of(s: &[u8], o: u16) -> u16
-    ensures { result ≡ leaderOf (sheetOf s.now) o }
+    ensures { result ≡ leader_of (sheet_of s.now) o }
 {
     if complement(s, o) {
         lowest_record(s, OBJECTS, RecordTest::LeaderOf(o))

@@ -1,8 +1,8 @@
 // What an object's own words and its pack say.
 ghost use Rattle.std.specs.Prelude.{◌≡◌};
-ghost use Rattle.profile.specs.Relations.{channels, hasChildren, hasFrontPack, hasObjectsPack, hasPack, kind, leader, packOf};
+ghost use Rattle.profile.specs.Relations.{channels, has_children, has_front_pack, has_objects_pack, has_pack, kind, leader, pack_of};
 ghost use Rattle.profile.specs.Rules.{lacks};
-ghost use Rattle.sheet.specs.Words.{sheetOf};
+ghost use Rattle.sheet.specs.Words.{sheet_of};
 
 use sheet::fields::{
     CHILD_LIST, COMPLEMENT_LIST, NO_PACK, OBJECT_PACK, OBJECTS, PACK_CHANNELS, PACK_FRONT,
@@ -11,38 +11,38 @@ use sheet::fields::{
 use sheet::layout::{count, field, number};
 
 pub fn pack_of(s: &[u8], o: u16) -> u16
-    ensures { result ≡ packOf (sheetOf s.now) o }
+    ensures { result ≡ pack_of (sheet_of s.now) o }
 {
     field(s, OBJECTS, o, OBJECT_PACK)
 }
 
 pub fn has_pack(s: &[u8], o: u16) -> bool
-    ensures { result ≡ hasPack (sheetOf s.now) o }
+    ensures { result ≡ has_pack (sheet_of s.now) o }
 {
     pack_of(s, o) != NO_PACK
 }
 
 pub fn has_children(s: &[u8], o: u16) -> bool
-    ensures { result ≡ hasChildren (sheetOf s.now) o }
+    ensures { result ≡ has_children (sheet_of s.now) o }
 {
     0 < number(s, OBJECTS, o, CHILD_LIST)
 }
 
 pub fn has_objects_pack(s: &[u8], o: u16) -> bool
-    ensures { result ≡ hasObjectsPack (sheetOf s.now) o }
+    ensures { result ≡ has_objects_pack (sheet_of s.now) o }
 {
     has_pack(s, o) & (field(s, PACKS, pack_of(s, o), PACK_KIND) == 3)
 }
 
 pub fn has_front_pack(s: &[u8], o: u16) -> bool
-    ensures { result ≡ hasFrontPack (sheetOf s.now) o }
+    ensures { result ≡ has_front_pack (sheet_of s.now) o }
 {
     has_objects_pack(s, o) & (field(s, PACKS, pack_of(s, o), PACK_FRONT) == 1)
 }
 
 // "Its kind is its pack's, or 3 if it has children."
 pub fn kind(s: &[u8], o: u16) -> u16
-    ensures { result ≡ kind (sheetOf s.now) o }
+    ensures { result ≡ kind (sheet_of s.now) o }
 {
     if has_children(s, o) {
         3
@@ -53,7 +53,7 @@ pub fn kind(s: &[u8], o: u16) -> u16
 
 // How many tracks an object has to have: its pack's channels, "(0 with children)".
 pub fn channels(s: &[u8], o: u16) -> u16
-    ensures { result ≡ channels (sheetOf s.now) o }
+    ensures { result ≡ channels (sheet_of s.now) o }
 {
     if has_children(s, o) {
         0
@@ -64,14 +64,14 @@ pub fn channels(s: &[u8], o: u16) -> u16
 
 // "a leader (an object with complements)"
 pub fn leader(s: &[u8], o: u16) -> bool
-    ensures { result ≡ leader (sheetOf s.now) o }
+    ensures { result ≡ leader (sheet_of s.now) o }
 {
     0 < number(s, OBJECTS, o, COMPLEMENT_LIST)
 }
 
 // A section has no record k.
 pub fn lacks(s: &[u8], section: u8, k: u16) -> bool
-    ensures { result ≡ lacks (sheetOf s.now) section k }
+    ensures { result ≡ lacks (sheet_of s.now) section k }
 {
     count(s, section) <= k
 }

@@ -1,9 +1,9 @@
 // One loop over the records of a section, with the test picked by an enum.
 ghost use Rattle.std.specs.Prelude.{◌≤◌, ◌≡◌};
 ghost use Rattle.profile.specs.Relations.{complement, groups, owner, top};
-ghost use Rattle.relations.specs.steps.Tests.{anyRecord, howManyRecords, lowestRecord, recordTest};
+ghost use Rattle.relations.specs.steps.Tests.{any_record, how_many_records, lowest_record, record_test};
 ghost use Rattle.sheet.specs.Layout.{count};
-ghost use Rattle.sheet.specs.Words.{sheetOf};
+ghost use Rattle.sheet.specs.Words.{sheet_of};
 
 use crate::RecordTest;
 use crate::entries::{lists, one};
@@ -16,7 +16,7 @@ use sheet::layout::{count, field};
 
 // Whether a record passes the test.
 pub fn record_test(s: &[u8], test: RecordTest, k: u16) -> bool
-    ensures { result ≡ recordTest (sheetOf s.now) test k }
+    ensures { result ≡ record_test (sheet_of s.now) test k }
 {
     match test {
         RecordTest::Names(o) => field(s, CONTENTS, k, CONTENT_OBJECT) == o,
@@ -30,7 +30,7 @@ pub fn record_test(s: &[u8], test: RecordTest, k: u16) -> bool
 
 // How many records of a section pass the test.
 pub fn how_many_records(s: &[u8], section: u8, test: RecordTest) -> u16
-    ensures { (result ≡ howManyRecords (sheetOf s.now) section test) × (result ≤ count (sheetOf s.now) section) }
+    ensures { (result ≡ how_many_records (sheet_of s.now) section test) × (result ≤ count (sheet_of s.now) section) }
 {
     let n = count(s, section);
     let mut found: u16 = 0;
@@ -44,7 +44,7 @@ pub fn how_many_records(s: &[u8], section: u8, test: RecordTest) -> u16
 
 // The first record that passes the test, or the number of records.
 pub fn lowest_record(s: &[u8], section: u8, test: RecordTest) -> u16
-    ensures { result ≡ lowestRecord (sheetOf s.now) section test }
+    ensures { result ≡ lowest_record (sheet_of s.now) section test }
 {
     let n = count(s, section);
     let mut k: u16 = 0;
@@ -59,35 +59,35 @@ pub fn lowest_record(s: &[u8], section: u8, test: RecordTest) -> u16
 
 // Whether some record passes the test.
 pub fn any_record(s: &[u8], section: u8, test: RecordTest) -> bool
-    ensures { result ≡ anyRecord (sheetOf s.now) section test }
+    ensures { result ≡ any_record (sheet_of s.now) section test }
 {
     how_many_records(s, section, test) != 0
 }
 
 // "A top object is one that a content names."
 pub fn top(s: &[u8], o: u16) -> bool
-    ensures { result ≡ top (sheetOf s.now) o }
+    ensures { result ≡ top (sheet_of s.now) o }
 {
     any_record(s, CONTENTS, RecordTest::Names(o))
 }
 
 // Some complement list names the object.
 pub fn complement(s: &[u8], o: u16) -> bool
-    ensures { result ≡ complement (sheetOf s.now) o }
+    ensures { result ≡ complement (sheet_of s.now) o }
 {
     any_record(s, OBJECTS, RecordTest::LeaderOf(o))
 }
 
 // The object whose set v is, the number of objects where there is none.
 pub fn owner(s: &[u8], v: u16) -> u16
-    ensures { result ≡ owner (sheetOf s.now) v }
+    ensures { result ≡ owner (sheet_of s.now) v }
 {
     lowest_record(s, OBJECTS, RecordTest::OwnerOf(v))
 }
 
 // How many groups the sheet has.
 pub fn groups(s: &[u8]) -> u16
-    ensures { result ≡ groups (sheetOf s.now) }
+    ensures { result ≡ groups (sheet_of s.now) }
 {
     how_many_records(s, OBJECTS, RecordTest::Leader)
 }

@@ -1,7 +1,7 @@
 // Value sets: whose they are, and the effective values and ranges.
 ghost use Rattle.std.specs.Prelude.{◌≡◌};
-ghost use Rattle.profile.specs.Relations.{effectiveMaximum, effectiveMinimum, effectiveValue, hasSet, objectMaximum, objectMinimum, objectValue, ownValue, setMaximum, setMinimum, setValue};
-ghost use Rattle.sheet.specs.Words.{sheetOf};
+ghost use Rattle.profile.specs.Relations.{effective_maximum, effective_minimum, effective_value, has_set, object_maximum, object_minimum, object_value, own_value, set_maximum, set_minimum, set_value};
+ghost use Rattle.sheet.specs.Words.{sheet_of};
 
 use sheet::fields::{
     OBJECT_GAIN, OBJECT_GAIN_MAXIMUM, OBJECT_GAIN_MINIMUM, OBJECT_OFFSET, OBJECT_OFFSET_MAXIMUM,
@@ -14,7 +14,7 @@ use values::values::or_else;
 
 // Where an object has the value of a sort.
 pub fn object_value(sort: Sort) -> u8
-    ensures { result ≡ objectValue sort }
+    ensures { result ≡ object_value sort }
 {
     match sort {
         Sort::Gains => OBJECT_GAIN,
@@ -23,7 +23,7 @@ pub fn object_value(sort: Sort) -> u8
 }
 
 pub fn object_minimum(sort: Sort) -> u8
-    ensures { result ≡ objectMinimum sort }
+    ensures { result ≡ object_minimum sort }
 {
     match sort {
         Sort::Gains => OBJECT_GAIN_MINIMUM,
@@ -32,7 +32,7 @@ pub fn object_minimum(sort: Sort) -> u8
 }
 
 pub fn object_maximum(sort: Sort) -> u8
-    ensures { result ≡ objectMaximum sort }
+    ensures { result ≡ object_maximum sort }
 {
     match sort {
         Sort::Gains => OBJECT_GAIN_MAXIMUM,
@@ -42,7 +42,7 @@ pub fn object_maximum(sort: Sort) -> u8
 
 // Where a value set has it.
 pub fn set_value(sort: Sort) -> u8
-    ensures { result ≡ setValue sort }
+    ensures { result ≡ set_value sort }
 {
     match sort {
         Sort::Gains => SET_GAIN,
@@ -51,7 +51,7 @@ pub fn set_value(sort: Sort) -> u8
 }
 
 pub fn set_minimum(sort: Sort) -> u8
-    ensures { result ≡ setMinimum sort }
+    ensures { result ≡ set_minimum sort }
 {
     match sort {
         Sort::Gains => SET_GAIN_MINIMUM,
@@ -60,7 +60,7 @@ pub fn set_minimum(sort: Sort) -> u8
 }
 
 pub fn set_maximum(sort: Sort) -> u8
-    ensures { result ≡ setMaximum sort }
+    ensures { result ≡ set_maximum sort }
 {
     match sort {
         Sort::Gains => SET_GAIN_MAXIMUM,
@@ -70,7 +70,7 @@ pub fn set_maximum(sort: Sort) -> u8
 
 // Value set v is in the span of object o.
 pub fn has_set(s: &[u8], o: u16, v: u16) -> bool
-    ensures { result ≡ hasSet (sheetOf s.now) o v }
+    ensures { result ≡ has_set (sheet_of s.now) o v }
 {
     let from = field(s, OBJECTS, o, SET_SPAN);
     let many = number(s, OBJECTS, o, SET_SPAN);
@@ -79,14 +79,14 @@ pub fn has_set(s: &[u8], o: u16, v: u16) -> bool
 
 // An object's own value, 0 where it is absent.
 pub fn own_value(s: &[u8], o: u16, sort: Sort) -> u16
-    ensures { result ≡ ownValue (sheetOf s.now) o sort }
+    ensures { result ≡ own_value (sheet_of s.now) o sort }
 {
     or_else(field(s, OBJECTS, o, object_value(sort)), 0)
 }
 
 // "For a set, the effective gain and offset are its own, else the object's, else 0"
 pub fn effective_value(s: &[u8], o: u16, v: u16, sort: Sort) -> u16
-    ensures { result ≡ effectiveValue (sheetOf s.now) o v sort }
+    ensures { result ≡ effective_value (sheet_of s.now) o v sort }
 {
     or_else(
         field(s, VALUE_SETS, v, set_value(sort)),
@@ -96,7 +96,7 @@ pub fn effective_value(s: &[u8], o: u16, v: u16, sort: Sort) -> u16
 
 // "its effective ranges are its own four words where own is 1, else the object's"
 pub fn effective_minimum(s: &[u8], o: u16, v: u16, sort: Sort) -> u16
-    ensures { result ≡ effectiveMinimum (sheetOf s.now) o v sort }
+    ensures { result ≡ effective_minimum (sheet_of s.now) o v sort }
 {
     if field(s, VALUE_SETS, v, SET_OWN) == 1 {
         field(s, VALUE_SETS, v, set_minimum(sort))
@@ -106,7 +106,7 @@ pub fn effective_minimum(s: &[u8], o: u16, v: u16, sort: Sort) -> u16
 }
 
 pub fn effective_maximum(s: &[u8], o: u16, v: u16, sort: Sort) -> u16
-    ensures { result ≡ effectiveMaximum (sheetOf s.now) o v sort }
+    ensures { result ≡ effective_maximum (sheet_of s.now) o v sort }
 {
     if field(s, VALUE_SETS, v, SET_OWN) == 1 {
         field(s, VALUE_SETS, v, set_maximum(sort))

@@ -1,8 +1,8 @@
 // Sizes in tracks.
 ghost use Rattle.std.specs.Prelude.{max, ◌≡◌};
 ghost use Rattle.profile.specs.Relations.{size};
-ghost use Rattle.relations.specs.steps.Sizes.{childrenTracks, largestMember};
-ghost use Rattle.sheet.specs.Words.{sheetOf};
+ghost use Rattle.relations.specs.steps.Sizes.{children_tracks, largest_member};
+ghost use Rattle.sheet.specs.Words.{sheet_of};
 
 use crate::groups::{member, members};
 use crate::objects::has_children;
@@ -11,7 +11,7 @@ use sheet::layout::{entry, number};
 
 // The tracks of an object's children.
 pub fn children_tracks(s: &[u8], o: u16) -> u32
-    ensures { result ≡ childrenTracks (sheetOf s.now) o }
+    ensures { result ≡ children_tracks (sheet_of s.now) o }
 {
     let n = number(s, OBJECTS, o, CHILD_LIST);
     let mut total: u32 = 0;
@@ -25,7 +25,7 @@ pub fn children_tracks(s: &[u8], o: u16) -> u32
 
 // "An object's size is its track count, or its children's added up."
 pub fn size(s: &[u8], o: u16) -> u32
-    ensures { result ≡ size (sheetOf s.now) o }
+    ensures { result ≡ size (sheet_of s.now) o }
 {
     if has_children(s, o) {
         children_tracks(s, o)
@@ -43,7 +43,7 @@ fn larger(a: u32, b: u32) -> u32
 
 // The size of the largest member of a leader's group.
 pub fn largest_member(s: &[u8], l: u16) -> u32
-    ensures { result ≡ largestMember (sheetOf s.now) l }
+    ensures { result ≡ largest_member (sheet_of s.now) l }
 {
     let n = members(s, l);
     let mut most: u32 = 0;

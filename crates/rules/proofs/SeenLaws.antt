@@ -8,12 +8,12 @@ use lib.Dec.{eqb}
 use lib.ListN.{length, get_or, set, replicate, length-set}
 use Rattle.profile.specs.Counting.{any}
 use Rattle.tables.specs.steps.Marks.{Standing}
-use Rattle.tables.proofs.MarkLaws.{set-standing, nought}
+use Rattle.tables.proofs.MarkLaws.{set_standing, nought}
 use Rattle.tables.proofs.TableLaws.{flag}
 
 -- the place is marked
-pub see-standing : (t : List ℕ) (y : ℕ) → Standing (λ z. cond (eqb y z) 1 (get_or t z 0)) (set t y 1)
-see-standing t y x l = set-standing t y 1 (λ z. cond (eqb y z) 1 (get_or t z 0)) (λ z k. refl) x (rw (length-set t y 1) at l)
+pub see_standing : (t : List ℕ) (y : ℕ) → Standing (λ z. cond (eqb y z) 1 (get_or t z 0)) (set t y 1)
+see_standing t y x l = set_standing t y 1 (λ z. cond (eqb y z) 1 (get_or t z 0)) (λ z k. refl) x (rw (length-set t y 1) at l)
 
 -- 1 stands for those among the first j
 abbrev pub Seen : (ℕ → ℕ) → List ℕ → ℕ → Type 0
@@ -23,14 +23,14 @@ Seen f t j = Standing (λ x. cond (any (λ i. eqb (f i) x) j) 1 0) t
 abbrev pub Unlike : (ℕ → ℕ) → ℕ → Type 0
 Unlike f j = (m : ℕ) → m < j → any (λ i. eqb (f i) (f m)) m ≡ false
 
-pub seen-none : (f : ℕ → ℕ) (n : ℕ) → Seen f (replicate n 0) 0
+pub seen_none : (f : ℕ → ℕ) (n : ℕ) → Seen f (replicate n 0) 0
 unfolding any
-seen-none f n x l = nought n x
+seen_none f n x l = nought n x
 
 module _ (f : ℕ → ℕ) (t : List ℕ) (j y : ℕ) (seen : Seen f t j) (e : y ≡ f j) where
-  pub seen-more : (t' : List ℕ) → length t' ≡ length t → Standing (λ z. cond (eqb y z) 1 (get_or t z 0)) t' → Seen f t' (j + 1)
+  pub seen_more : (t' : List ℕ) → length t' ≡ length t → Standing (λ z. cond (eqb y z) 1 (get_or t z 0)) t' → Seen f t' (j + 1)
   unfolding any
-  seen-more t' long now x l =
+  seen_more t' long now x l =
       now x l
       ∙ ap (λ (c : ℕ). cond (eqb y x) 1 c) (seen x (rw long at l))
       ∙ ap (λ (w : ℕ). cond (eqb w x) 1 (cond (any (λ i. eqb (f i) x) j) 1 0)) e
@@ -44,5 +44,5 @@ module _ (f : ℕ → ℕ) (t : List ℕ) (j y : ℕ) (seen : Seen f t j) (e : y
       either false false = refl
 
   -- whether the next was seen
-  pub seen-next : y < length t → (r : Bool) → r ≡ not (eqb (get_or t y 0) 0) → any (λ i. eqb (f i) (f j)) j ≡ r
-  seen-next l r read = sym (read ∙ ap (λ (c : ℕ). not (eqb c 0)) (seen y l) ∙ flag (any (λ i. eqb (f i) y) j) ∙ ap (λ (w : ℕ). any (λ i. eqb (f i) w) j) e)
+  pub seen_next : y < length t → (r : Bool) → r ≡ not (eqb (get_or t y 0) 0) → any (λ i. eqb (f i) (f j)) j ≡ r
+  seen_next l r read = sym (read ∙ ap (λ (c : ℕ). not (eqb c 0)) (seen y l) ∙ flag (any (λ i. eqb (f i) y) j) ∙ ap (λ (w : ℕ). any (λ i. eqb (f i) w) j) e)

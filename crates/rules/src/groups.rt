@@ -1,7 +1,7 @@
 // Rules 19 to 21: complementary groups.
 ghost use Rattle.std.specs.Prelude.{◌≡◌};
 ghost use Rattle.profile.specs.Rules.{rule19, rule20, rule21};
-ghost use Rattle.sheet.specs.Words.{sheetOf};
+ghost use Rattle.sheet.specs.Words.{sheet_of};
 ghost use Rattle.tables.specs.steps.Right.{Complemented, Included, Tops};
 
 use crate::loops::{any_group, any_tabled};
@@ -10,7 +10,7 @@ use sheet::fields::{COMPLEMENT_LIST, OBJECTS};
 use sheet::layout::{field, number};
 
 pub fn rule19(s: &[u8], tops: &[u16], complements: &[u16], section: u8, o: u16) -> bool
-    ensures { Tops (sheetOf s.now) tops.now → Complemented (sheetOf s.now) complements.now → result ≡ rule19 (sheetOf s.now) section o }
+    ensures { Tops (sheet_of s.now) tops.now → Complemented (sheet_of s.now) complements.now → result ≡ rule19 (sheet_of s.now) section o }
 {
     any_tabled(
         s,
@@ -24,7 +24,7 @@ pub fn rule19(s: &[u8], tops: &[u16], complements: &[u16], section: u8, o: u16) 
 
 // It reads no table.
 pub fn rule20(s: &[u8], section: u8, o: u16) -> bool
-    ensures { result ≡ rule20 (sheetOf s.now) section o }
+    ensures { result ≡ rule20 (sheet_of s.now) section o }
 {
     let none: [u16; 1] = [0];
     any_tabled(
@@ -38,7 +38,7 @@ pub fn rule20(s: &[u8], section: u8, o: u16) -> bool
 }
 
 pub fn rule21(s: &[u8], marks: &[u16], section: u8, p: u16) -> bool
-    ensures { Included (sheetOf s.now) p marks.now → result ≡ rule21 (sheetOf s.now) section p }
+    ensures { Included (sheet_of s.now) p marks.now → result ≡ rule21 (sheet_of s.now) section p }
 {
     any_group(s, p, marks, marks, GroupTest::Split)
 }

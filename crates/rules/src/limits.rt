@@ -1,7 +1,7 @@
 // Rules 7, 8 and 10: counts against the limits of the sheet's level.
 ghost use Rattle.std.specs.Prelude.{◌≡◌};
 ghost use Rattle.profile.specs.Rules.{outside, rule10, rule7, rule8};
-ghost use Rattle.sheet.specs.Words.{sheetOf};
+ghost use Rattle.sheet.specs.Words.{sheet_of};
 
 use profile::limits::{
     CHANNELS_LIMIT, CHILDREN_LIMIT, COMPLEMENTS_LIMIT, CONTENTS_LIMIT, LABELS_LIMIT, OBJECTS_LIMIT,
@@ -18,13 +18,13 @@ use sheet::layout::{count, field, number};
 
 // Below 1 or above the limit.
 fn outside(s: &[u8], column: u8, n: u16) -> bool
-    ensures { result ≡ outside (sheetOf s.now) column n }
+    ensures { result ≡ outside (sheet_of s.now) column n }
 {
     (n < 1) | exceeds(s, column, n as u64)
 }
 
 pub fn rule7(s: &[u8], section: u8, k: u16) -> bool
-    ensures { result ≡ rule7 (sheetOf s.now) section k }
+    ensures { result ≡ rule7 (sheet_of s.now) section k }
 {
     match section {
         1 => outside(s, PROGRAMMES_LIMIT, count(s, PROGRAMMES)),
@@ -41,7 +41,7 @@ pub fn rule7(s: &[u8], section: u8, k: u16) -> bool
 }
 
 pub fn rule8(s: &[u8], section: u8, k: u16) -> bool
-    ensures { result ≡ rule8 (sheetOf s.now) section k }
+    ensures { result ≡ rule8 (sheet_of s.now) section k }
 {
     match section {
         1 => {
@@ -78,7 +78,7 @@ pub fn rule8(s: &[u8], section: u8, k: u16) -> bool
 }
 
 pub fn rule10(s: &[u8], section: u8, k: u16) -> bool
-    ensures { result ≡ rule10 (sheetOf s.now) section k }
+    ensures { result ≡ rule10 (sheet_of s.now) section k }
 {
     let kind = field(s, PACKS, k, PACK_KIND);
     let channels = field(s, PACKS, k, PACK_CHANNELS);

@@ -1,9 +1,9 @@
 // Rules 4, 5 and 9: lists and the indices and labels in them.
 ghost use Rattle.std.specs.Prelude.{◌≡◌};
-ghost use Rattle.profile.specs.Rules.{beyond, listLacks, rule4, rule5, rule9};
-ghost use Rattle.rules.specs.steps.Loops.{firstTarget, secondTarget};
+ghost use Rattle.profile.specs.Rules.{beyond, list_lacks, rule4, rule5, rule9};
+ghost use Rattle.rules.specs.steps.Loops.{first_target, second_target};
 ghost use Rattle.runs.specs.steps.Runs.{LacksRight, RepeatRight};
-ghost use Rattle.sheet.specs.Words.{sheetOf};
+ghost use Rattle.sheet.specs.Words.{sheet_of};
 
 use crate::repeats::repeats_by;
 use relations::EntryTest;
@@ -19,13 +19,13 @@ use sheet::layout::{count, field, number};
 
 // The list or span at a position of a record ends beyond the target section.
 fn beyond(s: &[u8], target: u8, section: u8, k: u16, at: u8) -> bool
-    ensures { result ≡ beyond (sheetOf s.now) target section k at }
+    ensures { result ≡ beyond (sheet_of s.now) target section k at }
 {
     (count(s, target) as u32) < field(s, section, k, at) as u32 + number(s, section, k, at) as u32
 }
 
 pub fn rule4(s: &[u8], section: u8, k: u16) -> bool
-    ensures { result ≡ rule4 (sheetOf s.now) section k }
+    ensures { result ≡ rule4 (sheet_of s.now) section k }
 {
     match section {
         1 => beyond(s, REFERENCES, PROGRAMMES, k, CONTENT_LIST)
@@ -44,7 +44,7 @@ pub fn rule4(s: &[u8], section: u8, k: u16) -> bool
 
 // An entry of the list at a position of a record names an index that the target section lacks, by the table where it has the list.
 fn list_lacks_by(s: &[u8], next: &[u16], target: u8, section: u8, k: u16, at: u8) -> bool
-    ensures { LacksRight (sheetOf s.now) target next.now → result ≡ listLacks (sheetOf s.now) target section k at }
+    ensures { LacksRight (sheet_of s.now) target next.now → result ≡ list_lacks (sheet_of s.now) target section k at }
 {
     let looked = look_up(s, next, section, k, at);
     if looked.known {
@@ -56,7 +56,7 @@ fn list_lacks_by(s: &[u8], next: &[u16], target: u8, section: u8, k: u16, at: u8
 
 // The section that contents, or tracks, are listed for.
 pub fn first_target(section: u8) -> u8
-    ensures { result ≡ firstTarget section }
+    ensures { result ≡ first_target section }
 {
     if section == PROGRAMMES {
         CONTENTS
@@ -67,7 +67,7 @@ pub fn first_target(section: u8) -> u8
 
 // The section that value sets, or objects, are listed for.
 pub fn second_target(section: u8) -> u8
-    ensures { result ≡ secondTarget section }
+    ensures { result ≡ second_target section }
 {
     if section == PROGRAMMES {
         VALUE_SETS
@@ -78,7 +78,7 @@ pub fn second_target(section: u8) -> u8
 
 // It is lent a table for each of the two sections that the lists name records of.
 pub fn rule5(s: &[u8], first: &[u16], second: &[u16], section: u8, k: u16) -> bool
-    ensures { LacksRight (sheetOf s.now) (firstTarget section) first.now → LacksRight (sheetOf s.now) (secondTarget section) second.now → result ≡ rule5 (sheetOf s.now) section k }
+    ensures { LacksRight (sheet_of s.now) (first_target section) first.now → LacksRight (sheet_of s.now) (second_target section) second.now → result ≡ rule5 (sheet_of s.now) section k }
 {
     match section {
         1 => list_lacks_by(s, first, CONTENTS, PROGRAMMES, k, CONTENT_LIST)
@@ -96,7 +96,7 @@ pub fn rule5(s: &[u8], first: &[u16], second: &[u16], section: u8, k: u16) -> bo
 }
 
 pub fn rule9(s: &[u8], next: &[u16], section: u8, k: u16) -> bool
-    ensures { RepeatRight (sheetOf s.now) next.now → result ≡ rule9 (sheetOf s.now) section k }
+    ensures { RepeatRight (sheet_of s.now) next.now → result ≡ rule9 (sheet_of s.now) section k }
 {
     match section {
         1 => repeats_by(s, next, PROGRAMMES, k, PROGRAMME_LABELS),

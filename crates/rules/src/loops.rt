@@ -1,9 +1,9 @@
 // The loops of the rules, each over any of its tests.
 ghost use Rattle.std.specs.Prelude.{◌≤◌, ltb, ◌≡◌};
-ghost use Rattle.profile.specs.Rules.{badComplement, differs, setsDiffer};
-ghost use Rattle.rules.specs.steps.Loops.{anyGroup, anyTabled, badChannel, earlierEntry, fieldsDiffer, groupRight, groupTest, tabledRight, tabledTest, ownSet, pairRight, pairTest, totalTimes, twoEntries};
-ghost use Rattle.sheet.specs.Fields.{complementList};
-ghost use Rattle.sheet.specs.Words.{sheetOf};
+ghost use Rattle.profile.specs.Rules.{bad_complement, differs, sets_differ};
+ghost use Rattle.rules.specs.steps.Loops.{any_group, any_tabled, bad_channel, earlier_entry, fields_differ, group_right, group_test, tabled_right, tabled_test, own_set, pair_right, pair_test, total_times, two_entries};
+ghost use Rattle.sheet.specs.Fields.{complement_list};
+ghost use Rattle.sheet.specs.Words.{sheet_of};
 ghost use Rattle.tables.specs.steps.Right.{Complemented, Included, Tops};
 
 use crate::{GroupTest, PairTest, TabledTest};
@@ -22,7 +22,7 @@ use tables::reads::{included_by, leader_by, owner_by, top_by};
 // Whether two records of a section differ in one of the seven words from a position on.
 fn fields_differ(s: &[u8], section: u8, from: u8, a: u16, b: u16) -> bool
     requires { from ≤ 7 }
-    ensures { result ≡ fieldsDiffer (sheetOf s.now) section from a b }
+    ensures { result ≡ fields_differ (sheet_of s.now) section from a b }
 {
     let mut found = false;
     let mut f: u8 = 0;
@@ -35,21 +35,21 @@ fn fields_differ(s: &[u8], section: u8, from: u8, a: u16, b: u16) -> bool
 
 // A leader differs from a member in interact, gain, offset, the four range words or kind.
 pub fn differs(s: &[u8], l: u16, q: u16) -> bool
-    ensures { result ≡ differs (sheetOf s.now) l q }
+    ensures { result ≡ differs (sheet_of s.now) l q }
 {
     fields_differ(s, OBJECTS, INTERACT, l, q) | (kind(s, l) != kind(s, q))
 }
 
 // Two sets differ in any of seven words.
 pub fn sets_differ(s: &[u8], u: u16, v: u16) -> bool
-    ensures { result ≡ setsDiffer (sheetOf s.now) u v }
+    ensures { result ≡ sets_differ (sheet_of s.now) u v }
 {
     fields_differ(s, VALUE_SETS, SET_GAIN, u, v)
 }
 
 // How often all lists at a position of the objects name x.
 pub fn total_times(s: &[u8], at: u8, x: u16) -> u32
-    ensures { result ≡ totalTimes (sheetOf s.now) at x }
+    ensures { result ≡ total_times (sheet_of s.now) at x }
 {
     let n = count(s, OBJECTS);
     let mut total: u32 = 0;
@@ -63,7 +63,7 @@ pub fn total_times(s: &[u8], at: u8, x: u16) -> u32
 
 // Whether complement lists name an object more than once.
 fn named_more(s: &[u8], complements: &[u16], q: u16) -> bool
-    ensures { Complemented (sheetOf s.now) complements.now → result ≡ ltb 1 (totalTimes (sheetOf s.now) complementList q) }
+    ensures { Complemented (sheet_of s.now) complements.now → result ≡ ltb 1 (total_times (sheet_of s.now) complement_list q) }
 {
     let i = q as usize;
     if i < complements.len() {
@@ -75,14 +75,14 @@ fn named_more(s: &[u8], complements: &[u16], q: u16) -> bool
 
 // A complement that isn't top, that itself lists some, or that complement lists name more than once.
 pub fn bad_complement(s: &[u8], tops: &[u16], complements: &[u16], q: u16) -> bool
-    ensures { Tops (sheetOf s.now) tops.now → Complemented (sheetOf s.now) complements.now → result ≡ badComplement (sheetOf s.now) q }
+    ensures { Tops (sheet_of s.now) tops.now → Complemented (sheet_of s.now) complements.now → result ≡ bad_complement (sheet_of s.now) q }
 {
     !top_by(s, tops, q) | leader(s, q) | named_more(s, complements, q)
 }
 
 // Whether an entry passes the test, with the two tables that the test reads.
 pub fn tabled_test(s: &[u8], a: &[u16], b: &[u16], test: TabledTest, e: u16) -> bool
-    ensures { tabledRight (sheetOf s.now) test a.now b.now → result ≡ tabledTest (sheetOf s.now) test e }
+    ensures { tabled_right (sheet_of s.now) test a.now b.now → result ≡ tabled_test (sheet_of s.now) test e }
 {
     match test {
         TabledTest::BadComplement => bad_complement(s, a, b, e),
@@ -93,7 +93,7 @@ pub fn tabled_test(s: &[u8], a: &[u16], b: &[u16], test: TabledTest, e: u16) -> 
 
 // Whether one of the n references from one on passes the test.
 pub fn any_tabled(s: &[u8], a: &[u16], b: &[u16], first: u16, n: u16, test: TabledTest) -> bool
-    ensures { tabledRight (sheetOf s.now) test a.now b.now → result ≡ anyTabled (sheetOf s.now) first n test }
+    ensures { tabled_right (sheet_of s.now) test a.now b.now → result ≡ any_tabled (sheet_of s.now) first n test }
 {
     let mut found = false;
     let mut i: u16 = 0;
@@ -106,7 +106,7 @@ pub fn any_tabled(s: &[u8], a: &[u16], b: &[u16], first: u16, n: u16, test: Tabl
 
 // Whether two entries pass the test.
 pub fn pair_test(s: &[u8], owners: &[u16], leaders: &[u16], test: PairTest, x: u16, y: u16) -> bool
-    ensures { pairRight (sheetOf s.now) test owners.now leaders.now → result ≡ pairTest (sheetOf s.now) test x y }
+    ensures { pair_right (sheet_of s.now) test owners.now leaders.now → result ≡ pair_test (sheet_of s.now) test x y }
 {
     match test {
         PairTest::Same => x == y,
@@ -132,7 +132,7 @@ fn earlier_entry(
     test: PairTest,
     j: u16,
 ) -> bool
-    ensures { pairRight (sheetOf s.now) test owners.now leaders.now → result ≡ earlierEntry (sheetOf s.now) first test j }
+    ensures { pair_right (sheet_of s.now) test owners.now leaders.now → result ≡ earlier_entry (sheet_of s.now) first test j }
 {
     let y = reference(s, first as u32 + j as u32);
     let mut found = false;
@@ -161,7 +161,7 @@ pub fn two_entries(
     n: u16,
     test: PairTest,
 ) -> bool
-    ensures { pairRight (sheetOf s.now) test owners.now leaders.now → result ≡ twoEntries (sheetOf s.now) first n test }
+    ensures { pair_right (sheet_of s.now) test owners.now leaders.now → result ≡ two_entries (sheet_of s.now) first n test }
 {
     let mut found = false;
     let mut j: u16 = 0;
@@ -174,7 +174,7 @@ pub fn two_entries(
 
 // Whether an object passes the test as a leader.
 pub fn group_test(s: &[u8], p: u16, marks: &[u16], sets: &[u16], test: GroupTest, l: u16) -> bool
-    ensures { Included (sheetOf s.now) p marks.now → groupRight (sheetOf s.now) p test sets.now → result ≡ groupTest (sheetOf s.now) p test l }
+    ensures { Included (sheet_of s.now) p marks.now → group_right (sheet_of s.now) p test sets.now → result ≡ group_test (sheet_of s.now) p test l }
 {
     if !leader(s, l) {
         return false;
@@ -196,7 +196,7 @@ pub fn group_test(s: &[u8], p: u16, marks: &[u16], sets: &[u16], test: GroupTest
 
 // Whether some leader passes the test.
 pub fn any_group(s: &[u8], p: u16, marks: &[u16], sets: &[u16], test: GroupTest) -> bool
-    ensures { Included (sheetOf s.now) p marks.now → groupRight (sheetOf s.now) p test sets.now → result ≡ anyGroup (sheetOf s.now) p test }
+    ensures { Included (sheet_of s.now) p marks.now → group_right (sheet_of s.now) p test sets.now → result ≡ any_group (sheet_of s.now) p test }
 {
     let n = count(s, OBJECTS);
     let mut found = false;
@@ -210,7 +210,7 @@ pub fn any_group(s: &[u8], p: u16, marks: &[u16], sets: &[u16], test: GroupTest)
 
 // Whether some channel is not the ordinal of exactly one of the object's tracks.
 pub fn bad_channel(s: &[u8], o: u16) -> bool
-    ensures { result ≡ badChannel (sheetOf s.now) o }
+    ensures { result ≡ bad_channel (sheet_of s.now) o }
 {
     let n = channels(s, o);
     let mut found = false;
@@ -224,7 +224,7 @@ pub fn bad_channel(s: &[u8], o: u16) -> bool
 
 // Whether some set of the object has own 1.
 pub fn own_set(s: &[u8], o: u16) -> bool
-    ensures { result ≡ ownSet (sheetOf s.now) o }
+    ensures { result ≡ own_set (sheet_of s.now) o }
 {
     let from = field(s, OBJECTS, o, SET_SPAN);
     let n = number(s, OBJECTS, o, SET_SPAN);

@@ -1,12 +1,12 @@
 // Rules 11 and 12: what names what, and how often.
 ghost use Rattle.std.specs.Prelude.{eqb, ◌≡◌};
-ghost use Rattle.profile.specs.Counting.{any, howMany};
-ghost use Rattle.profile.specs.Relations.{hasSet, lists, namings};
+ghost use Rattle.profile.specs.Counting.{any, how_many};
+ghost use Rattle.profile.specs.Relations.{has_set, lists, namings};
 ghost use Rattle.profile.specs.Rules.{rule11, rule12};
 ghost use Rattle.runs.specs.steps.Runs.{RepeatRight};
-ghost use Rattle.sheet.specs.Fields.{contentList, contents, objects, programmes, valueSets};
+ghost use Rattle.sheet.specs.Fields.{content_list, contents, objects, programmes, value_sets};
 ghost use Rattle.sheet.specs.Layout.{count};
-ghost use Rattle.sheet.specs.Words.{sheetOf};
+ghost use Rattle.sheet.specs.Words.{sheet_of};
 ghost use Rattle.tables.specs.steps.Right.{Listed, Named, Spanned};
 
 use crate::loops::total_times;
@@ -17,7 +17,7 @@ use sheet::fields::{CHILD_LIST, CONTENT_LIST, CONTENTS, OBJECTS, PROGRAMMES};
 
 // How often contents and child lists name an object.
 fn namings(s: &[u8], o: u16) -> u64
-    ensures { result ≡ namings (sheetOf s.now) o }
+    ensures { result ≡ namings (sheet_of s.now) o }
 {
     how_many_records(s, CONTENTS, RecordTest::Names(o)) as u64
         + total_times(s, CHILD_LIST, o) as u64
@@ -25,7 +25,7 @@ fn namings(s: &[u8], o: u16) -> u64
 
 // Whether contents and child lists name an object exactly once.
 fn named_once(s: &[u8], named: &[u16], o: u16) -> bool
-    ensures { Named (sheetOf s.now) named.now → result ≡ eqb (namings (sheetOf s.now) o) 1 }
+    ensures { Named (sheet_of s.now) named.now → result ≡ eqb (namings (sheet_of s.now) o) 1 }
 {
     let i = o as usize;
     if i < named.len() {
@@ -37,7 +37,7 @@ fn named_once(s: &[u8], named: &[u16], o: u16) -> bool
 
 // Whether a value set is in exactly one span.
 fn spanned_once(s: &[u8], spanned: &[u16], v: u16) -> bool
-    ensures { Spanned (sheetOf s.now) spanned.now → result ≡ eqb (howMany (λ o. hasSet (sheetOf s.now) o v) (count (sheetOf s.now) objects)) 1 }
+    ensures { Spanned (sheet_of s.now) spanned.now → result ≡ eqb (how_many (λ o. has_set (sheet_of s.now) o v) (count (sheet_of s.now) objects)) 1 }
 {
     let i = v as usize;
     if i < spanned.len() {
@@ -49,7 +49,7 @@ fn spanned_once(s: &[u8], spanned: &[u16], v: u16) -> bool
 
 // Whether a content is in some programme.
 fn is_listed(s: &[u8], listed: &[u16], c: u16) -> bool
-    ensures { Listed (sheetOf s.now) listed.now → result ≡ any (λ p. lists (sheetOf s.now) programmes p contentList c) (count (sheetOf s.now) programmes) }
+    ensures { Listed (sheet_of s.now) listed.now → result ≡ any (λ p. lists (sheet_of s.now) programmes p content_list c) (count (sheet_of s.now) programmes) }
 {
     let i = c as usize;
     if i < listed.len() {
@@ -61,7 +61,7 @@ fn is_listed(s: &[u8], listed: &[u16], c: u16) -> bool
 
 // It is lent the table of namings for an object, and that of spans for a value set.
 pub fn rule11(s: &[u8], table: &[u16], section: u8, k: u16) -> bool
-    ensures { (section ≡ objects → Named (sheetOf s.now) table.now) → (section ≡ valueSets → Spanned (sheetOf s.now) table.now) → result ≡ rule11 (sheetOf s.now) section k }
+    ensures { (section ≡ objects → Named (sheet_of s.now) table.now) → (section ≡ value_sets → Spanned (sheet_of s.now) table.now) → result ≡ rule11 (sheet_of s.now) section k }
 {
     match section {
         3 => !named_once(s, table, k),
@@ -72,7 +72,7 @@ pub fn rule11(s: &[u8], table: &[u16], section: u8, k: u16) -> bool
 
 // It is lent the table of repeats for a programme, and that of content lists for a content.
 pub fn rule12(s: &[u8], table: &[u16], section: u8, k: u16) -> bool
-    ensures { (section ≡ programmes → RepeatRight (sheetOf s.now) table.now) → (section ≡ contents → Listed (sheetOf s.now) table.now) → result ≡ rule12 (sheetOf s.now) section k }
+    ensures { (section ≡ programmes → RepeatRight (sheet_of s.now) table.now) → (section ≡ contents → Listed (sheet_of s.now) table.now) → result ≡ rule12 (sheet_of s.now) section k }
 {
     match section {
         1 => repeats_by(s, table, PROGRAMMES, k, CONTENT_LIST),

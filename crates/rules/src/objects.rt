@@ -2,7 +2,7 @@
 ghost use Rattle.std.specs.Prelude.{◌≡◌};
 ghost use Rattle.profile.specs.Rules.{rule13, rule14, rule15, rule16};
 ghost use Rattle.runs.specs.steps.Runs.{OrdinalRight, StrayRight};
-ghost use Rattle.sheet.specs.Words.{sheetOf};
+ghost use Rattle.sheet.specs.Words.{sheet_of};
 ghost use Rattle.tables.specs.steps.Right.{Tops};
 
 use crate::loops::own_set;
@@ -21,7 +21,7 @@ use values::Sort;
 use values::values::is_absent;
 
 pub fn rule13(s: &[u8], section: u8, o: u16) -> bool
-    ensures { result ≡ rule13 (sheetOf s.now) section o }
+    ensures { result ≡ rule13 (sheet_of s.now) section o }
 {
     let pack = has_pack(s, o);
     let children = has_children(s, o);
@@ -32,7 +32,7 @@ pub fn rule13(s: &[u8], section: u8, o: u16) -> bool
 
 // It is lent a table of the tracks that don't go on with the pack, and one of the ordinals that repeat.
 pub fn rule14(s: &[u8], next: &[u16], again: &[u16], section: u8, o: u16) -> bool
-    ensures { StrayRight (sheetOf s.now) next.now → OrdinalRight (sheetOf s.now) again.now → result ≡ rule14 (sheetOf s.now) section o }
+    ensures { StrayRight (sheet_of s.now) next.now → OrdinalRight (sheet_of s.now) again.now → result ≡ rule14 (sheet_of s.now) section o }
 {
     let n = number(s, OBJECTS, o, TRACK_LIST);
     if n != channels(s, o) {
@@ -52,7 +52,7 @@ pub fn rule14(s: &[u8], next: &[u16], again: &[u16], section: u8, o: u16) -> boo
 }
 
 pub fn rule15(s: &[u8], tops: &[u16], section: u8, o: u16) -> bool
-    ensures { Tops (sheetOf s.now) tops.now → result ≡ rule15 (sheetOf s.now) section o }
+    ensures { Tops (sheet_of s.now) tops.now → result ≡ rule15 (sheet_of s.now) section o }
 {
     !top_by(s, tops, o)
         & (leader(s, o)
@@ -65,7 +65,7 @@ pub fn rule15(s: &[u8], tops: &[u16], section: u8, o: u16) -> bool
 }
 
 pub fn rule16(s: &[u8], section: u8, o: u16) -> bool
-    ensures { result ≡ rule16 (sheetOf s.now) section o }
+    ensures { result ≡ rule16 (sheet_of s.now) section o }
 {
     (field(s, OBJECTS, o, INTERACT) == 0)
         & (object_range(s, o, Sort::Gains) | object_range(s, o, Sort::Offsets) | own_set(s, o))

@@ -1,7 +1,7 @@
 // Rules 17 and 18: offsets and their packs, values and their ranges.
 ghost use Rattle.std.specs.Prelude.{◌≡◌};
-ghost use Rattle.profile.specs.Rules.{leaves, objectLeaves, rule17, rule18, setLeaves};
-ghost use Rattle.sheet.specs.Words.{sheetOf};
+ghost use Rattle.profile.specs.Rules.{leaves, object_leaves, rule17, rule18, set_leaves};
+ghost use Rattle.sheet.specs.Words.{sheet_of};
 ghost use Rattle.tables.specs.steps.Right.{Owners};
 
 use crate::words::{object_range, set_range};
@@ -17,7 +17,7 @@ use values::Sort;
 use values::values::{in_range, is_absent};
 
 pub fn rule17(s: &[u8], owners: &[u16], section: u8, k: u16) -> bool
-    ensures { Owners (sheetOf s.now) owners.now → result ≡ rule17 (sheetOf s.now) section k }
+    ensures { Owners (sheet_of s.now) owners.now → result ≡ rule17 (sheet_of s.now) section k }
 {
     match section {
         3 => {
@@ -41,7 +41,7 @@ pub fn leaves(sort: Sort, value: u16, minimum: u16, maximum: u16) -> bool
 
 // An object's own value leaves its range.
 fn object_leaves(s: &[u8], o: u16, sort: Sort) -> bool
-    ensures { result ≡ objectLeaves (sheetOf s.now) o sort }
+    ensures { result ≡ object_leaves (sheet_of s.now) o sort }
 {
     leaves(
         sort,
@@ -53,7 +53,7 @@ fn object_leaves(s: &[u8], o: u16, sort: Sort) -> bool
 
 // Set v of object o: its effective value leaves the effective range, or its own one the object's range.
 fn set_leaves(s: &[u8], o: u16, v: u16, sort: Sort) -> bool
-    ensures { result ≡ setLeaves (sheetOf s.now) o v sort }
+    ensures { result ≡ set_leaves (sheet_of s.now) o v sort }
 {
     let own = field(s, VALUE_SETS, v, set_value(sort));
     leaves(
@@ -71,7 +71,7 @@ fn set_leaves(s: &[u8], o: u16, v: u16, sort: Sort) -> bool
 }
 
 pub fn rule18(s: &[u8], owners: &[u16], section: u8, k: u16) -> bool
-    ensures { Owners (sheetOf s.now) owners.now → result ≡ rule18 (sheetOf s.now) section k }
+    ensures { Owners (sheet_of s.now) owners.now → result ≡ rule18 (sheet_of s.now) section k }
 {
     match section {
         3 => object_leaves(s, k, Sort::Gains) | object_leaves(s, k, Sort::Offsets),

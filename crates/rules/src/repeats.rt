@@ -3,9 +3,9 @@ ghost use Rattle.std.specs.Prelude.{suc, ◌<◌, eqb, get_or, length, cond, not
 ghost use Rattle.profile.specs.Relations.{channels};
 ghost use Rattle.profile.specs.Rules.{repeats};
 ghost use Rattle.runs.specs.steps.Runs.{RepeatRight};
-ghost use Rattle.rules.specs.steps.Loops.{badChannel, keyOf, keyRight, keysAlike, setsDifferInGroup};
-ghost use Rattle.sheet.specs.Words.{sheetOf};
-ghost use Rattle.sheet.specs.Fields.{objects, programmes, setList, trackList};
+ghost use Rattle.rules.specs.steps.Loops.{bad_channel, key_of, key_right, keys_alike, sets_differ_in_group};
+ghost use Rattle.sheet.specs.Words.{sheet_of};
+ghost use Rattle.sheet.specs.Fields.{objects, programmes, set_list, track_list};
 ghost use Rattle.sheet.specs.Layout.{number};
 ghost use Rattle.tables.specs.steps.Marks.{Standing};
 ghost use Rattle.tables.specs.steps.Right.{Leaders, Owners, told};
@@ -23,7 +23,7 @@ use tables::reads::{leader_by, owner_by};
 
 // What is compared of an entry.
 fn key_of(s: &[u8], owners: &[u16], key: Key, e: u16) -> u16
-    ensures { keyRight (sheetOf s.now) key owners.now → result ≡ keyOf (sheetOf s.now) key e }
+    ensures { key_right (sheet_of s.now) key owners.now → result ≡ key_of (sheet_of s.now) key e }
 {
     match key {
         Key::Entry => e,
@@ -45,7 +45,7 @@ fn see(seen: &mut [u16], x: u16) -> bool
 
 // Whether two entries of the list at a position of a record have the same key.
 pub fn keys_alike(s: &[u8], owners: &[u16], section: u8, k: u16, at: u8, key: Key) -> bool
-    ensures { keyRight (sheetOf s.now) key owners.now → result ≡ keysAlike (sheetOf s.now) section k at key }
+    ensures { key_right (sheet_of s.now) key owners.now → result ≡ keys_alike (sheet_of s.now) section k at key }
 {
     let n = number(s, section, k, at);
     let mut seen: [u16; 65536] = [0; 65536];
@@ -65,7 +65,7 @@ const SHORT: u16 = 48;
 
 // The list at a position of a record has one entry at two of its places.
 pub fn repeats(s: &[u8], section: u8, k: u16, at: u8) -> bool
-    ensures { result ≡ repeats (sheetOf s.now) section k at }
+    ensures { result ≡ repeats (sheet_of s.now) section k at }
 {
     let none: [u16; 1] = [0];
     let n = number(s, section, k, at);
@@ -78,7 +78,7 @@ pub fn repeats(s: &[u8], section: u8, k: u16, at: u8) -> bool
 
 // The same, by the table where it has the list.
 pub fn repeats_by(s: &[u8], next: &[u16], section: u8, k: u16, at: u8) -> bool
-    ensures { RepeatRight (sheetOf s.now) next.now → result ≡ repeats (sheetOf s.now) section k at }
+    ensures { RepeatRight (sheet_of s.now) next.now → result ≡ repeats (sheet_of s.now) section k at }
 {
     let looked = look_up(s, next, section, k, at);
     if looked.known {
@@ -90,7 +90,7 @@ pub fn repeats_by(s: &[u8], next: &[u16], section: u8, k: u16, at: u8) -> bool
 
 // A programme names two sets of one object.
 pub fn one_owner(s: &[u8], owners: &[u16], p: u16) -> bool
-    ensures { Owners (sheetOf s.now) owners.now → result ≡ keysAlike (sheetOf s.now) programmes p setList Owner }
+    ensures { Owners (sheet_of s.now) owners.now → result ≡ keys_alike (sheet_of s.now) programmes p set_list Owner }
 {
     let n = number(s, PROGRAMMES, p, SET_LIST);
     if n <= SHORT {
@@ -109,7 +109,7 @@ pub fn one_owner(s: &[u8], owners: &[u16], p: u16) -> bool
 
 // Whether some channel of n is not the ordinal of exactly one of the object's n tracks.
 pub fn bad_ordinals(s: &[u8], o: u16) -> bool
-    ensures { number (sheetOf s.now) objects o trackList ≡ channels (sheetOf s.now) o → result ≡ badChannel (sheetOf s.now) o }
+    ensures { number (sheet_of s.now) objects o track_list ≡ channels (sheet_of s.now) o → result ≡ bad_channel (sheet_of s.now) o }
 {
     let none: [u16; 1] = [0];
     let n = number(s, OBJECTS, o, TRACK_LIST);
@@ -137,7 +137,7 @@ fn first_of(first: &mut [u16], l: u16, j: u16) -> u16
 
 // Whether the sets that a programme names differ within a group, pair by pair.
 fn group_pairs_differ(s: &[u8], owners: &[u16], leaders: &[u16], p: u16) -> bool
-    ensures { Owners (sheetOf s.now) owners.now → Leaders (sheetOf s.now) leaders.now → result ≡ setsDifferInGroup (sheetOf s.now) p }
+    ensures { Owners (sheet_of s.now) owners.now → Leaders (sheet_of s.now) leaders.now → result ≡ sets_differ_in_group (sheet_of s.now) p }
 {
     two_entries(
         s,
@@ -152,7 +152,7 @@ fn group_pairs_differ(s: &[u8], owners: &[u16], leaders: &[u16], p: u16) -> bool
 // The same for a long list: each is compared with the first of its group. No sheet has more than 2,046 objects; a larger number would
 // be past the table.
 fn differ_from_first(s: &[u8], owners: &[u16], leaders: &[u16], p: u16) -> bool
-    ensures { Owners (sheetOf s.now) owners.now → Leaders (sheetOf s.now) leaders.now → result ≡ setsDifferInGroup (sheetOf s.now) p }
+    ensures { Owners (sheet_of s.now) owners.now → Leaders (sheet_of s.now) leaders.now → result ≡ sets_differ_in_group (sheet_of s.now) p }
 {
     let n = number(s, PROGRAMMES, p, SET_LIST);
     let mut first: [u16; 2048] = [0; 2048];
@@ -174,7 +174,7 @@ fn differ_from_first(s: &[u8], owners: &[u16], leaders: &[u16], p: u16) -> bool
 
 // A short list by its pairs, a long one by a table.
 pub fn differ_in_group(s: &[u8], owners: &[u16], leaders: &[u16], p: u16) -> bool
-    ensures { Owners (sheetOf s.now) owners.now → Leaders (sheetOf s.now) leaders.now → result ≡ setsDifferInGroup (sheetOf s.now) p }
+    ensures { Owners (sheet_of s.now) owners.now → Leaders (sheet_of s.now) leaders.now → result ≡ sets_differ_in_group (sheet_of s.now) p }
 {
     if number(s, PROGRAMMES, p, SET_LIST) <= SHORT {
         group_pairs_differ(s, owners, leaders, p)

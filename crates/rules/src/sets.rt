@@ -1,7 +1,7 @@
 // Rule 22: the sets that a programme names.
 ghost use Rattle.std.specs.Prelude.{◌≡◌};
 ghost use Rattle.profile.specs.Rules.{rule22};
-ghost use Rattle.sheet.specs.Words.{sheetOf};
+ghost use Rattle.sheet.specs.Words.{sheet_of};
 ghost use Rattle.tables.specs.steps.Right.{Included, Leaders, Owners};
 
 use crate::loops::{any_group, any_tabled};
@@ -12,7 +12,7 @@ use sheet::layout::{field, number};
 use tables::marks::mark_named_sets;
 
 pub fn rule22(s: &[u8], owners: &[u16], leaders: &[u16], marks: &[u16], section: u8, p: u16) -> bool
-    ensures { Owners (sheetOf s.now) owners.now → Leaders (sheetOf s.now) leaders.now → Included (sheetOf s.now) p marks.now → result ≡ rule22 (sheetOf s.now) section p }
+    ensures { Owners (sheet_of s.now) owners.now → Leaders (sheet_of s.now) leaders.now → Included (sheet_of s.now) p marks.now → result ≡ rule22 (sheet_of s.now) section p }
 {
     if any_tabled(
         s,

@@ -1,8 +1,8 @@
 // Rule 6: words and labels outside their values.
 ghost use Rattle.std.specs.Prelude.{◌≡◌};
-ghost use Rattle.profile.specs.Rules.{badLabel, badObject, badObjectWords, badPack, badSet, badSetWords, badSpeech, badWords, objectRange, rule6, setRange};
+ghost use Rattle.profile.specs.Rules.{bad_label, bad_object, bad_object_words, bad_pack, bad_set, bad_set_words, bad_speech, bad_words, object_range, rule6, set_range};
 ghost use Rattle.runs.specs.steps.Runs.{LanguagesRight};
-ghost use Rattle.sheet.specs.Words.{sheetOf};
+ghost use Rattle.sheet.specs.Words.{sheet_of};
 
 use languages::list::Languages;
 use relations::labels::bad_label;
@@ -22,7 +22,7 @@ use values::values::{is_absent, is_maximum, is_minimum, is_value};
 
 // A label outside, by the table where it has the list.
 fn bad_label_by(s: &[u8], langs: &Languages, next: &[u16], section: u8, k: u16, at: u8) -> bool
-    ensures { LanguagesRight (sheetOf s.now) langs.now next.now → result ≡ badLabel (sheetOf s.now) langs.now section k at }
+    ensures { LanguagesRight (sheet_of s.now) langs.now next.now → result ≡ bad_label (sheet_of s.now) langs.now section k at }
 {
     let looked = look_up(s, next, section, k, at);
     if looked.known {
@@ -43,7 +43,7 @@ fn bad_speech(
     labels: u8,
     loud: u8,
 ) -> bool
-    ensures { LanguagesRight (sheetOf s.now) langs.now next.now → result ≡ badSpeech (sheetOf s.now) langs.now section k lang labels loud }
+    ensures { LanguagesRight (sheet_of s.now) langs.now next.now → result ≡ bad_speech (sheet_of s.now) langs.now section k lang labels loud }
 {
     !langs.good(field(s, section, k, lang))
         | bad_label_by(s, langs, next, section, k, labels)
@@ -52,7 +52,7 @@ fn bad_speech(
 
 // A value and its range, of one sort: words outside, or half a pair; each word may be absent.
 pub fn bad_words(sort: Sort, value: u16, minimum: u16, maximum: u16) -> bool
-    ensures { result ≡ badWords sort value minimum maximum }
+    ensures { result ≡ bad_words sort value minimum maximum }
 {
     let low = is_absent(minimum);
     let high = is_absent(maximum);
@@ -63,7 +63,7 @@ pub fn bad_words(sort: Sort, value: u16, minimum: u16, maximum: u16) -> bool
 }
 
 fn bad_object_words(s: &[u8], o: u16, sort: Sort) -> bool
-    ensures { result ≡ badObjectWords (sheetOf s.now) o sort }
+    ensures { result ≡ bad_object_words (sheet_of s.now) o sort }
 {
     bad_words(
         sort,
@@ -74,7 +74,7 @@ fn bad_object_words(s: &[u8], o: u16, sort: Sort) -> bool
 }
 
 fn bad_set_words(s: &[u8], v: u16, sort: Sort) -> bool
-    ensures { result ≡ badSetWords (sheetOf s.now) v sort }
+    ensures { result ≡ bad_set_words (sheet_of s.now) v sort }
 {
     bad_words(
         sort,
@@ -86,7 +86,7 @@ fn bad_set_words(s: &[u8], v: u16, sort: Sort) -> bool
 
 // A range word of that sort is present in an object.
 pub fn object_range(s: &[u8], o: u16, sort: Sort) -> bool
-    ensures { result ≡ objectRange (sheetOf s.now) o sort }
+    ensures { result ≡ object_range (sheet_of s.now) o sort }
 {
     !is_absent(field(s, OBJECTS, o, object_minimum(sort)))
         | !is_absent(field(s, OBJECTS, o, object_maximum(sort)))
@@ -94,14 +94,14 @@ pub fn object_range(s: &[u8], o: u16, sort: Sort) -> bool
 
 // A range word of that sort is present in a set.
 pub fn set_range(s: &[u8], v: u16, sort: Sort) -> bool
-    ensures { result ≡ setRange (sheetOf s.now) v sort }
+    ensures { result ≡ set_range (sheet_of s.now) v sort }
 {
     !is_absent(field(s, VALUE_SETS, v, set_minimum(sort)))
         | !is_absent(field(s, VALUE_SETS, v, set_maximum(sort)))
 }
 
 fn bad_object(s: &[u8], o: u16) -> bool
-    ensures { result ≡ badObject (sheetOf s.now) o }
+    ensures { result ≡ bad_object (sheet_of s.now) o }
 {
     (1 < field(s, OBJECTS, o, INTERACT))
         | bad_object_words(s, o, Sort::Gains)
@@ -109,14 +109,14 @@ fn bad_object(s: &[u8], o: u16) -> bool
 }
 
 pub fn bad_pack(s: &[u8], k: u16) -> bool
-    ensures { result ≡ badPack (sheetOf s.now) k }
+    ensures { result ≡ bad_pack (sheet_of s.now) k }
 {
     let kind = field(s, PACKS, k, PACK_KIND);
     !((kind == 1) | (kind == 3)) | (1 < field(s, PACKS, k, PACK_FRONT))
 }
 
 fn bad_set(s: &[u8], v: u16) -> bool
-    ensures { result ≡ badSet (sheetOf s.now) v }
+    ensures { result ≡ bad_set (sheet_of s.now) v }
 {
     let own = field(s, VALUE_SETS, v, SET_OWN);
     (1 < own)
@@ -126,7 +126,7 @@ fn bad_set(s: &[u8], v: u16) -> bool
 }
 
 pub fn rule6(s: &[u8], langs: &Languages, next: &[u16], section: u8, k: u16) -> bool
-    ensures { LanguagesRight (sheetOf s.now) langs.now next.now → result ≡ rule6 (sheetOf s.now) langs.now section k }
+    ensures { LanguagesRight (sheet_of s.now) langs.now next.now → result ≡ rule6 (sheet_of s.now) langs.now section k }
 {
     match section {
         1 => bad_speech(

@@ -6,17 +6,17 @@ use native.Mathlib.Omega.{arith}
 use native.Mathlib.Nat.{add-zero}
 use borrow.Author.Tests.{eqb-true, eq-eqb, not-false}
 use lib.Dec.{eqb, leb}
-use Rattle.profile.specs.Counting.{any, howMany, twoOf}
-use Rattle.profile.proofs.BoolLaws.{or-none, or-none-3}
-use Rattle.profile.proofs.CountingLaws.{any-none}
-use Rattle.profile.proofs.SumLaws.{any-nowhere}
-use Rattle.runs.proofs.OrdinalLaws.{once-each}
+use Rattle.profile.specs.Counting.{any, how_many, two_of}
+use Rattle.profile.proofs.BoolLaws.{or_none, or_none_3}
+use Rattle.profile.proofs.CountingLaws.{any_none}
+use Rattle.profile.proofs.SumLaws.{any_nowhere}
+use Rattle.runs.proofs.OrdinalLaws.{once_each}
 
 -- tests that fail together
-same-false : (a b : Bool) → (a ≡ false → b ≡ false) → (b ≡ false → a ≡ false) → a ≡ b
-same-false true true f g = refl
-same-false true false f g = g refl
-same-false false b f g = sym (f refl)
+same_false : (a b : Bool) → (a ≡ false → b ≡ false) → (b ≡ false → a ≡ false) → a ≡ b
+same_false true true f g = refl
+same_false true false f g = g refl
+same_false false b f g = sym (f refl)
 
 -- track y has pack f y and ordinal g y, and pack p has h p channels
 module _ (f g h : ℕ → ℕ) (a p n k : ℕ) (more : n ≡ suc k) (full : h p ≡ n) where
@@ -37,13 +37,13 @@ module _ (f g h : ℕ → ℕ) (a p n k : ℕ) (more : n ≡ suc k) (full : h p 
     same : (i : ℕ) → i ≤ k → f (a + i) ≡ p
     same zero l = ap f (add-zero a) ∙ start
     same (suc i) l =
-        let e = eqb-true _ _ (not-false _ (or-none (not (eqb (f (a + i)) (f ((a + i) + 1)))) (leb (h (f ((a + i) + 1))) (g ((a + i) + 1))) (none i (omega arith))).0) in
+        let e = eqb-true _ _ (not-false _ (or_none (not (eqb (f (a + i)) (f ((a + i) + 1)))) (leb (h (f ((a + i) + 1))) (g ((a + i) + 1))) (none i (omega arith))).0) in
         ap f (sym (next i)) ∙ sym e ∙ same i (omega arith)
 
     below : (i : ℕ) → i ≤ k → past i ≡ false
     below zero l = ap (λ (y : ℕ). leb n (g y)) (add-zero a) ∙ low
     below (suc i) l =
-        let e : leb (h (f ((a + i) + 1))) (g ((a + i) + 1)) ≡ false = (or-none (not (eqb (f (a + i)) (f ((a + i) + 1)))) (leb (h (f ((a + i) + 1))) (g ((a + i) + 1))) (none i (omega arith))).1 in
+        let e : leb (h (f ((a + i) + 1))) (g ((a + i) + 1)) ≡ false = (or_none (not (eqb (f (a + i)) (f ((a + i) + 1)))) (leb (h (f ((a + i) + 1))) (g ((a + i) + 1))) (none i (omega arith))).1 in
         let d : leb (h (f (a + suc i))) (g (a + suc i)) ≡ false = rw (next i) at e in
         ap (λ (c : ℕ). leb c (g (a + suc i))) (sym full ∙ ap h (sym (same (suc i) l))) ∙ d
 
@@ -55,21 +55,21 @@ module _ (f g h : ℕ → ℕ) (a p n k : ℕ) (more : n ≡ suc k) (full : h p 
 
   forth : told ≡ false → found ≡ false
   forth e =
-      let t = or-none-3 _ _ _ e in
+      let t = or_none_3 _ _ _ e in
       let start : f a ≡ p = eqb-true (f a) p (not-false _ t.0) in
-      let none : (i : ℕ) → i < k → odd (a + i) ≡ false = any-none (λ i. odd (a + i)) k t.2 in
-      rw (any-nowhere other n (λ i l. ap not (eq-eqb (f (a + i)) p (same start t.1 none i (omega arith)))))
-      (any-nowhere past n (λ i l. below start t.1 none i (omega arith)))
+      let none : (i : ℕ) → i < k → odd (a + i) ≡ false = any_none (λ i. odd (a + i)) k t.2 in
+      rw (any_nowhere other n (λ i l. ap not (eq-eqb (f (a + i)) p (same start t.1 none i (omega arith)))))
+      (any_nowhere past n (λ i l. below start t.1 none i (omega arith)))
 
   back : found ≡ false → told ≡ false
   back e =
-      let t = or-none _ _ e in
-      let o : (i : ℕ) → i < n → f (a + i) ≡ p = λ i l. eqb-true _ _ (not-false _ (any-none other n t.0 i l)) in
-      let q : (i : ℕ) → i < n → past i ≡ false = any-none past n t.1 in
+      let t = or_none _ _ e in
+      let o : (i : ℕ) → i < n → f (a + i) ≡ p = λ i l. eqb-true _ _ (not-false _ (any_none other n t.0 i l)) in
+      let q : (i : ℕ) → i < n → past i ≡ false = any_none past n t.1 in
       let z : a + 0 ≡ a = add-zero a in
       let x : not (eqb (f a) p) ≡ false = ap not (eq-eqb (f a) p (ap f (sym z) ∙ o 0 (omega arith))) in
       let y : leb n (g a) ≡ false = ap (λ (w : ℕ). leb n (g w)) (sym z) ∙ q 0 (omega arith) in
-      rw (x, y) (any-nowhere (λ i. odd (a + i)) k (each o q))
+      rw (x, y) (any_nowhere (λ i. odd (a + i)) k (each o q))
     where
       each : ((i : ℕ) → i < n → f (a + i) ≡ p) → ((i : ℕ) → i < n → past i ≡ false) → (i : ℕ) → i < k → odd (a + i) ≡ false
       each o q i l =
@@ -79,17 +79,17 @@ module _ (f g h : ℕ → ℕ) (a p n k : ℕ) (more : n ≡ suc k) (full : h p 
           rw (x, y) refl
 
   -- the first track's own test and the tests along the list find the tracks of another pack and the ordinals past the channels
-  pack-run : told ≡ found
-  pack-run = same-false told found forth back
+  pack_run : told ≡ found
+  pack_run = same_false told found forth back
 
   -- with the ordinals that repeat: some ordinal below n is not that of exactly one
-  pub tracks-run : (t w : Bool) → t ≡ any (λ i. odd (a + i)) k → w ≡ twoOf (λ i j. eqb (g (a + i)) (g (a + j))) n
-      → (not (eqb (f a) p) || leb n (g a) || t || w) ≡ (any other n || any (λ c. not (eqb (howMany (λ i. eqb (g (a + i)) c) n) 1)) n)
-  tracks-run t w d e =
+  pub tracks_run : (t w : Bool) → t ≡ any (λ i. odd (a + i)) k → w ≡ two_of (λ i j. eqb (g (a + i)) (g (a + j))) n
+      → (not (eqb (f a) p) || leb n (g a) || t || w) ≡ (any other n || any (λ c. not (eqb (how_many (λ i. eqb (g (a + i)) c) n) 1)) n)
+  tracks_run t w d e =
       ap (λ (b : Bool). not (eqb (f a) p) || leb n (g a) || b || w) d
-      ∙ ap₂ (λ (b c : Bool). b || c) pack-run e
-      ∙ grouped (any other n) (any past n) (twoOf (λ i j. eqb (g (a + i)) (g (a + j))) n)
-      ∙ ap (λ (b : Bool). any other n || b) (sym (once-each (λ i. g (a + i)) n))
+      ∙ ap₂ (λ (b c : Bool). b || c) pack_run e
+      ∙ grouped (any other n) (any past n) (two_of (λ i j. eqb (g (a + i)) (g (a + j))) n)
+      ∙ ap (λ (b : Bool). any other n || b) (sym (once_each (λ i. g (a + i)) n))
     where
       grouped : (a b d : Bool) → ((a || b) || d) ≡ (a || (b || d))
       grouped true b d = refl

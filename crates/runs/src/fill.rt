@@ -1,7 +1,7 @@
 // One pass over the references from the end. A reference past the table's end is passed over.
 ghost use Rattle.std.specs.Prelude.{eqb, ltb, get_or, length, cond, ◌≡◌};
-ghost use Rattle.runs.specs.steps.Runs.{KeyRight, NextRight, referenceKey, referenceTest, stray};
-ghost use Rattle.sheet.specs.Words.{sheetOf};
+ghost use Rattle.runs.specs.steps.Runs.{KeyRight, NextRight, reference_key, reference_test, stray};
+ghost use Rattle.sheet.specs.Words.{sheet_of};
 ghost use Rattle.tables.specs.steps.Marks.{Standing};
 
 use crate::{ReferenceKey, ReferenceTest};
@@ -14,7 +14,7 @@ use tables::marks::mark_at;
 
 // Whether the second of two tracks is of another pack, or has an ordinal past its pack's channels.
 fn stray(s: &[u8], e: u16, f: u16) -> bool
-    ensures { result ≡ stray (sheetOf s.now) e f }
+    ensures { result ≡ stray (sheet_of s.now) e f }
 {
     let pack = field(s, TRACKS, f, TRACK_PACK);
     (field(s, TRACKS, e, TRACK_PACK) != pack)
@@ -23,7 +23,7 @@ fn stray(s: &[u8], e: u16, f: u16) -> bool
 
 // Whether a reference passes the test.
 fn reference_test(s: &[u8], langs: &Languages, test: ReferenceTest, y: u16) -> bool
-    ensures { result ≡ referenceTest (sheetOf s.now) langs.now test y }
+    ensures { result ≡ reference_test (sheet_of s.now) langs.now test y }
 {
     let e = reference(s, y as u32);
     match test {
@@ -35,7 +35,7 @@ fn reference_test(s: &[u8], langs: &Languages, test: ReferenceTest, y: u16) -> b
 
 // What of a reference is compared.
 fn reference_key(s: &[u8], key: ReferenceKey, y: u16) -> u16
-    ensures { result ≡ referenceKey (sheetOf s.now) key y }
+    ensures { result ≡ reference_key (sheet_of s.now) key y }
 {
     let e = reference(s, y as u32);
     match key {
@@ -53,7 +53,7 @@ fn here_or(test: bool, x: u16, next: u16) -> u16
 
 // Writes for each reference the least index from it on that passes the test; a number past the last where there is none.
 pub fn fill_next(s: &[u8], langs: &Languages, test: ReferenceTest, table: &mut [u16])
-    ensures { (length table.new ≡ length table.old) × NextRight (sheetOf s.now) langs.now test table.new }
+    ensures { (length table.new ≡ length table.old) × NextRight (sheet_of s.now) langs.now test table.new }
 {
     let mut x: u16 = count(s, REFERENCES);
     let mut next: u16 = x;
@@ -86,7 +86,7 @@ fn keep(later: &mut [u16], e: u16, x: u16) -> u16
 // Writes for each reference the least index at which what is compared stands between the two already; a number past the last
 // where there is none. `later` has the least index of each among those passed.
 pub fn fill_repeats(s: &[u8], key: ReferenceKey, table: &mut [u16])
-    ensures { (length table.new ≡ length table.old) × KeyRight (sheetOf s.now) key table.new }
+    ensures { (length table.new ≡ length table.old) × KeyRight (sheet_of s.now) key table.new }
 {
     let mut later: [u16; 65536] = [65535; 65536];
     let mut x: u16 = count(s, REFERENCES);

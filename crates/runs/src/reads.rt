@@ -1,9 +1,9 @@
 // A list answered by one look at a table, where the table has it and the list is inside section 6.
 ghost use Rattle.std.specs.Prelude.{◌+◌, ◌<◌, ◌≤◌, leb, ltb, get_or, length, ◌&&◌, ◌≡◌};
-ghost use Rattle.runs.specs.steps.Runs.{LookedUp, OrdinalRight, StrayRight, oddTracks};
-ghost use Rattle.sheet.specs.Fields.{packChannels, packs, references};
+ghost use Rattle.runs.specs.steps.Runs.{LookedUp, OrdinalRight, StrayRight, odd_tracks};
+ghost use Rattle.sheet.specs.Fields.{pack_channels, packs, references};
 ghost use Rattle.sheet.specs.Layout.{count, field};
-ghost use Rattle.sheet.specs.Words.{sheetOf};
+ghost use Rattle.sheet.specs.Words.{sheet_of};
 
 use crate::Lookup;
 use sheet::fields::{REFERENCES, TRACK_ORDINAL, TRACK_PACK, TRACKS};
@@ -12,7 +12,7 @@ use sheet::words::word;
 
 // The table has the index, and the n references from it on are there.
 pub fn inside(s: &[u8], table: &[u16], first: u16, n: u16) -> bool
-    ensures { result ≡ (ltb first (length table.now) && ltb first (count (sheetOf s.now) references) && leb (first + n) (count (sheetOf s.now) references)) }
+    ensures { result ≡ (ltb first (length table.now) && ltb first (count (sheet_of s.now) references) && leb (first + n) (count (sheet_of s.now) references)) }
 {
     let m = count(s, REFERENCES);
     ((first as usize) < table.len()) & (first < m) & (first as u32 + n as u32 <= m as u32)
@@ -39,7 +39,7 @@ pub fn among(table: &[u16], first: u16, n: u16) -> bool
 // Whether one of the n tracks from a reference on is not of this pack of n channels, or their ordinals aren't each channel once: the
 // first is tested, `next` tells of those that don't go on with it, `again` of ordinals that repeat.
 pub fn odd_tracks(s: &[u8], next: &[u16], again: &[u16], first: u16, n: u16, pack: u16) -> bool
-    ensures { StrayRight (sheetOf s.now) next.now → OrdinalRight (sheetOf s.now) again.now → first < length next.now → first < length again.now → first + n ≤ count (sheetOf s.now) references → field (sheetOf s.now) packs pack packChannels ≡ n → result ≡ oddTracks (sheetOf s.now) first n pack }
+    ensures { StrayRight (sheet_of s.now) next.now → OrdinalRight (sheet_of s.now) again.now → first < length next.now → first < length again.now → first + n ≤ count (sheet_of s.now) references → field (sheet_of s.now) packs pack pack_channels ≡ n → result ≡ odd_tracks (sheet_of s.now) first n pack }
 {
     if n == 0 {
         return false;
@@ -54,7 +54,7 @@ pub fn odd_tracks(s: &[u8], next: &[u16], again: &[u16], first: u16, n: u16, pac
 // What the table tells of the list at a position of a record. The index of the record is found once for both words, which keeps this
 // small enough to be drawn into the rules.
 pub fn look_up(s: &[u8], table: &[u16], section: u8, k: u16, at: u8) -> Lookup
-    ensures { LookedUp (sheetOf s.now) table.now section k at result }
+    ensures { LookedUp (sheet_of s.now) table.now section k at result }
 {
     if table.len() == 0 {
         return Lookup {

@@ -4,20 +4,20 @@ use mathlib.Core.Path.{◌≡◌}
 use mathlib.Core.Bool.{true, not, ◌&&◌}
 use lib.Dec.{eqb}
 use borrow.Author.Tests.{eqb-true, not-true}
-use Rattle.values.specs.Values.{orElse}
-use Rattle.profile.specs.Rules.{badWords}
-use Rattle.profile.proofs.BoolLaws.{or-false, and-both}
+use Rattle.values.specs.Values.{or_else}
+use Rattle.profile.specs.Rules.{bad_words}
+use Rattle.profile.proofs.BoolLaws.{or_false, and_both}
 use Rattle.screen.specs.declared.Values.{Values}
 use Rattle.screen.specs.declared.ObjectValues.{ObjectValues}
-use Rattle.screen.specs.steps.Values.{hasRange, nonePresent, valueLeaves, wordsBroken, setWordsBroken, gainBroken}
-use Rattle.lists.proofs.LimitLaws.{and-nothing}
-use Rattle.screen.proofs.ObjectLaws.{all-absent}
+use Rattle.screen.specs.steps.Values.{has_range, none_present, value_leaves, words_broken, set_words_broken, gain_broken}
+use Rattle.lists.proofs.LimitLaws.{and_nothing}
+use Rattle.screen.proofs.ObjectLaws.{all_absent}
 
-pub only-gain : (own : ℕ) (gains offsets : Values) (v : ObjectValues) → (eqb own 0 && not (hasRange gains) && nonePresent offsets) ≡ true
-    → gainBroken gains v ≡ setWordsBroken own gains offsets v
-unfolding gainBroken setWordsBroken hasRange wordsBroken valueLeaves badWords orElse
-only-gain own gains offsets v e =
-    let p = and-both (eqb own 0 && not (hasRange gains)) (nonePresent offsets) e in
-    let q = and-both (eqb own 0) (not (hasRange gains)) p.0 in
-    let none = all-absent offsets p.1 in
-    simp (eqb-true own 0 q.0, not-true (hasRange gains) q.1, none.0, none.1, none.2, and-nothing, or-false)
+pub only_gain : (own : ℕ) (gains offsets : Values) (v : ObjectValues) → (eqb own 0 && not (has_range gains) && none_present offsets) ≡ true
+    → gain_broken gains v ≡ set_words_broken own gains offsets v
+unfolding gain_broken set_words_broken has_range words_broken value_leaves bad_words or_else
+only_gain own gains offsets v e =
+    let p = and_both (eqb own 0 && not (has_range gains)) (none_present offsets) e in
+    let q = and_both (eqb own 0) (not (has_range gains)) p.0 in
+    let none = all_absent offsets p.1 in
+    simp (eqb-true own 0 q.0, not-true (has_range gains) q.1, none.0, none.1, none.2, and_nothing, or_false)

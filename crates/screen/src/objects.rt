@@ -1,12 +1,12 @@
 // An object: the rules that have it as their place, and its value sets.
 ghost use Rattle.std.specs.Prelude.{◌+◌, ◌<◌, ltb, get_or, length, false, true, ◌||◌, ◌≡◌};
 ghost use Rattle.profile.specs.Limits.{exceeds};
-ghost use Rattle.profile.specs.Relations.{packOf};
+ghost use Rattle.profile.specs.Relations.{pack_of};
 ghost use Rattle.profile.specs.Rules.{rule15};
-ghost use Rattle.screen.specs.steps.Objects.{childrenBroken, gainsBroken, isFront, isPlain, objectBroken, objectGains, objectListsBroken, objectOffsets, objectValues, offsetsBroken, restKept, sourceKept, tracksBroken, valuesBroken};
+ghost use Rattle.screen.specs.steps.Objects.{children_broken, gains_broken, is_front, is_plain, object_broken, object_gains, object_lists_broken, object_offsets, object_values, offsets_broken, rest_kept, source_kept, tracks_broken, values_broken};
 ghost use Rattle.sheet.specs.Fields.{objects};
 ghost use Rattle.sheet.specs.Layout.{start};
-ghost use Rattle.sheet.specs.Words.{sheetOf};
+ghost use Rattle.sheet.specs.Words.{sheet_of};
 ghost use Rattle.tables.specs.steps.Right.{Complemented, Named, Tops};
 
 use crate::complements::complements_break;
@@ -30,7 +30,7 @@ use values::values::{is_absent, or_else};
 
 // Whether a list or span of so many entries is above a limit.
 fn exceeding(s: &[u8], column: u8, n: u16) -> bool
-    ensures { result ≡ exceeds (sheetOf s.now) column n }
+    ensures { result ≡ exceeds (sheet_of s.now) column n }
 {
     if n == 0 {
         return false;
@@ -40,15 +40,15 @@ fn exceeding(s: &[u8], column: u8, n: u16) -> bool
 
 // Whether a list or span of n ends beyond a section of so many records, or is above a limit.
 fn list_breaks(s: &[u8], many: u16, first: u16, n: u16, column: u8) -> bool
-    ensures { result ≡ (ltb many (first + n) || exceeds (sheetOf s.now) column n) }
+    ensures { result ≡ (ltb many (first + n) || exceeds (sheet_of s.now) column n) }
 {
     beyond(many, first, n) | exceeding(s, column, n)
 }
 
 // Whether a list or the span of an object, whose words begin at an index, may break rule 4 or 8.
 fn object_lists_break(s: &[u8], at: u32, o: u16) -> bool
-    requires { at ≡ start (sheetOf s.now) objects o }
-    ensures { result ≡ false → objectListsBroken (sheetOf s.now) o ≡ false }
+    requires { at ≡ start (sheet_of s.now) objects o }
+    ensures { result ≡ false → object_lists_broken (sheet_of s.now) o ≡ false }
 {
     let many = count(s, REFERENCES);
     if beyond(
@@ -87,7 +87,7 @@ fn object_lists_break(s: &[u8], at: u32, o: u16) -> bool
 
 // Whether a pack is one of kind 3 with front 1.
 fn is_front(s: &[u8], pack: u16) -> bool
-    ensures { result ≡ isFront (sheetOf s.now) pack }
+    ensures { result ≡ is_front (sheet_of s.now) pack }
 {
     (pack != NO_PACK)
         & (field(s, PACKS, pack, PACK_KIND) == 3)
@@ -96,14 +96,14 @@ fn is_front(s: &[u8], pack: u16) -> bool
 
 // The gain of an object with its range.
 fn gains_at(s: &[u8], at: u32) -> Values
-    ensures { result ≡ objectGains (sheetOf s.now) at }
+    ensures { result ≡ object_gains (sheet_of s.now) at }
 {
     values_at(s, at, OBJECT_GAIN, OBJECT_GAIN_MINIMUM, OBJECT_GAIN_MAXIMUM)
 }
 
 // The offset of an object with its range.
 fn offsets_at(s: &[u8], at: u32) -> Values
-    ensures { result ≡ objectOffsets (sheetOf s.now) at }
+    ensures { result ≡ object_offsets (sheet_of s.now) at }
 {
     values_at(
         s,
@@ -116,8 +116,8 @@ fn offsets_at(s: &[u8], at: u32) -> Values
 
 // The values of an object with a pack.
 fn object_values(s: &[u8], at: u32, o: u16, pack: u16) -> ObjectValues
-    requires { (at ≡ start (sheetOf s.now) objects o) × (pack ≡ packOf (sheetOf s.now) o) }
-    ensures { result ≡ objectValues (sheetOf s.now) o }
+    requires { (at ≡ start (sheet_of s.now) objects o) × (pack ≡ pack_of (sheet_of s.now) o) }
+    ensures { result ≡ object_values (sheet_of s.now) o }
 {
     ObjectValues {
         interact: word_at(s, at, INTERACT),
@@ -129,7 +129,7 @@ fn object_values(s: &[u8], at: u32, o: u16, pack: u16) -> ObjectValues
 
 // The gain of an object: rules 6 and 18, and 16 but for the sets.
 fn gains_break(v: ObjectValues) -> bool
-    ensures { result ≡ gainsBroken v }
+    ensures { result ≡ gains_broken v }
 {
     let gains = v.gains;
     words_break(Sort::Gains, gains)
@@ -144,7 +144,7 @@ fn gains_break(v: ObjectValues) -> bool
 
 // The offset of an object: rules 6, 17 and 18, and 16 but for the sets. Most have none.
 fn offsets_break(v: ObjectValues) -> bool
-    ensures { result ≡ offsetsBroken v }
+    ensures { result ≡ offsets_broken v }
 {
     let offsets = v.offsets;
     if none_present(offsets) {
@@ -163,15 +163,15 @@ fn offsets_break(v: ObjectValues) -> bool
 
 // Rules 6, 17 and 18, and 16 but for the sets.
 fn values_break(v: ObjectValues) -> bool
-    ensures { result ≡ valuesBroken v }
+    ensures { result ≡ values_broken v }
 {
     (1 < v.interact) | gains_break(v) | offsets_break(v)
 }
 
 // An object without a pack: it has children and no tracks, and each child is an object with a pack of kind 3.
 fn children_break(s: &[u8], at: u32, o: u16) -> bool
-    requires { at ≡ start (sheetOf s.now) objects o }
-    ensures { result ≡ childrenBroken (sheetOf s.now) o }
+    requires { at ≡ start (sheet_of s.now) objects o }
+    ensures { result ≡ children_broken (sheet_of s.now) o }
 {
     let n = number_at(s, at, CHILD_LIST);
     (n == 0)
@@ -187,8 +187,8 @@ fn children_break(s: &[u8], at: u32, o: u16) -> bool
 
 // An object with a pack: it has no children, and its tracks are the pack's channels in their order.
 fn tracks_break(s: &[u8], at: u32, o: u16, pack: u16) -> bool
-    requires { at ≡ start (sheetOf s.now) objects o }
-    ensures { result ≡ tracksBroken (sheetOf s.now) o pack }
+    requires { at ≡ start (sheet_of s.now) objects o }
+    ensures { result ≡ tracks_broken (sheet_of s.now) o pack }
 {
     let n = number_at(s, at, TRACK_LIST);
     (0 < number_at(s, at, CHILD_LIST))
@@ -205,8 +205,8 @@ fn tracks_break(s: &[u8], at: u32, o: u16, pack: u16) -> bool
 
 // Whether an object may break rule 13 or 14, or rule 5 by its pack, a track or a child.
 fn source_breaks(s: &[u8], at: u32, o: u16, pack: u16) -> bool
-    requires { (at ≡ start (sheetOf s.now) objects o) × (pack ≡ packOf (sheetOf s.now) o) }
-    ensures { result ≡ false → sourceKept (sheetOf s.now) o }
+    requires { (at ≡ start (sheet_of s.now) objects o) × (pack ≡ pack_of (sheet_of s.now) o) }
+    ensures { result ≡ false → source_kept (sheet_of s.now) o }
 {
     if pack == NO_PACK {
         return children_break(s, at, o);
@@ -216,7 +216,7 @@ fn source_breaks(s: &[u8], at: u32, o: u16, pack: u16) -> bool
 
 // Whether an object that isn't top may break rule 15.
 fn child_breaks(s: &[u8], tops: &[u16], o: u16) -> bool
-    ensures { result ≡ false → Tops (sheetOf s.now) tops.now → rule15 (sheetOf s.now) objects o ≡ false }
+    ensures { result ≡ false → Tops (sheet_of s.now) tops.now → rule15 (sheet_of s.now) objects o ≡ false }
 {
     if top_by(s, tops, o) {
         return false;
@@ -239,8 +239,8 @@ fn named_once(named: &[u16], o: u16) -> bool
 // Whether an object has no complements, no sets, interact 0 and no gain, offset or range, as most children and backgrounds: it keeps
 // rules 15 to 20.
 fn is_plain(s: &[u8], at: u32, o: u16) -> bool
-    requires { at ≡ start (sheetOf s.now) objects o }
-    ensures { result ≡ isPlain (sheetOf s.now) o }
+    requires { at ≡ start (sheet_of s.now) objects o }
+    ensures { result ≡ is_plain (sheet_of s.now) o }
 {
     (number_at(s, at, COMPLEMENT_LIST) == 0)
         & (number_at(s, at, SET_SPAN) == 0)
@@ -258,8 +258,8 @@ fn values_or_complements_break(
     o: u16,
     pack: u16,
 ) -> bool
-    requires { (at ≡ start (sheetOf s.now) objects o) × (pack ≡ packOf (sheetOf s.now) o) }
-    ensures { result ≡ false → Tops (sheetOf s.now) tops.now → Complemented (sheetOf s.now) complements.now → restKept (sheetOf s.now) o }
+    requires { (at ≡ start (sheet_of s.now) objects o) × (pack ≡ pack_of (sheet_of s.now) o) }
+    ensures { result ≡ false → Tops (sheet_of s.now) tops.now → Complemented (sheet_of s.now) complements.now → rest_kept (sheet_of s.now) o }
 {
     let values = object_values(s, at, o, pack);
     values_break(values)
@@ -275,7 +275,7 @@ fn values_or_complements_break(
 
 // Whether an object, or a set of its, may break a rule.
 pub fn object_breaks(s: &[u8], named: &[u16], tops: &[u16], complements: &[u16], o: u16) -> bool
-    ensures { result ≡ false → Named (sheetOf s.now) named.now → Tops (sheetOf s.now) tops.now → Complemented (sheetOf s.now) complements.now → objectBroken (sheetOf s.now) o ≡ false }
+    ensures { result ≡ false → Named (sheet_of s.now) named.now → Tops (sheet_of s.now) tops.now → Complemented (sheet_of s.now) complements.now → object_broken (sheet_of s.now) o ≡ false }
 {
     let at = record_at(s, OBJECTS, o);
     if ends_before(s, OBJECTS, at) {

@@ -1,13 +1,13 @@
 // The records of each section.
 ghost use Rattle.std.specs.Prelude.{◌<◌, eqb, get_or, length, false, true, ◌||◌, ◌≡◌};
 ghost use Rattle.profile.specs.Counting.{any};
-ghost use Rattle.profile.specs.Rules.{badPack, rule5, rule10, rule12};
-ghost use Rattle.screen.specs.steps.Objects.{objectBroken};
-ghost use Rattle.lists.specs.steps.Speech.{contentBroken, programmeBroken};
-ghost use Rattle.screen.specs.steps.Screened.{RecordsKept, RecordsTabled, headerBroken};
+ghost use Rattle.profile.specs.Rules.{bad_pack, rule5, rule10, rule12};
+ghost use Rattle.screen.specs.steps.Objects.{object_broken};
+ghost use Rattle.lists.specs.steps.Speech.{content_broken, programme_broken};
+ghost use Rattle.screen.specs.steps.Screened.{RecordsKept, RecordsTabled, header_broken};
 ghost use Rattle.sheet.specs.Fields.{contents, objects, packs, programmes, tracks};
 ghost use Rattle.sheet.specs.Layout.{count};
-ghost use Rattle.sheet.specs.Words.{sheetOf};
+ghost use Rattle.sheet.specs.Words.{sheet_of};
 ghost use Rattle.tables.specs.steps.Right.{Complemented, Listed, Named, Tops};
 
 use crate::objects::object_breaks;
@@ -25,7 +25,7 @@ use sheet::layout::{count, field};
 
 // The header and the sections themselves: rules 1, 2, 3 and 7.
 pub fn header_breaks(s: &[u8]) -> bool
-    ensures { result ≡ headerBroken (sheetOf s.now) }
+    ensures { result ≡ header_broken (sheet_of s.now) }
 {
     rule1(s, 0, 0)
         | rule2(s, 0, 0)
@@ -45,7 +45,7 @@ pub fn header_breaks(s: &[u8]) -> bool
 
 // Whether no programme breaks a rule that needs no table.
 fn programmes_keep(s: &[u8], langs: &Languages) -> bool
-    ensures { result ≡ true → any (programmeBroken (sheetOf s.now) langs.now) (count (sheetOf s.now) programmes) ≡ false }
+    ensures { result ≡ true → any (programme_broken (sheet_of s.now) langs.now) (count (sheet_of s.now) programmes) ≡ false }
 {
     let n = count(s, PROGRAMMES);
     let mut k: u16 = 0;
@@ -72,7 +72,7 @@ fn unlisted(listed: &[u16], k: u16) -> bool
 
 // Whether no content breaks one, and each is in a content list.
 fn contents_keep(s: &[u8], langs: &Languages, listed: &[u16]) -> bool
-    ensures { result ≡ true → Listed (sheetOf s.now) listed.now → any (λ k. contentBroken (sheetOf s.now) langs.now k || rule12 (sheetOf s.now) contents k) (count (sheetOf s.now) contents) ≡ false }
+    ensures { result ≡ true → Listed (sheet_of s.now) listed.now → any (λ k. content_broken (sheet_of s.now) langs.now k || rule12 (sheet_of s.now) contents k) (count (sheet_of s.now) contents) ≡ false }
 {
     let n = count(s, CONTENTS);
     let mut k: u16 = 0;
@@ -87,7 +87,7 @@ fn contents_keep(s: &[u8], langs: &Languages, listed: &[u16]) -> bool
 
 // Whether no object breaks a rule up to 20, itself or by a set of its.
 fn objects_keep(s: &[u8], named: &[u16], tops: &[u16], complements: &[u16]) -> bool
-    ensures { result ≡ true → Named (sheetOf s.now) named.now → Tops (sheetOf s.now) tops.now → Complemented (sheetOf s.now) complements.now → any (objectBroken (sheetOf s.now)) (count (sheetOf s.now) objects) ≡ false }
+    ensures { result ≡ true → Named (sheet_of s.now) named.now → Tops (sheet_of s.now) tops.now → Complemented (sheet_of s.now) complements.now → any (object_broken (sheet_of s.now)) (count (sheet_of s.now) objects) ≡ false }
 {
     let n = count(s, OBJECTS);
     let mut k: u16 = 0;
@@ -102,7 +102,7 @@ fn objects_keep(s: &[u8], named: &[u16], tops: &[u16], complements: &[u16]) -> b
 
 // Whether a pack may break rule 6 or 10.
 fn pack_breaks(s: &[u8], k: u16) -> bool
-    ensures { result ≡ false → (badPack (sheetOf s.now) k || rule10 (sheetOf s.now) packs k) ≡ false }
+    ensures { result ≡ false → (bad_pack (sheet_of s.now) k || rule10 (sheet_of s.now) packs k) ≡ false }
 {
     let at = record_at(s, PACKS, k);
     if ends_before(s, PACKS, at) {
@@ -119,7 +119,7 @@ fn pack_breaks(s: &[u8], k: u16) -> bool
 
 // Whether no pack breaks one.
 fn packs_keep(s: &[u8]) -> bool
-    ensures { result ≡ true → any (λ k. badPack (sheetOf s.now) k || rule10 (sheetOf s.now) packs k) (count (sheetOf s.now) packs) ≡ false }
+    ensures { result ≡ true → any (λ k. bad_pack (sheet_of s.now) k || rule10 (sheet_of s.now) packs k) (count (sheet_of s.now) packs) ≡ false }
 {
     let n = count(s, PACKS);
     let mut k: u16 = 0;
@@ -134,7 +134,7 @@ fn packs_keep(s: &[u8]) -> bool
 
 // Whether no track breaks one.
 fn tracks_keep(s: &[u8]) -> bool
-    ensures { result ≡ true → any (rule5 (sheetOf s.now) tracks) (count (sheetOf s.now) tracks) ≡ false }
+    ensures { result ≡ true → any (rule5 (sheet_of s.now) tracks) (count (sheet_of s.now) tracks) ≡ false }
 {
     let n = count(s, TRACKS);
     let mut k: u16 = 0;
@@ -157,7 +157,7 @@ pub fn records_pass(
     tops: &[u16],
     complements: &[u16],
 ) -> bool
-    ensures { result ≡ true → RecordsTabled (sheetOf s.now) named.now listed.now tops.now complements.now → RecordsKept (sheetOf s.now) langs.now }
+    ensures { result ≡ true → RecordsTabled (sheet_of s.now) named.now listed.now tops.now complements.now → RecordsKept (sheet_of s.now) langs.now }
 {
     if !programmes_keep(s, langs) {
         return false;

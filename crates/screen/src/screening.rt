@@ -2,8 +2,8 @@
 ghost use Rattle.std.specs.Prelude.{◌≤◌, false, true, ◌≡◌};
 ghost use Rattle.profile.specs.Verdict.{verdict};
 ghost use Rattle.profile.specs.declared.Verdict.TheVariants.{Accepted};
-ghost use Rattle.screen.specs.steps.Screened.{TablesFilled, Noughts, RecordsAndTotalsKept, RecordsTabled, headerBroken};
-ghost use Rattle.sheet.specs.Words.{sheetOf};
+ghost use Rattle.screen.specs.steps.Screened.{TablesFilled, Noughts, RecordsAndTotalsKept, RecordsTabled, header_broken};
+ghost use Rattle.sheet.specs.Words.{sheet_of};
 ghost use Rattle.tables.specs.steps.Right.{Spanned};
 
 use crate::records::{header_breaks, records_pass};
@@ -36,7 +36,7 @@ fn few_entries(s: &[u8]) -> bool {
 
 // Whether the header and the sections keep rules 1, 2, 3 and 7, and the lists have few entries.
 fn header_passes(s: &[u8]) -> bool
-    ensures { result ≡ true → headerBroken (sheetOf s.now) ≡ false }
+    ensures { result ≡ true → header_broken (sheet_of s.now) ≡ false }
 {
     if s.len() < 32 {
         return false;
@@ -58,7 +58,7 @@ fn fill_tables(
     owners: &mut [u16],
 )
     requires { Noughts named.old spanned.old listed.old tops.old complements.old owners.old }
-    ensures { TablesFilled (sheetOf s.now) named.old spanned.old listed.old tops.old complements.old owners.old named.new spanned.new listed.new tops.new complements.new owners.new }
+    ensures { TablesFilled (sheet_of s.now) named.old spanned.old listed.old tops.old complements.old owners.old named.new spanned.new listed.new tops.new complements.new owners.new }
 {
     count_tops(s, tops, named);
     count_lists(s, named, complements, spanned, owners);
@@ -75,7 +75,7 @@ fn records_and_totals_pass(
     tops: &[u16],
     complements: &[u16],
 ) -> bool
-    ensures { result ≡ true → RecordsTabled (sheetOf s.now) named.now listed.now tops.now complements.now → Spanned (sheetOf s.now) spanned.now → RecordsAndTotalsKept (sheetOf s.now) langs.now }
+    ensures { result ≡ true → RecordsTabled (sheet_of s.now) named.now listed.now tops.now complements.now → Spanned (sheet_of s.now) spanned.now → RecordsAndTotalsKept (sheet_of s.now) langs.now }
 {
     if !records_pass(s, langs, named, listed, tops, complements) {
         return false;
@@ -98,7 +98,7 @@ fn screened(
     owners: &mut [u16],
 ) -> bool
     requires { Noughts named.old spanned.old listed.old tops.old complements.old owners.old }
-    ensures { result ≡ true → verdict (sheetOf s.now) langs.now ≡ Accepted }
+    ensures { result ≡ true → verdict (sheet_of s.now) langs.now ≡ Accepted }
 {
     if !langs.rises() {
         return false;
@@ -115,7 +115,7 @@ fn screened(
 
 // A sheet under 1,024 bytes has at most 30 objects, 99 contents and 70 value sets.
 pub fn small_passes(s: &[u8], langs: &Languages) -> bool
-    ensures { result ≡ true → verdict (sheetOf s.now) langs.now ≡ Accepted }
+    ensures { result ≡ true → verdict (sheet_of s.now) langs.now ≡ Accepted }
 {
     let mut named: [u16; 32] = [0; 32];
     let mut spanned: [u16; 72] = [0; 72];
@@ -137,7 +137,7 @@ pub fn small_passes(s: &[u8], langs: &Languages) -> bool
 
 // One under 16,384 bytes has at most 511 objects, 1,635 contents and 1,168 value sets.
 fn middling_passes(s: &[u8], langs: &Languages) -> bool
-    ensures { result ≡ true → verdict (sheetOf s.now) langs.now ≡ Accepted }
+    ensures { result ≡ true → verdict (sheet_of s.now) langs.now ≡ Accepted }
 {
     let mut named: [u16; 512] = [0; 512];
     let mut spanned: [u16; 1168] = [0; 1168];
@@ -159,7 +159,7 @@ fn middling_passes(s: &[u8], langs: &Languages) -> bool
 
 // No sheet has more than 2,046 objects, 6,550 contents or 4,678 value sets.
 fn large_passes(s: &[u8], langs: &Languages) -> bool
-    ensures { result ≡ true → verdict (sheetOf s.now) langs.now ≡ Accepted }
+    ensures { result ≡ true → verdict (sheet_of s.now) langs.now ≡ Accepted }
 {
     let mut named: [u16; 2048] = [0; 2048];
     let mut spanned: [u16; 4680] = [0; 4680];
@@ -182,7 +182,7 @@ fn large_passes(s: &[u8], langs: &Languages) -> bool
 // Whether the sheet can be seen to be accepted, with these tables: 1 for a sheet under 16,384 bytes, 2 for any. With another number it is
 // not screened.
 pub fn passes(s: &[u8], langs: &Languages, tables: u8) -> bool
-    ensures { result ≡ true → verdict (sheetOf s.now) langs.now ≡ Accepted }
+    ensures { result ≡ true → verdict (sheet_of s.now) langs.now ≡ Accepted }
 {
     match tables {
         1 => middling_passes(s, langs),

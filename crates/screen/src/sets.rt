@@ -1,10 +1,10 @@
 // The value sets of an object.
 ghost use Rattle.std.specs.Prelude.{◌+◌, cond, false, ◌≡◌};
 ghost use Rattle.profile.specs.Counting.{any};
-ghost use Rattle.screen.specs.steps.Values.{gainBroken, hasRange, nonePresent, setBroken, setWordsBroken, valueLeaves, valuesAt, wordsBroken};
-ghost use Rattle.sheet.specs.Fields.{valueSets};
+ghost use Rattle.screen.specs.steps.Values.{gain_broken, has_range, none_present, set_broken, set_words_broken, value_leaves, values_at, words_broken};
+ghost use Rattle.sheet.specs.Fields.{value_sets};
 ghost use Rattle.sheet.specs.Layout.{start};
-ghost use Rattle.sheet.specs.Words.{sheetOf};
+ghost use Rattle.sheet.specs.Words.{sheet_of};
 
 use crate::{ObjectValues, Values};
 use lists::words::{ends_before, record_after, word_at};
@@ -19,7 +19,7 @@ use values::values::{is_absent, or_else};
 
 // A value with its range, at three positions of a record.
 pub fn values_at(s: &[u8], at: u32, value: u8, minimum: u8, maximum: u8) -> Values
-    ensures { result ≡ valuesAt (sheetOf s.now) (at + value) (at + minimum) (at + maximum) }
+    ensures { result ≡ values_at (sheet_of s.now) (at + value) (at + minimum) (at + maximum) }
 {
     Values {
         value: word_at(s, at, value),
@@ -30,21 +30,21 @@ pub fn values_at(s: &[u8], at: u32, value: u8, minimum: u8, maximum: u8) -> Valu
 
 // Whether a minimum or a maximum is present.
 pub fn has_range(v: Values) -> bool
-    ensures { result ≡ hasRange v }
+    ensures { result ≡ has_range v }
 {
     !is_absent(v.minimum) | !is_absent(v.maximum)
 }
 
 // Whether neither a value nor a range is present.
 pub fn none_present(v: Values) -> bool
-    ensures { result ≡ nonePresent v }
+    ensures { result ≡ none_present v }
 {
     is_absent(v.value) & !has_range(v)
 }
 
 // Words outside their values, or half a pair.
 pub fn words_break(sort: Sort, v: Values) -> bool
-    ensures { result ≡ wordsBroken sort v }
+    ensures { result ≡ words_broken sort v }
 {
     bad_words(sort, v.value, v.minimum, v.maximum)
 }
@@ -58,7 +58,7 @@ fn pick(test: bool, a: u16, b: u16) -> u16
 
 // A set's value leaves its effective range, or where it is the set's own, the object's range.
 fn value_leaves(sort: Sort, own: bool, set: Values, object: Values) -> bool
-    ensures { result ≡ valueLeaves sort own set object }
+    ensures { result ≡ value_leaves sort own set object }
 {
     leaves(
         sort,
@@ -70,7 +70,7 @@ fn value_leaves(sort: Sort, own: bool, set: Values, object: Values) -> bool
 
 // A set with own 0 that has no more than a gain: the object's offset is its own.
 fn gain_breaks(gains: Values, v: ObjectValues) -> bool
-    ensures { result ≡ gainBroken gains v }
+    ensures { result ≡ gain_broken gains v }
 {
     let offsets = v.offsets;
     words_break(Sort::Gains, gains)
@@ -85,7 +85,7 @@ fn gain_breaks(gains: Values, v: ObjectValues) -> bool
 
 // A set with any words.
 fn words_of_set_break(own: u16, gains: Values, offsets: Values, v: ObjectValues) -> bool
-    ensures { result ≡ setWordsBroken own gains offsets v }
+    ensures { result ≡ set_words_broken own gains offsets v }
 {
     (1 < own)
         | words_break(Sort::Gains, gains)
@@ -100,7 +100,7 @@ fn words_of_set_break(own: u16, gains: Values, offsets: Values, v: ObjectValues)
 // Whether the set whose words begin at an index may break rule 6, 16, 17 or 18 as a set of an object with these values. Most sets have
 // no more than a gain.
 fn set_breaks(s: &[u8], at: u32, v: ObjectValues) -> bool
-    ensures { result ≡ false → setBroken (sheetOf s.now) v at ≡ false }
+    ensures { result ≡ false → set_broken (sheet_of s.now) v at ≡ false }
 {
     if ends_before(s, VALUE_SETS, at) {
         return true;
@@ -116,7 +116,7 @@ fn set_breaks(s: &[u8], at: u32, v: ObjectValues) -> bool
 
 // Whether one of the n sets from one on does.
 pub fn any_set_breaks(s: &[u8], first: u16, n: u16, v: ObjectValues) -> bool
-    ensures { result ≡ false → any (λ i. setBroken (sheetOf s.now) v (start (sheetOf s.now) valueSets (first + i))) n ≡ false }
+    ensures { result ≡ false → any (λ i. set_broken (sheet_of s.now) v (start (sheet_of s.now) value_sets (first + i))) n ≡ false }
 {
     let mut found = false;
     let mut i: u16 = 0;

@@ -5,7 +5,7 @@ ghost use Rattle.profile.specs.Rules.{rule23, rule24};
 ghost use Rattle.screen.specs.steps.Totals.{TotalsTo, TotalsWithin};
 ghost use Rattle.sheet.specs.Fields.{objects};
 ghost use Rattle.sheet.specs.Layout.{count};
-ghost use Rattle.sheet.specs.Words.{sheetOf};
+ghost use Rattle.sheet.specs.Words.{sheet_of};
 ghost use Rattle.tables.specs.steps.Right.{Complemented, Tops};
 
 use crate::SheetTotals;
@@ -18,7 +18,7 @@ use tables::reads::{complement_by, top_by};
 
 // A top object that no complement list names.
 fn alone(s: &[u8], tops: &[u16], complements: &[u16], o: u16) -> bool
-    ensures { Tops (sheetOf s.now) tops.now → Complemented (sheetOf s.now) complements.now → result ≡ (top (sheetOf s.now) o && not (complement (sheetOf s.now) o)) }
+    ensures { Tops (sheet_of s.now) tops.now → Complemented (sheet_of s.now) complements.now → result ≡ (top (sheet_of s.now) o && not (complement (sheet_of s.now) o)) }
 {
     top_by(s, tops, o) & !complement_by(s, complements, o)
 }
@@ -26,7 +26,7 @@ fn alone(s: &[u8], tops: &[u16], complements: &[u16], o: u16) -> bool
 // The totals with one object more.
 fn with_object(s: &[u8], tops: &[u16], complements: &[u16], o: u16, t: SheetTotals) -> SheetTotals
     requires { TotalsWithin o t }
-    ensures { TotalsWithin (suc o) result × (Tops (sheetOf s.now) tops.now → Complemented (sheetOf s.now) complements.now → TotalsTo (sheetOf s.now) o t → TotalsTo (sheetOf s.now) (suc o) result) }
+    ensures { TotalsWithin (suc o) result × (Tops (sheet_of s.now) tops.now → Complemented (sheet_of s.now) complements.now → TotalsTo (sheet_of s.now) o t → TotalsTo (sheet_of s.now) (suc o) result) }
 {
     if leader(s, o) {
         return SheetTotals {
@@ -47,7 +47,7 @@ fn with_object(s: &[u8], tops: &[u16], complements: &[u16], o: u16, t: SheetTota
 
 // The totals of all objects.
 fn totals(s: &[u8], tops: &[u16], complements: &[u16]) -> SheetTotals
-    ensures { Tops (sheetOf s.now) tops.now → Complemented (sheetOf s.now) complements.now → TotalsTo (sheetOf s.now) (count (sheetOf s.now) objects) result }
+    ensures { Tops (sheet_of s.now) tops.now → Complemented (sheet_of s.now) complements.now → TotalsTo (sheet_of s.now) (count (sheet_of s.now) objects) result }
 {
     let n = count(s, OBJECTS);
     let mut t = SheetTotals {
@@ -65,7 +65,7 @@ fn totals(s: &[u8], tops: &[u16], complements: &[u16]) -> SheetTotals
 
 // Whether the whole sheet may break rule 23 or 24, which level 0 can't.
 pub fn totals_break(s: &[u8], tops: &[u16], complements: &[u16]) -> bool
-    ensures { result ≡ false → Tops (sheetOf s.now) tops.now → Complemented (sheetOf s.now) complements.now → (rule23 (sheetOf s.now) 0 0 ≡ false) × (rule24 (sheetOf s.now) 0 0 ≡ false) }
+    ensures { result ≡ false → Tops (sheet_of s.now) tops.now → Complemented (sheet_of s.now) complements.now → (rule23 (sheet_of s.now) 0 0 ≡ false) × (rule24 (sheet_of s.now) 0 0 ≡ false) }
 {
     if level(s) == 0 {
         return false;

@@ -9,8 +9,8 @@ use Rattle.sheet.specs.Words.{words}
 twice : (i : ℕ) → 2 * suc i ≡ suc (suc (2 * i))
 twice i = omega arith
 
-twice-one : (i : ℕ) → 2 * suc i + 1 ≡ suc (suc (2 * i + 1))
-twice-one i = omega arith
+twice_one : (i : ℕ) → 2 * suc i + 1 ≡ suc (suc (2 * i + 1))
+twice_one i = omega arith
 
 -- a word is its two bytes, high byte first
 pub at : (s : List ℕ) (i : ℕ) → i < length s / 2 → get_or (words s) i 0 ≡ 256 * get_or s (2 * i) 0 + get_or s (2 * i + 1) 0
@@ -18,7 +18,7 @@ unfolding words
 at [] i h = absurd (omega arith)
 at (a ∷ []) i h = absurd (omega arith)
 at (a ∷ b ∷ s) zero h = refl
-at (a ∷ b ∷ s) (suc i) h = rw (twice-one i, twice i) (at s i (omega arith))
+at (a ∷ b ∷ s) (suc i) h = rw (twice_one i, twice i) (at s i (omega arith))
 
 -- past the last whole word there is 0
 pub past : (s : List ℕ) (i : ℕ) → length s / 2 ≤ i → get_or (words s) i 0 ≡ 0
@@ -29,16 +29,16 @@ past (a ∷ b ∷ s) zero h = absurd (omega arith)
 past (a ∷ b ∷ s) (suc i) h = past s i (omega arith)
 
 -- two bytes to a word
-pub how-many : (s : List ℕ) → length (words s) ≡ length s / 2
+pub how_many_lem : (s : List ℕ) → length (words s) ≡ length s / 2
 unfolding words
-how-many [] = refl
-how-many (a ∷ []) = refl
-how-many (a ∷ b ∷ s) = omega (arith, how-many s)
+how_many_lem [] = refl
+how_many_lem (a ∷ []) = refl
+how_many_lem (a ∷ b ∷ s) = omega (arith, how_many_lem s)
 
 -- the words of bytes are of 16 bits
-pub words-fit : (bytes : List ℕ) → ((i : ℕ) → get_or bytes i 0 < 256) → (i : ℕ) → get_or (words bytes) i 0 < 65536
+pub words_fit : (bytes : List ℕ) → ((i : ℕ) → get_or bytes i 0 < 256) → (i : ℕ) → get_or (words bytes) i 0 < 65536
 unfolding words
-words-fit [] h i = omega arith
-words-fit (a ∷ []) h i = omega arith
-words-fit (a ∷ b ∷ more) h zero = omega (arith, h 0, h 1)
-words-fit (a ∷ b ∷ more) h (suc i) = words-fit more (λ j. h (suc (suc j))) i
+words_fit [] h i = omega arith
+words_fit (a ∷ []) h i = omega arith
+words_fit (a ∷ b ∷ more) h zero = omega (arith, h 0, h 1)
+words_fit (a ∷ b ∷ more) h (suc i) = words_fit more (λ j. h (suc (suc j))) i

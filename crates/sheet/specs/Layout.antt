@@ -19,15 +19,15 @@ unfoldable pub offset : Sheet → ℕ → ℕ
 offset s section = word s (2 * section + 1)
 
 -- words of a record, by section ("Programme, 8 words", "Content, 5" and so on); section 0 is the header, of 16 words
-abbrev pub recordLengths : List ℕ
-recordLengths = 16 ∷ 8 ∷ 5 ∷ 16 ∷ 3 ∷ 2 ∷ 1 ∷ 7 ∷ []
+abbrev pub record_lengths : List ℕ
+record_lengths = 16 ∷ 8 ∷ 5 ∷ 16 ∷ 3 ∷ 2 ∷ 1 ∷ 7 ∷ []
 
-unfoldable pub recordWords : ℕ → ℕ
-recordWords section = get_or recordLengths section 0
+unfoldable pub record_words : ℕ → ℕ
+record_words section = get_or record_lengths section 0
 
 -- the index of a record's first word
 unfoldable pub start : Sheet → ℕ → ℕ → ℕ
-start s section k = offset s section + k * recordWords section
+start s section k = offset s section + k * record_words section
 
 -- the end of a section in words, exact; "section 0 is the header", which ends at 16
 unfoldable pub end : Sheet → ℕ → ℕ

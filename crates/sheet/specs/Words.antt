@@ -13,13 +13,13 @@ pub record Sheet : Type 0 where
   pub words : List ℕ
 
 -- the sheet of lent bytes
-unfoldable pub sheetOf : List ℕ → Sheet
-sheetOf bytes = record { bytes = length bytes; words = words bytes }
+unfoldable pub sheet_of : List ℕ → Sheet
+sheet_of bytes = record { bytes = length bytes; words = words bytes }
 
 -- the word at an index, 0 past the end: every read is total
 unfoldable pub word : Sheet → ℕ → ℕ
 word s i = get_or s.words i 0
 
 -- how many whole words the sheet has
-unfoldable pub wordCount : Sheet → ℕ
-wordCount s = length s.words
+unfoldable pub word_count : Sheet → ℕ
+word_count s = length s.words

@@ -1,6 +1,6 @@
 // A sheet as 16-bit words, high byte first.
 ghost use Rattle.std.specs.Prelude.{◌*◌, ◌+◌, ◌≡◌};
-ghost use Rattle.sheet.specs.Words.{sheetOf, word, wordCount};
+ghost use Rattle.sheet.specs.Words.{sheet_of, word, word_count};
 
 // The word of two bytes.
 fn joined(high: u8, low: u8) -> u16
@@ -11,7 +11,7 @@ fn joined(high: u8, low: u8) -> u16
 
 // The word at an index, or 0 past the end.
 pub fn word(s: &[u8], i: usize) -> u16
-    ensures { result ≡ word (sheetOf s.now) i }
+    ensures { result ≡ word (sheet_of s.now) i }
 {
     if i < s.len() / 2 {
         joined(s[2 * i], s[2 * i + 1])
@@ -22,7 +22,7 @@ pub fn word(s: &[u8], i: usize) -> u16
 
 // How many whole words the sheet has.
 pub fn word_count(s: &[u8]) -> usize
-    ensures { result ≡ wordCount (sheetOf s.now) }
+    ensures { result ≡ word_count (sheet_of s.now) }
 {
     s.len() / 2
 }

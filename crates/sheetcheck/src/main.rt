@@ -8,7 +8,7 @@ use text::reading::{LANGS_ROOM, arg_count, read_input, read_langs};
 use verdicts::{VERDICT_ROOM, verdict_line};
 
 // The sheet's buffer is longer than any sheet, so an input that fills it breaks rule 1, whatever follows; and a list that fills its buffer
-// can't rise, and breaks rule 33 (`cut-input`, `cut-langs`, crates/verdicts/proofs/LongInput.antt). No file `langs` is an empty list. An
+// can't rise, and breaks rule 33 (`cut_input`, `cut_langs`, crates/verdicts/proofs/LongInput.antt). No file `langs` is an empty list. An
 // argument, or a read that fails, gives no verdict: standard error says why.
 fn main(rt: HostRuntime) {
     if arg_count(&rt) > 1 {

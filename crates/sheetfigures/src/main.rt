@@ -8,7 +8,7 @@ use text::output::{say_failure, write_output};
 use text::reading::{LANGS_ROOM, arg_count, read_input, read_langs};
 
 // The sheet's buffer is longer than any sheet, so an input that fills it breaks rule 1, whatever follows; and a list that fills its buffer
-// can't rise, and breaks rule 33; neither has figures (`cut-figures`, `cut-figures-langs`, crates/figurelines/proofs/LongInput.antt). No file
+// can't rise, and breaks rule 33; neither has figures (`cut_figures`, `cut_figures_langs`, crates/figurelines/proofs/LongInput.antt). No file
 // `langs` is an empty list. An argument, or a read that fails, gives no verdict: standard error says why.
 fn main(rt: HostRuntime) {
     if arg_count(&rt) > 1 {

@@ -12,63 +12,63 @@ use lib.Dec.{eqb, leb, ltb}
 use lib.ListN.{get_or}
 use Rattle.sheet.specs.Words.{Sheet}
 use Rattle.sheet.specs.Layout.{entry}
-use Rattle.profile.specs.Counting.{howMany, sum}
-use Rattle.profile.proofs.SumLaws.{sum-eq, sum-zero, sum-swap, sum-at, howMany-sum, howMany-eq}
+use Rattle.profile.specs.Counting.{how_many, sum}
+use Rattle.profile.proofs.SumLaws.{sum_eq, sum_zero, sum_swap, sum_at, how_many_sum, how_many_eq}
 use Rattle.tables.specs.declared.Naming.{Naming}
 use Rattle.tables.specs.declared.Naming.TheVariants.{ContentObjects, Children, Complements, ContentLists, Included, SetLists, SetSpans}
 use Rattle.tables.specs.declared.Mark.{Mark}
 use Rattle.tables.specs.declared.Mark.TheVariants.{Count}
 use Rattle.tables.specs.steps.Namings.{namers, items, item}
-use Rattle.tables.specs.steps.Marks.{Filled, MarkedTimes, marked, repeat, timesBy, namedBy}
-use Rattle.tables.specs.steps.Coverage.{runBegin, namedAt, runEnd, Reaching, cover}
-use Rattle.tables.proofs.MarkLaws.{repeat-add}
-use Rattle.tables.proofs.TableLaws.{run-times}
+use Rattle.tables.specs.steps.Marks.{Filled, MarkedTimes, marked, repeat, times_by, named_by}
+use Rattle.tables.specs.steps.Coverage.{run_begin, named_at, run_end, Reaching, cover}
+use Rattle.tables.proofs.MarkLaws.{repeat_add}
+use Rattle.tables.proofs.TableLaws.{run_times}
 
 -- a sum where a test holds
-when-sum : (b : Bool) (f : ℕ → ℕ) (n : ℕ) → cond b (sum f n) 0 ≡ sum (λ i. cond b (f i) 0) n
-when-sum true f n = refl
-when-sum false f n = sym (sum-zero (λ i. 0) n (λ i l. refl))
+when_sum : (b : Bool) (f : ℕ → ℕ) (n : ℕ) → cond b (sum f n) 0 ≡ sum (λ i. cond b (f i) 0) n
+when_sum true f n = refl
+when_sum false f n = sym (sum_zero (λ i. 0) n (λ i l. refl))
 
 -- two tests, either way round
-when-both : (b d : Bool) → ◌≡◌ {A = ℕ} (cond b (cond d 1 0) 0) (cond d (cond b 1 0) 0)
-when-both true true = refl
-when-both true false = refl
-when-both false true = refl
-when-both false false = refl
+when_both : (b d : Bool) → ◌≡◌ {A = ℕ} (cond b (cond d 1 0) 0) (cond d (cond b 1 0) 0)
+when_both true true = refl
+when_both true false = refl
+when_both false true = refl
+when_both false false = refl
 
 -- the indices of one run that have p
-run-sum : (p : ℕ → Bool) (a k m : ℕ) → a + k ≤ m → sum (λ y. cond (p y) (cond (leb a y && ltb y (a + k)) 1 0) 0) m ≡ howMany (λ i. p (a + i)) k
-run-sum p a k m l =
-    sum-eq (λ y. cond (p y) (cond (leb a y && ltb y (a + k)) 1 0) 0) (λ y. sum (λ i. cond (eqb (a + i) y) (cond (p y) 1 0) 0) k) m (λ y h. each y)
-    ∙ sum-swap (λ y i. cond (eqb (a + i) y) (cond (p y) 1 0) 0) m k
-    ∙ sum-eq (λ i. sum (λ y. cond (eqb (a + i) y) (cond (p y) 1 0) 0) m) (λ i. cond (p (a + i)) 1 0) k (λ i h. sum-at (λ y. cond (p y) 1 0) (a + i) m (omega arith))
-    ∙ sym (howMany-sum (λ i. p (a + i)) k)
+run_sum : (p : ℕ → Bool) (a k m : ℕ) → a + k ≤ m → sum (λ y. cond (p y) (cond (leb a y && ltb y (a + k)) 1 0) 0) m ≡ how_many (λ i. p (a + i)) k
+run_sum p a k m l =
+    sum_eq (λ y. cond (p y) (cond (leb a y && ltb y (a + k)) 1 0) 0) (λ y. sum (λ i. cond (eqb (a + i) y) (cond (p y) 1 0) 0) k) m (λ y h. each y)
+    ∙ sum_swap (λ y i. cond (eqb (a + i) y) (cond (p y) 1 0) 0) m k
+    ∙ sum_eq (λ i. sum (λ y. cond (eqb (a + i) y) (cond (p y) 1 0) 0) m) (λ i. cond (p (a + i)) 1 0) k (λ i h. sum_at (λ y. cond (p y) 1 0) (a + i) m (omega arith))
+    ∙ sym (how_many_sum (λ i. p (a + i)) k)
   where
     each : (y : ℕ) → cond (p y) (cond (leb a y && ltb y (a + k)) 1 0) 0 ≡ sum (λ i. cond (eqb (a + i) y) (cond (p y) 1 0) 0) k
     each y =
-        ap (λ (c : ℕ). cond (p y) c 0) (sym (run-times a y k) ∙ howMany-sum (λ i. eqb (a + i) y) k)
-        ∙ when-sum (p y) (λ i. cond (eqb (a + i) y) 1 0) k
-        ∙ sum-eq (λ i. cond (p y) (cond (eqb (a + i) y) 1 0) 0) (λ i. cond (eqb (a + i) y) (cond (p y) 1 0) 0) k (λ i h. when-both (p y) (eqb (a + i) y))
+        ap (λ (c : ℕ). cond (p y) c 0) (sym (run_times a y k) ∙ how_many_sum (λ i. eqb (a + i) y) k)
+        ∙ when_sum (p y) (λ i. cond (eqb (a + i) y) 1 0) k
+        ∙ sum_eq (λ i. cond (p y) (cond (eqb (a + i) y) 1 0) 0) (λ i. cond (eqb (a + i) y) (cond (p y) 1 0) 0) k (λ i h. when_both (p y) (eqb (a + i) y))
 
 -- the exchange: the runs' indices that have p, run by run, and index by index
-pub cover-sum : (p : ℕ → Bool) (a k : ℕ → ℕ) (m n : ℕ) → ((q : ℕ) → q < n → a q + k q ≤ m)
-    → sum (λ y. cond (p y) (howMany (λ q. leb (a q) y && ltb y (a q + k q)) n) 0) m ≡ sum (λ q. howMany (λ i. p (a q + i)) (k q)) n
-cover-sum p a k m n h =
-    sum-eq (λ y. cond (p y) (howMany (λ q. leb (a q) y && ltb y (a q + k q)) n) 0) (λ y. sum (λ q. cond (p y) (cond (leb (a q) y && ltb y (a q + k q)) 1 0) 0) n) m
-    (λ y l. ap (λ (c : ℕ). cond (p y) c 0) (howMany-sum (λ q. leb (a q) y && ltb y (a q + k q)) n) ∙ when-sum (p y) (λ q. cond (leb (a q) y && ltb y (a q + k q)) 1 0) n)
-    ∙ sum-swap (λ y q. cond (p y) (cond (leb (a q) y && ltb y (a q + k q)) 1 0) 0) m n
-    ∙ sum-eq (λ q. sum (λ y. cond (p y) (cond (leb (a q) y && ltb y (a q + k q)) 1 0) 0) m) (λ q. howMany (λ i. p (a q + i)) (k q)) n
-    (λ q l. run-sum p (a q) (k q) m (h q l))
+pub cover_sum : (p : ℕ → Bool) (a k : ℕ → ℕ) (m n : ℕ) → ((q : ℕ) → q < n → a q + k q ≤ m)
+    → sum (λ y. cond (p y) (how_many (λ q. leb (a q) y && ltb y (a q + k q)) n) 0) m ≡ sum (λ q. how_many (λ i. p (a q + i)) (k q)) n
+cover_sum p a k m n h =
+    sum_eq (λ y. cond (p y) (how_many (λ q. leb (a q) y && ltb y (a q + k q)) n) 0) (λ y. sum (λ q. cond (p y) (cond (leb (a q) y && ltb y (a q + k q)) 1 0) 0) n) m
+    (λ y l. ap (λ (c : ℕ). cond (p y) c 0) (how_many_sum (λ q. leb (a q) y && ltb y (a q + k q)) n) ∙ when_sum (p y) (λ q. cond (leb (a q) y && ltb y (a q + k q)) 1 0) n)
+    ∙ sum_swap (λ y q. cond (p y) (cond (leb (a q) y && ltb y (a q + k q)) 1 0) 0) m n
+    ∙ sum_eq (λ q. sum (λ y. cond (p y) (cond (leb (a q) y && ltb y (a q + k q)) 1 0) 0) m) (λ q. how_many (λ i. p (a q + i)) (k q)) n
+    (λ q l. run_sum p (a q) (k q) m (h q l))
 
 -- two counts that make up a third
-howMany-split : (p q r : ℕ → Bool) (n : ℕ) → ((i : ℕ) → cond (p i) 1 0 + cond (q i) 1 0 ≡ cond (r i) 1 0) → howMany p n + howMany q n ≡ howMany r n
-unfolding howMany
-howMany-split p q r zero h = refl
-howMany-split p q r (suc n) h = omega (arith, howMany-split p q r n h, h n)
+how_many_split : (p q r : ℕ → Bool) (n : ℕ) → ((i : ℕ) → cond (p i) 1 0 + cond (q i) 1 0 ≡ cond (r i) 1 0) → how_many p n + how_many q n ≡ how_many r n
+unfolding how_many
+how_many_split p q r zero h = refl
+how_many_split p q r (suc n) h = omega (arith, how_many_split p q r n h, h n)
 
 -- those before y, and those at y
-pub below-more : (a : ℕ → ℕ) (y n k b : ℕ) → k ≡ howMany (λ q. ltb (a q) y) n → b ≡ howMany (λ q. eqb (a q) y) n → k + b ≡ howMany (λ q. ltb (a q) (y + 1)) n
-below-more a y n k b ek eb = ap₂ (λ (u v : ℕ). u + v) ek eb ∙ howMany-split (λ q. ltb (a q) y) (λ q. eqb (a q) y) (λ q. ltb (a q) (y + 1)) n (λ q. one (a q))
+pub below_more : (a : ℕ → ℕ) (y n k b : ℕ) → k ≡ how_many (λ q. ltb (a q) y) n → b ≡ how_many (λ q. eqb (a q) y) n → k + b ≡ how_many (λ q. ltb (a q) (y + 1)) n
+below_more a y n k b ek eb = ap₂ (λ (u v : ℕ). u + v) ek eb ∙ how_many_split (λ q. ltb (a q) y) (λ q. eqb (a q) y) (λ q. ltb (a q) (y + 1)) n (λ q. one (a q))
   where
     one : (x : ℕ) → cond (ltb x y) 1 0 + cond (eqb x y) 1 0 ≡ cond (ltb x (y + 1)) 1 0
     one x =
@@ -82,13 +82,13 @@ below-more a y n k b ek eb = ap₂ (λ (u v : ℕ). u + v) ek eb ∙ howMany-spl
         ]) refl
 
 -- none is before 0
-pub below-first : (a : ℕ → ℕ) (n : ℕ) → howMany (λ q. ltb (a q) 0) n ≡ 0
-below-first a n = howMany-sum (λ q. ltb (a q) 0) n ∙ sum-zero (λ q. cond (ltb (a q) 0) 1 0) n (λ q l. rw (le-ltb (a q) 0 (omega arith)))
+pub below_first : (a : ℕ → ℕ) (n : ℕ) → how_many (λ q. ltb (a q) 0) n ≡ 0
+below_first a n = how_many_sum (λ q. ltb (a q) 0) n ∙ sum_zero (λ q. cond (ltb (a q) 0) 1 0) n (λ q l. rw (le-ltb (a q) 0 (omega arith)))
 
 -- the runs that have y, and those that ended by then, are those that began by then
-pub cover-edges : (a b : ℕ → ℕ) (y n : ℕ) → ((q : ℕ) → a q ≤ b q)
-    → howMany (λ q. leb (a q) y && ltb y (b q)) n + howMany (λ q. ltb (b q) (y + 1)) n ≡ howMany (λ q. ltb (a q) (y + 1)) n
-cover-edges a b y n h = howMany-split (λ q. leb (a q) y && ltb y (b q)) (λ q. ltb (b q) (y + 1)) (λ q. ltb (a q) (y + 1)) n (λ q. one (a q) (b q) (h q))
+pub cover_edges : (a b : ℕ → ℕ) (y n : ℕ) → ((q : ℕ) → a q ≤ b q)
+    → how_many (λ q. leb (a q) y && ltb y (b q)) n + how_many (λ q. ltb (b q) (y + 1)) n ≡ how_many (λ q. ltb (a q) (y + 1)) n
+cover_edges a b y n h = how_many_split (λ q. leb (a q) y && ltb y (b q)) (λ q. ltb (b q) (y + 1)) (λ q. ltb (a q) (y + 1)) n (λ q. one (a q) (b q) (h q))
   where
     one : (u v : ℕ) → u ≤ v → cond (leb u y && ltb y v) 1 0 + cond (ltb v (y + 1)) 1 0 ≡ cond (ltb u (y + 1)) 1 0
     one u v l =
@@ -103,20 +103,20 @@ cover-edges a b y n h = howMany-split (λ q. leb (a q) y && ltb y (b q)) (λ q. 
         ]) refl
 
 -- a count that goes on twice or more
-pub count-twice : (n c : ℕ) → repeat (marked Count) (suc (suc n)) c ≡ 2
+pub count_twice : (n c : ℕ) → repeat (marked Count) (suc (suc n)) c ≡ 2
 unfolding repeat
-count-twice zero c =
+count_twice zero c =
     (elim (eqb c 0) as (λ b. eqb c 0 ≡ b → marked Count (marked Count c) ≡ 2) [
       | true ↦ λ e. rw e
       | false ↦ λ e. rw e
     ]) refl
-count-twice (suc n) c = rw (count-twice n c)
+count_twice (suc n) c = rw (count_twice n c)
 
 -- one index more
-pub indices-more : (mark : Mark) (t₀ t t' : List ℕ) (g c : ℕ → ℕ) (y w k : ℕ) → w ≡ g y → k ≡ c y → MarkedTimes mark (λ x. sum (λ j. cond (eqb (g j) x) (c j) 0) y) t₀ t
+pub indices_more : (mark : Mark) (t₀ t t' : List ℕ) (g c : ℕ → ℕ) (y w k : ℕ) → w ≡ g y → k ≡ c y → MarkedTimes mark (λ x. sum (λ j. cond (eqb (g j) x) (c j) 0) y) t₀ t
     → Filled (λ z. cond (eqb w z) (repeat (marked mark) k (get_or t z 0)) (get_or t z 0)) t t' → MarkedTimes mark (λ x. sum (λ j. cond (eqb (g j) x) (c j) 0) (y + 1)) t₀ t'
 unfolding sum repeat
-indices-more mark t₀ t t' g c y w k ew ek before now = (
+indices_more mark t₀ t t' g c y w k ew ek before now = (
   now.0 ∙ before.0,
   λ x l.
       now.1 x l
@@ -127,20 +127,20 @@ indices-more mark t₀ t t' g c y w k ew ek before now = (
 )
   where
     step : (b : Bool) (n d : ℕ) → cond b (repeat (marked mark) (c y) (repeat (marked mark) n d)) (repeat (marked mark) n d) ≡ repeat (marked mark) (n + cond b (c y) 0) d
-    step true n d = sym (repeat-add (marked mark) n (c y) d)
+    step true n d = sym (repeat_add (marked mark) n (c y) d)
     step false n d = ap (λ (k : ℕ). repeat (marked mark) k d) (sym (add-zero n))
 
 -- one edge more
-pub edges-more : (e : ℕ → ℕ) (t₀ t t' : List ℕ) (q w : ℕ) → w ≡ e q → Filled (λ y. howMany (λ j. eqb (e j) y) q) t₀ t
-    → Filled (λ z. cond (eqb w z) (get_or t z 0 + 1) (get_or t z 0)) t t' → Filled (λ y. howMany (λ j. eqb (e j) y) (q + 1)) t₀ t'
-unfolding howMany
-edges-more e t₀ t t' q w ew before now = (
+pub edges_more : (e : ℕ → ℕ) (t₀ t t' : List ℕ) (q w : ℕ) → w ≡ e q → Filled (λ y. how_many (λ j. eqb (e j) y) q) t₀ t
+    → Filled (λ z. cond (eqb w z) (get_or t z 0 + 1) (get_or t z 0)) t t' → Filled (λ y. how_many (λ j. eqb (e j) y) (q + 1)) t₀ t'
+unfolding how_many
+edges_more e t₀ t t' q w ew before now = (
   now.0 ∙ before.0,
   λ x l.
       now.1 x l
       ∙ ap₂ (λ (n v : ℕ). cond (eqb v x) (n + 1) n) (before.1 x (rw now.0 at l)) ew
-      ∙ step (eqb (e q) x) (howMany (λ j. eqb (e j) x) q)
-      ∙ ap (howMany (λ j. eqb (e j) x)) (sym (add-one q)),
+      ∙ step (eqb (e q) x) (how_many (λ j. eqb (e j) x) q)
+      ∙ ap (how_many (λ j. eqb (e j) x)) (sym (add-one q)),
 )
   where
     step : (b : Bool) (n : ℕ) → cond b (n + 1) n ≡ n + cond b 1 0
@@ -149,27 +149,27 @@ edges-more e t₀ t t' q w ew before now = (
 
 module _ (s : Sheet) where
   -- what a record names is what the indices of its run name
-  item-index : (kind : Naming) (q i : ℕ) → i < items s kind q → namedAt s kind (runBegin s kind q + i) ≡ item s kind q i
-  item-index ContentObjects q i l = let e : i ≡ 0 = omega arith in rw (e, add-zero)
-  item-index Children q i l = unfold entry in refl
-  item-index Complements q i l = unfold entry in refl
-  item-index ContentLists q i l = unfold entry in refl
-  item-index Included q i l = unfold entry in refl
-  item-index SetLists q i l = unfold entry in refl
-  item-index SetSpans q i l = refl
+  item_index : (kind : Naming) (q i : ℕ) → i < items s kind q → named_at s kind (run_begin s kind q + i) ≡ item s kind q i
+  item_index ContentObjects q i l = let e : i ≡ 0 = omega arith in rw (e, add-zero)
+  item_index Children q i l = unfold entry in refl
+  item_index Complements q i l = unfold entry in refl
+  item_index ContentLists q i l = unfold entry in refl
+  item_index Included q i l = unfold entry in refl
+  item_index SetLists q i l = unfold entry in refl
+  item_index SetSpans q i l = refl
 
   -- how often a record is named, by the cover
-  pub named-cover : (kind : Naming) (m : ℕ) → Reaching s kind m
-      → (x : ℕ) → sum (λ y. cond (eqb (namedAt s kind y) x) (cover s kind y) 0) m ≡ namedBy s kind x
-  unfolding cover runEnd namedBy timesBy
-  named-cover kind m h x =
-      cover-sum (λ y. eqb (namedAt s kind y) x) (runBegin s kind) (items s kind) m (namers s kind) h
-      ∙ sum-eq (λ q. howMany (λ i. eqb (namedAt s kind (runBegin s kind q + i)) x) (items s kind q)) (λ q. howMany (λ i. eqb (item s kind q i) x) (items s kind q)) (namers s kind)
-      (λ q l. howMany-eq (λ i. eqb (namedAt s kind (runBegin s kind q + i)) x) (λ i. eqb (item s kind q i) x) (items s kind q)
-      (λ i h. ap (λ (z : ℕ). eqb z x) (item-index kind q i h)))
+  pub named_cover : (kind : Naming) (m : ℕ) → Reaching s kind m
+      → (x : ℕ) → sum (λ y. cond (eqb (named_at s kind y) x) (cover s kind y) 0) m ≡ named_by s kind x
+  unfolding cover run_end named_by times_by
+  named_cover kind m h x =
+      cover_sum (λ y. eqb (named_at s kind y) x) (run_begin s kind) (items s kind) m (namers s kind) h
+      ∙ sum_eq (λ q. how_many (λ i. eqb (named_at s kind (run_begin s kind q + i)) x) (items s kind q)) (λ q. how_many (λ i. eqb (item s kind q i) x) (items s kind q)) (namers s kind)
+      (λ q l. how_many_eq (λ i. eqb (named_at s kind (run_begin s kind q + i)) x) (λ i. eqb (item s kind q i) x) (items s kind q)
+      (λ i h. ap (λ (z : ℕ). eqb z x) (item_index kind q i h)))
 
   -- the runs that have an index, and those that ended by then, are those that began by then
   pub covered : (kind : Naming) (y : ℕ)
-      → cover s kind y + howMany (λ q. ltb (runEnd s kind q) (y + 1)) (namers s kind) ≡ howMany (λ q. ltb (runBegin s kind q) (y + 1)) (namers s kind)
+      → cover s kind y + how_many (λ q. ltb (run_end s kind q) (y + 1)) (namers s kind) ≡ how_many (λ q. ltb (run_begin s kind q) (y + 1)) (namers s kind)
   unfolding cover
-  covered kind y = cover-edges (runBegin s kind) (runEnd s kind) y (namers s kind) (λ q. unfold runEnd in omega arith)
+  covered kind y = cover_edges (run_begin s kind) (run_end s kind) y (namers s kind) (λ q. unfold run_end in omega arith)

@@ -2,8 +2,8 @@
 // many records share one long list. Each list or span is a run of indices.
 ghost use Rattle.std.specs.Prelude.{◌+◌, ◌<◌, ◌≤◌, eqb, get_or, length, cond, false, true, ◌≡◌};
 ghost use Rattle.profile.specs.Counting.{sum};
-ghost use Rattle.sheet.specs.Words.{sheetOf};
-ghost use Rattle.tables.specs.steps.Coverage.{Reaching, Tallied, cover, edge, namedAt, runBegin, runEnd};
+ghost use Rattle.sheet.specs.Words.{sheet_of};
+ghost use Rattle.tables.specs.steps.Coverage.{Reaching, Tallied, cover, edge, named_at, run_begin, run_end};
 ghost use Rattle.tables.specs.steps.Marks.{Filled, MarkedTimes, NamingsCounted, Standing, marked, repeat};
 ghost use Rattle.tables.specs.declared.Mark.TheVariants.{Count};
 
@@ -19,7 +19,7 @@ use sheet::layout::{field, reference};
 
 // The index at which a record's run begins.
 fn run_begin(s: &[u8], kind: Naming, q: u16) -> u16
-    ensures { result ≡ runBegin (sheetOf s.now) kind q }
+    ensures { result ≡ run_begin (sheet_of s.now) kind q }
 {
     match kind {
         Naming::ContentObjects => field(s, CONTENTS, q, CONTENT_OBJECT),
@@ -34,14 +34,14 @@ fn run_begin(s: &[u8], kind: Naming, q: u16) -> u16
 
 // The index after its last.
 fn run_end(s: &[u8], kind: Naming, q: u16) -> u32
-    ensures { result ≡ runEnd (sheetOf s.now) kind q }
+    ensures { result ≡ run_end (sheet_of s.now) kind q }
 {
     run_begin(s, kind, q) as u32 + items(s, kind, q) as u32
 }
 
 // The record that an index names: itself, or the entry of section 6.
 fn named_at(s: &[u8], kind: Naming, y: u16) -> u16
-    ensures { result ≡ namedAt (sheetOf s.now) kind y }
+    ensures { result ≡ named_at (sheet_of s.now) kind y }
 {
     match kind {
         Naming::ContentObjects => y,
@@ -66,7 +66,7 @@ fn larger(a: u32, b: u32) -> u32
 
 // The index after the last of all runs.
 fn reach(s: &[u8], kind: Naming) -> u32
-    ensures { Reaching (sheetOf s.now) kind result }
+    ensures { Reaching (sheet_of s.now) kind result }
 {
     let n = namers(s, kind);
     let mut most: u32 = 0;
@@ -80,7 +80,7 @@ fn reach(s: &[u8], kind: Naming) -> u32
 
 // One edge of a record's run: where it begins, or the index after its last.
 fn edge(s: &[u8], kind: Naming, last: bool, q: u16) -> u32
-    ensures { result ≡ edge (sheetOf s.now) kind last q }
+    ensures { result ≡ edge (sheet_of s.now) kind last q }
 {
     if last {
         run_end(s, kind, q)
@@ -103,7 +103,7 @@ fn add_at(table: &mut [u16], x: u32)
 // Counts for each index how many runs begin there, or end before it, in a table of noughts.
 fn tally(s: &[u8], kind: Naming, last: bool, table: &mut [u16])
     requires { Standing (λ x. 0) table.old }
-    ensures { (length table.new ≡ length table.old) × Tallied (sheetOf s.now) kind last table.new }
+    ensures { (length table.new ≡ length table.old) × Tallied (sheet_of s.now) kind last table.new }
 {
     let n = namers(s, kind);
     let mut q: u16 = 0;
@@ -138,8 +138,8 @@ fn count_times(table: &mut [u16], x: u16, times: u32)
 
 // Counts what the indices below m name, each as often as runs cover it: those that began and have not ended.
 fn count_indices(s: &[u8], kind: Naming, m: u16, begins: &[u16], ends: &[u16], table: &mut [u16])
-    requires { (m ≤ length begins.now) × (m ≤ length ends.now) × Tallied (sheetOf s.now) kind false begins.now × Tallied (sheetOf s.now) kind true ends.now }
-    ensures { MarkedTimes Count (λ x. sum (λ y. cond (eqb (namedAt (sheetOf s.now) kind y) x) (cover (sheetOf s.now) kind y) 0) m) table.old table.new }
+    requires { (m ≤ length begins.now) × (m ≤ length ends.now) × Tallied (sheet_of s.now) kind false begins.now × Tallied (sheet_of s.now) kind true ends.now }
+    ensures { MarkedTimes Count (λ x. sum (λ y. cond (eqb (named_at (sheet_of s.now) kind y) x) (cover (sheet_of s.now) kind y) 0) m) table.old table.new }
 {
     let mut begun: u32 = 0;
     let mut ended: u32 = 0;
@@ -154,8 +154,8 @@ fn count_indices(s: &[u8], kind: Naming, m: u16, begins: &[u16], ends: &[u16], t
 
 // Counts by the cover of the indices below m.
 fn count_cover(s: &[u8], kind: Naming, m: u16, table: &mut [u16])
-    requires { (m ≤ 32768) × Reaching (sheetOf s.now) kind m }
-    ensures { NamingsCounted (sheetOf s.now) kind table.old table.new }
+    requires { (m ≤ 32768) × Reaching (sheet_of s.now) kind m }
+    ensures { NamingsCounted (sheet_of s.now) kind table.old table.new }
 {
     let mut begins: [u16; 32768] = [0; 32768];
     tally(s, kind, false, &mut begins);
@@ -166,7 +166,7 @@ fn count_cover(s: &[u8], kind: Naming, m: u16, table: &mut [u16])
 
 // Counts how often each record is named. No list of a sheet that keeps rule 4 reaches further than the tables.
 pub fn count_covered(s: &[u8], kind: Naming, table: &mut [u16])
-    ensures { NamingsCounted (sheetOf s.now) kind table.old table.new }
+    ensures { NamingsCounted (sheet_of s.now) kind table.old table.new }
 {
     if fewer_entries(s, CountedEntries::Namings(kind), FEW_INDICES + 1) == 0 {
         let m = reach(s, kind);

@@ -2,8 +2,8 @@
 // that the count stops at the number. Nothing rests on it but time.
 ghost use Rattle.std.specs.Prelude.{◌-◌, ◌≡◌};
 ghost use Rattle.profile.specs.Counting.{sum};
-ghost use Rattle.sheet.specs.Words.{sheetOf};
-ghost use Rattle.tables.specs.steps.EntryCounts.{entriesCounted, listEntries, recordsCounted};
+ghost use Rattle.sheet.specs.Words.{sheet_of};
+ghost use Rattle.tables.specs.steps.EntryCounts.{entries_counted, list_entries, records_counted};
 
 use crate::CountedEntries;
 use crate::namings::{items, namers};
@@ -15,7 +15,7 @@ use sheet::layout::{count, number};
 
 // How many entries the lists of a record have.
 fn list_entries(s: &[u8], section: u8, k: u16) -> u32
-    ensures { result ≡ listEntries (sheetOf s.now) section k }
+    ensures { result ≡ list_entries (sheet_of s.now) section k }
 {
     match section {
         1 => number(s, PROGRAMMES, k, CONTENT_LIST) as u32
@@ -31,7 +31,7 @@ fn list_entries(s: &[u8], section: u8, k: u16) -> u32
 
 // How many records have entries that are counted.
 fn records_counted(s: &[u8], counted: CountedEntries) -> u16
-    ensures { result ≡ recordsCounted (sheetOf s.now) counted }
+    ensures { result ≡ records_counted (sheet_of s.now) counted }
 {
     match counted {
         CountedEntries::Lists(section) => count(s, section),
@@ -41,7 +41,7 @@ fn records_counted(s: &[u8], counted: CountedEntries) -> u16
 
 // How many of them a record has.
 fn entries_counted(s: &[u8], counted: CountedEntries, k: u16) -> u32
-    ensures { result ≡ entriesCounted (sheetOf s.now) counted k }
+    ensures { result ≡ entries_counted (sheet_of s.now) counted k }
 {
     match counted {
         CountedEntries::Lists(section) => list_entries(s, section, k),
@@ -51,7 +51,7 @@ fn entries_counted(s: &[u8], counted: CountedEntries, k: u16) -> u32
 
 // By how many they are fewer than `most`: 0 where they are as many or more.
 pub fn fewer_entries(s: &[u8], counted: CountedEntries, most: u32) -> u32
-    ensures { result ≡ most - sum (entriesCounted (sheetOf s.now) counted) (recordsCounted (sheetOf s.now) counted) }
+    ensures { result ≡ most - sum (entries_counted (sheet_of s.now) counted) (records_counted (sheet_of s.now) counted) }
 {
     let n = records_counted(s, counted);
     let mut left = most;

@@ -1,9 +1,9 @@
 // Passes that mark a table. A record past the table's end is passed over.
 ghost use Rattle.std.specs.Prelude.{◌+◌, eqb, get_or, length, cond, ◌≡◌};
-ghost use Rattle.profile.specs.Counting.{howMany};
+ghost use Rattle.profile.specs.Counting.{how_many};
 ghost use Rattle.profile.specs.Relations.{times};
-ghost use Rattle.sheet.specs.Words.{sheetOf, word};
-ghost use Rattle.tables.specs.steps.Marks.{Filled, MarkedTimes, NamingsCounted, Standing, firstBy, marked, timesBy};
+ghost use Rattle.sheet.specs.Words.{sheet_of, word};
+ghost use Rattle.tables.specs.steps.Marks.{Filled, MarkedTimes, NamingsCounted, Standing, first_by, marked, times_by};
 ghost use Rattle.tables.specs.steps.Right.{Included, NamedSets};
 ghost use Rattle.tables.specs.declared.Naming.TheVariants.{ContentObjects, Included as IncludedObjects};
 
@@ -39,7 +39,7 @@ pub fn mark_at(table: &mut [u16], x: u32, mark: Mark)
 
 // Marks n places from one on.
 fn mark_span(from: u16, n: u16, mark: Mark, table: &mut [u16])
-    ensures { MarkedTimes mark (λ x. howMany (λ j. eqb (from + j) x) n) table.old table.new }
+    ensures { MarkedTimes mark (λ x. how_many (λ j. eqb (from + j) x) n) table.old table.new }
 {
     let mut i: u16 = 0;
     while i < n {
@@ -50,7 +50,7 @@ fn mark_span(from: u16, n: u16, mark: Mark, table: &mut [u16])
 
 // Marks the entries of a list: n entries of section 6, whose offset is `base`, from `first` on.
 pub fn mark_list(s: &[u8], base: u16, first: u16, n: u16, mark: Mark, table: &mut [u16])
-    ensures { MarkedTimes mark (λ x. howMany (λ j. eqb (word (sheetOf s.now) (base + (first + j))) x) n) table.old table.new }
+    ensures { MarkedTimes mark (λ x. how_many (λ j. eqb (word (sheet_of s.now) (base + (first + j))) x) n) table.old table.new }
 {
     let mut i: u16 = 0;
     while i < n {
@@ -65,14 +65,14 @@ pub fn mark_list(s: &[u8], base: u16, first: u16, n: u16, mark: Mark, table: &mu
 
 // Marks the object that a content names.
 pub fn mark_object(s: &[u8], q: u16, mark: Mark, table: &mut [u16])
-    ensures { MarkedTimes mark (timesBy (sheetOf s.now) ContentObjects q) table.old table.new }
+    ensures { MarkedTimes mark (times_by (sheet_of s.now) ContentObjects q) table.old table.new }
 {
     mark_at(table, field(s, CONTENTS, q, CONTENT_OBJECT) as u32, mark);
 }
 
 // Marks the objects that a programme includes.
 pub fn mark_objects(s: &[u8], p: u16, mark: Mark, table: &mut [u16])
-    ensures { MarkedTimes mark (timesBy (sheetOf s.now) IncludedObjects p) table.old table.new }
+    ensures { MarkedTimes mark (times_by (sheet_of s.now) IncludedObjects p) table.old table.new }
 {
     let base = offset(s, REFERENCES) as usize;
     let first = field(s, PROGRAMMES, p, CONTENT_LIST) as usize;
@@ -87,7 +87,7 @@ pub fn mark_objects(s: &[u8], p: u16, mark: Mark, table: &mut [u16])
 
 // Marks the entries of the list at a position of a record.
 fn mark_entries(s: &[u8], section: u8, q: u16, at: u8, mark: Mark, table: &mut [u16])
-    ensures { MarkedTimes mark (times (sheetOf s.now) section q at) table.old table.new }
+    ensures { MarkedTimes mark (times (sheet_of s.now) section q at) table.old table.new }
 {
     mark_list(
         s,
@@ -101,7 +101,7 @@ fn mark_entries(s: &[u8], section: u8, q: u16, at: u8, mark: Mark, table: &mut [
 
 // Marks all that a record names.
 pub fn mark_items(s: &[u8], kind: Naming, q: u16, mark: Mark, table: &mut [u16])
-    ensures { MarkedTimes mark (timesBy (sheetOf s.now) kind q) table.old table.new }
+    ensures { MarkedTimes mark (times_by (sheet_of s.now) kind q) table.old table.new }
 {
     match kind {
         Naming::ContentObjects => mark_object(s, q, mark, table),
@@ -121,7 +121,7 @@ pub fn mark_items(s: &[u8], kind: Naming, q: u16, mark: Mark, table: &mut [u16])
 
 // The same, with nothing to do for a record that names none, as most.
 pub fn mark_some(s: &[u8], kind: Naming, q: u16, mark: Mark, table: &mut [u16])
-    ensures { MarkedTimes mark (timesBy (sheetOf s.now) kind q) table.old table.new }
+    ensures { MarkedTimes mark (times_by (sheet_of s.now) kind q) table.old table.new }
 {
     if items(s, kind, q) != 0 {
         mark_items(s, kind, q, mark, table);
@@ -130,7 +130,7 @@ pub fn mark_some(s: &[u8], kind: Naming, q: u16, mark: Mark, table: &mut [u16])
 
 // Counts how often each record is named.
 pub fn count_namings(s: &[u8], kind: Naming, table: &mut [u16])
-    ensures { NamingsCounted (sheetOf s.now) kind table.old table.new }
+    ensures { NamingsCounted (sheet_of s.now) kind table.old table.new }
 {
     let n = namers(s, kind);
     let mut q: u16 = 0;
@@ -142,7 +142,7 @@ pub fn count_namings(s: &[u8], kind: Naming, table: &mut [u16])
 
 // Writes for each record one more than the number of the first that names it; where none does, what stood there stays.
 pub fn first_namers(s: &[u8], kind: Naming, table: &mut [u16])
-    ensures { Filled (λ x. firstBy (sheetOf s.now) kind x (get_or table.old x 0)) table.old table.new }
+    ensures { Filled (λ x. first_by (sheet_of s.now) kind x (get_or table.old x 0)) table.old table.new }
 {
     let mut q: u16 = namers(s, kind);
     while 0 < q {
@@ -164,7 +164,7 @@ pub fn clear(table: &mut [u16])
 
 // Writes 1 for the objects that a programme includes, and 0 for the others.
 pub fn mark_included(s: &[u8], p: u16, table: &mut [u16])
-    ensures { (length table.new ≡ length table.old) × Included (sheetOf s.now) p table.new }
+    ensures { (length table.new ≡ length table.old) × Included (sheet_of s.now) p table.new }
 {
     clear(table);
     mark_objects(s, p, Mark::Store(1), table);
@@ -172,7 +172,7 @@ pub fn mark_included(s: &[u8], p: u16, table: &mut [u16])
 
 // Writes 1 for the value sets that a programme names, into a table of noughts.
 pub fn mark_named_sets(s: &[u8], p: u16, table: &mut [u16])
-    ensures { (length table.new ≡ length table.old) × (Standing (λ x. 0) table.old → NamedSets (sheetOf s.now) p table.new) }
+    ensures { (length table.new ≡ length table.old) × (Standing (λ x. 0) table.old → NamedSets (sheet_of s.now) p table.new) }
 {
     mark_items(s, Naming::SetLists, p, Mark::Store(1), table);
 }

@@ -1,7 +1,7 @@
 // How many members of a group pass a test, with the table that the test reads.
 ghost use Rattle.std.specs.Prelude.{◌≡◌};
-ghost use Rattle.sheet.specs.Words.{sheetOf};
-ghost use Rattle.tables.specs.steps.Members.{flagged, howManyMembers, memberRight, memberTest};
+ghost use Rattle.sheet.specs.Words.{sheet_of};
+ghost use Rattle.tables.specs.steps.Members.{flagged, how_many_members, member_right, member_test};
 
 use crate::MemberTest;
 use crate::reads::{included_by, names_set_by};
@@ -22,7 +22,7 @@ pub fn flagged(table: &[u16], o: u16) -> bool
 
 // Whether a member passes the test.
 fn member_passes(s: &[u8], marks: &[u16], test: MemberTest, o: u16) -> bool
-    ensures { memberRight (sheetOf s.now) test marks.now → result ≡ memberTest (sheetOf s.now) test marks.now o }
+    ensures { member_right (sheet_of s.now) test marks.now → result ≡ member_test (sheet_of s.now) test marks.now o }
 {
     match test {
         MemberTest::IncludedIn(p) => included_by(s, p, marks, o),
@@ -33,7 +33,7 @@ fn member_passes(s: &[u8], marks: &[u16], test: MemberTest, o: u16) -> bool
 
 // How many members of a leader's group pass the test.
 pub fn members_passing(s: &[u8], marks: &[u16], test: MemberTest, l: u16) -> u32
-    ensures { memberRight (sheetOf s.now) test marks.now → result ≡ howManyMembers (sheetOf s.now) test marks.now l }
+    ensures { member_right (sheet_of s.now) test marks.now → result ≡ how_many_members (sheet_of s.now) test marks.now l }
 {
     let n = members(s, l);
     let mut found: u32 = 0;

@@ -1,6 +1,6 @@
 // Who names what.
 ghost use Rattle.std.specs.Prelude.{◌≡◌};
-ghost use Rattle.sheet.specs.Words.{sheetOf};
+ghost use Rattle.sheet.specs.Words.{sheet_of};
 ghost use Rattle.tables.specs.steps.Namings.{items, namers};
 
 use crate::Naming;
@@ -11,7 +11,7 @@ use sheet::layout::{count, number};
 
 // How many records name others in that way.
 pub fn namers(s: &[u8], kind: Naming) -> u16
-    ensures { result ≡ namers (sheetOf s.now) kind }
+    ensures { result ≡ namers (sheet_of s.now) kind }
 {
     match kind {
         Naming::ContentObjects => count(s, CONTENTS),
@@ -26,7 +26,7 @@ pub fn namers(s: &[u8], kind: Naming) -> u16
 
 // How many records a record names.
 pub fn items(s: &[u8], kind: Naming, q: u16) -> u16
-    ensures { result ≡ items (sheetOf s.now) kind q }
+    ensures { result ≡ items (sheet_of s.now) kind q }
 {
     match kind {
         Naming::ContentObjects => 1,

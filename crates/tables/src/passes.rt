@@ -1,7 +1,7 @@
 // Passes over all records of a section that count what they name, some in several tables at once.
 ghost use Rattle.std.specs.Prelude.{suc, ◌<◌};
-ghost use Rattle.sheet.specs.Words.{sheetOf};
-ghost use Rattle.tables.specs.steps.Marks.{MarkedTimes, NamingsCounted, timesBy};
+ghost use Rattle.sheet.specs.Words.{sheet_of};
+ghost use Rattle.tables.specs.steps.Marks.{MarkedTimes, NamingsCounted, times_by};
 ghost use Rattle.tables.specs.steps.Passes.{ListsCounted, TopsCounted};
 ghost use Rattle.tables.specs.declared.Mark.TheVariants.{Count, First};
 ghost use Rattle.tables.specs.declared.Naming.TheVariants.{ContentLists};
@@ -14,7 +14,7 @@ use sheet::layout::{count, field, number, offset};
 
 // Counts how often contents name each object, in two tables.
 pub fn count_tops(s: &[u8], tops: &mut [u16], named: &mut [u16])
-    ensures { TopsCounted (sheetOf s.now) tops.old named.old tops.new named.new }
+    ensures { TopsCounted (sheet_of s.now) tops.old named.old tops.new named.new }
 {
     let n = count(s, CONTENTS);
     let mut q: u16 = 0;
@@ -27,7 +27,7 @@ pub fn count_tops(s: &[u8], tops: &mut [u16], named: &mut [u16])
 
 // Counts how often content lists name each content.
 pub fn count_contents(s: &[u8], listed: &mut [u16])
-    ensures { NamingsCounted (sheetOf s.now) ContentLists listed.old listed.new }
+    ensures { NamingsCounted (sheet_of s.now) ContentLists listed.old listed.new }
 {
     let base = offset(s, REFERENCES);
     let n = count(s, PROGRAMMES);
@@ -48,7 +48,7 @@ pub fn count_contents(s: &[u8], listed: &mut [u16])
 // Counts the records that a record names, mostly none, and keeps its own number, one more, where it is the first to name one.
 fn mark_both(s: &[u8], kind: Naming, q: u16, counts: &mut [u16], firsts: &mut [u16])
     requires { q < 65535 }
-    ensures { MarkedTimes Count (timesBy (sheetOf s.now) kind q) counts.old counts.new × MarkedTimes (First (suc q)) (timesBy (sheetOf s.now) kind q) firsts.old firsts.new }
+    ensures { MarkedTimes Count (times_by (sheet_of s.now) kind q) counts.old counts.new × MarkedTimes (First (suc q)) (times_by (sheet_of s.now) kind q) firsts.old firsts.new }
 {
     if items(s, kind, q) != 0 {
         mark_items(s, kind, q, Mark::Count, counts);
@@ -65,7 +65,7 @@ pub fn count_lists(
     spanned: &mut [u16],
     owners: &mut [u16],
 )
-    ensures { ListsCounted (sheetOf s.now) named.old complements.old spanned.old owners.old named.new complements.new spanned.new owners.new }
+    ensures { ListsCounted (sheet_of s.now) named.old complements.old spanned.old owners.old named.new complements.new spanned.new owners.new }
 {
     let n = count(s, OBJECTS);
     let mut q: u16 = 0;

@@ -1,8 +1,8 @@
 // Relations read from a table, or found by their own search where the table ends before: with an empty table, always.
 ghost use Rattle.std.specs.Prelude.{ℕ, ◌+◌, ◌<◌, ◌≤◌, eqb, get_or, length, not, true, ◌≡◌};
 ghost use Rattle.profile.specs.Counting.{any};
-ghost use Rattle.profile.specs.Relations.{complement, includes, leaderOf, lone, namesSet, owner, top};
-ghost use Rattle.sheet.specs.Words.{sheetOf};
+ghost use Rattle.profile.specs.Relations.{complement, includes, leader_of, lone, names_set, owner, top};
+ghost use Rattle.sheet.specs.Words.{sheet_of};
 ghost use Rattle.tables.specs.steps.Right.{Complemented, Included, Leaders, NamedSets, Owners, Tops, told};
 
 use relations::groups::leader_of;
@@ -14,7 +14,7 @@ use sheet::layout::{count, field, number};
 
 // "A top object is one that a content names."
 pub fn top_by(s: &[u8], tops: &[u16], o: u16) -> bool
-    ensures { Tops (sheetOf s.now) tops.now → result ≡ top (sheetOf s.now) o }
+    ensures { Tops (sheet_of s.now) tops.now → result ≡ top (sheet_of s.now) o }
 {
     let i = o as usize;
     if i < tops.len() {
@@ -26,7 +26,7 @@ pub fn top_by(s: &[u8], tops: &[u16], o: u16) -> bool
 
 // Some complement list names the object.
 pub fn complement_by(s: &[u8], complements: &[u16], o: u16) -> bool
-    ensures { Complemented (sheetOf s.now) complements.now → result ≡ complement (sheetOf s.now) o }
+    ensures { Complemented (sheet_of s.now) complements.now → result ≡ complement (sheet_of s.now) o }
 {
     let i = o as usize;
     if i < complements.len() {
@@ -38,7 +38,7 @@ pub fn complement_by(s: &[u8], complements: &[u16], o: u16) -> bool
 
 // A top object in no group.
 pub fn lone_by(s: &[u8], tops: &[u16], complements: &[u16], o: u16) -> bool
-    ensures { Tops (sheetOf s.now) tops.now → Complemented (sheetOf s.now) complements.now → result ≡ lone (sheetOf s.now) o }
+    ensures { Tops (sheet_of s.now) tops.now → Complemented (sheet_of s.now) complements.now → result ≡ lone (sheet_of s.now) o }
 {
     top_by(s, tops, o) & !leader(s, o) & !complement_by(s, complements, o)
 }
@@ -52,7 +52,7 @@ fn told(d: u16, c: u16) -> u16
 
 // The leader of an object's group.
 pub fn leader_by(s: &[u8], leaders: &[u16], o: u16) -> u16
-    ensures { Leaders (sheetOf s.now) leaders.now → result ≡ leaderOf (sheetOf s.now) o }
+    ensures { Leaders (sheet_of s.now) leaders.now → result ≡ leader_of (sheet_of s.now) o }
 {
     let i = o as usize;
     if i < leaders.len() {
@@ -64,7 +64,7 @@ pub fn leader_by(s: &[u8], leaders: &[u16], o: u16) -> u16
 
 // The object whose set v is, the number of objects where there is none.
 pub fn owner_by(s: &[u8], owners: &[u16], v: u16) -> u16
-    ensures { Owners (sheetOf s.now) owners.now → result ≡ owner (sheetOf s.now) v }
+    ensures { Owners (sheet_of s.now) owners.now → result ≡ owner (sheet_of s.now) v }
 {
     let i = v as usize;
     if i < owners.len() {
@@ -76,7 +76,7 @@ pub fn owner_by(s: &[u8], owners: &[u16], v: u16) -> u16
 
 // "A programme includes the top objects of its contents"
 pub fn included_by(s: &[u8], p: u16, marks: &[u16], o: u16) -> bool
-    ensures { Included (sheetOf s.now) p marks.now → result ≡ includes (sheetOf s.now) p o }
+    ensures { Included (sheet_of s.now) p marks.now → result ≡ includes (sheet_of s.now) p o }
 {
     let i = o as usize;
     if i < marks.len() {
@@ -102,7 +102,7 @@ fn any_marked(table: &[u16], from: usize, n: usize) -> bool
 
 // The programme names a set for the object.
 pub fn names_set_by(s: &[u8], p: u16, sets: &[u16], o: u16) -> bool
-    ensures { NamedSets (sheetOf s.now) p sets.now → result ≡ namesSet (sheetOf s.now) p o }
+    ensures { NamedSets (sheet_of s.now) p sets.now → result ≡ names_set (sheet_of s.now) p o }
 {
     let from = field(s, OBJECTS, o, SET_SPAN) as usize;
     let n = number(s, OBJECTS, o, SET_SPAN) as usize;

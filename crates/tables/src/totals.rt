@@ -1,8 +1,8 @@
 // What the whole sheet adds up to.
 ghost use Rattle.std.specs.Prelude.{◌≡◌};
-ghost use Rattle.profile.specs.Relations.{countedTracks, share, units};
-ghost use Rattle.relations.specs.steps.Sizes.{loneObjects};
-ghost use Rattle.sheet.specs.Words.{sheetOf};
+ghost use Rattle.profile.specs.Relations.{counted_tracks, share, units};
+ghost use Rattle.relations.specs.steps.Sizes.{lone_objects};
+ghost use Rattle.sheet.specs.Words.{sheet_of};
 ghost use Rattle.tables.specs.steps.Right.{Complemented, Tops};
 
 use crate::reads::lone_by;
@@ -15,7 +15,7 @@ use sheet::layout::count;
 
 // What an object adds to the counted tracks.
 pub fn share(s: &[u8], tops: &[u16], complements: &[u16], o: u16) -> u32
-    ensures { Tops (sheetOf s.now) tops.now → Complemented (sheetOf s.now) complements.now → result ≡ share (sheetOf s.now) o }
+    ensures { Tops (sheet_of s.now) tops.now → Complemented (sheet_of s.now) complements.now → result ≡ share (sheet_of s.now) o }
 {
     if leader(s, o) {
         largest_member(s, o)
@@ -28,7 +28,7 @@ pub fn share(s: &[u8], tops: &[u16], complements: &[u16], o: u16) -> u32
 
 // The counted tracks of the sheet.
 pub fn counted_tracks(s: &[u8], tops: &[u16], complements: &[u16]) -> u64
-    ensures { Tops (sheetOf s.now) tops.now → Complemented (sheetOf s.now) complements.now → result ≡ countedTracks (sheetOf s.now) }
+    ensures { Tops (sheet_of s.now) tops.now → Complemented (sheet_of s.now) complements.now → result ≡ counted_tracks (sheet_of s.now) }
 {
     let n = count(s, OBJECTS);
     let mut total: u64 = 0;
@@ -42,7 +42,7 @@ pub fn counted_tracks(s: &[u8], tops: &[u16], complements: &[u16]) -> u64
 
 // How many top objects are in no group.
 fn lone_objects(s: &[u8], tops: &[u16], complements: &[u16]) -> u16
-    ensures { Tops (sheetOf s.now) tops.now → Complemented (sheetOf s.now) complements.now → result ≡ loneObjects (sheetOf s.now) }
+    ensures { Tops (sheet_of s.now) tops.now → Complemented (sheet_of s.now) complements.now → result ≡ lone_objects (sheet_of s.now) }
 {
     let n = count(s, OBJECTS);
     let mut found: u16 = 0;
@@ -56,7 +56,7 @@ fn lone_objects(s: &[u8], tops: &[u16], complements: &[u16]) -> u16
 
 // "groups plus top objects in no group"
 pub fn units(s: &[u8], tops: &[u16], complements: &[u16]) -> u32
-    ensures { Tops (sheetOf s.now) tops.now → Complemented (sheetOf s.now) complements.now → result ≡ units (sheetOf s.now) }
+    ensures { Tops (sheet_of s.now) tops.now → Complemented (sheet_of s.now) complements.now → result ≡ units (sheet_of s.now) }
 {
     groups(s) as u32 + lone_objects(s, tops, complements) as u32
 }

@@ -8,73 +8,73 @@ use lib.ListN.{length, drop, set, length-append, get_or, length-set, drop_of_len
 use lib.Seq.{sets, sets-eq, drop-cons, take-append_seam}
 use Rattle.io.specs.Counts.{IsPrefixLen}
 use Rattle.text.specs.Bytes.{join}
-use Rattle.text.specs.Buffer.{Buffer, buffer, putByte, putText, filled, TextFilled}
+use Rattle.text.specs.Buffer.{Buffer, buffer, put_byte, put_text, filled, TextFilled}
 
 -- a text behind a text
-pub put-append : (b : Buffer) (s t : List ℕ) → putText b (s ++ t) ≡ putText (putText b s) t
-unfolding putText
-put-append b [] t = refl
-put-append b (x ∷ s) t = put-append (putByte b x) s t
+pub put_append : (b : Buffer) (s t : List ℕ) → put_text b (s ++ t) ≡ put_text (put_text b s) t
+unfolding put_text
+put_append b [] t = refl
+put_append b (x ∷ s) t = put_append (put_byte b x) s t
 
 -- texts one behind the other
-pub put-join : (b : Buffer) (s : List ℕ) (ss : List (List ℕ)) → putText b (join (s ∷ ss)) ≡ putText (putText b s) (join ss)
+pub put_join : (b : Buffer) (s : List ℕ) (ss : List (List ℕ)) → put_text b (join (s ∷ ss)) ≡ put_text (put_text b s) (join ss)
 unfolding join
-put-join b s ss = put-append b s (join ss)
+put_join b s ss = put_append b s (join ss)
 
-pub put-none : (b : Buffer) → putText b (join []) ≡ b
-unfolding join putText
-put-none b = refl
+pub put_none : (b : Buffer) → put_text b (join []) ≡ b
+unfolding join put_text
+put_none b = refl
 
 -- nothing is put behind the end
-pub no-room : (bytes : List ℕ) (n : ℕ) (t : List ℕ) → length bytes ≤ n → putText (buffer bytes n) t ≡ buffer bytes n
-unfolding putText putByte
-no-room bytes n [] h = refl
-no-room bytes n (x ∷ t) h = rw (le-ltb n (length bytes) h) (no-room bytes n t h)
+pub no_room : (bytes : List ℕ) (n : ℕ) (t : List ℕ) → length bytes ≤ n → put_text (buffer bytes n) t ≡ buffer bytes n
+unfolding put_text put_byte
+no_room bytes n [] h = refl
+no_room bytes n (x ∷ t) h = rw (le-ltb n (length bytes) h) (no_room bytes n t h)
 
 -- a byte that has room
-pub put-room : (bytes : List ℕ) (n x : ℕ) (t : List ℕ) → n < length bytes → putText (buffer bytes n) (x ∷ t) ≡ putText (buffer (set bytes n x) (n + 1)) t
-unfolding putText putByte
-put-room bytes n x t h = rw (lt-ltb n (length bytes) h) refl
+pub put_room : (bytes : List ℕ) (n x : ℕ) (t : List ℕ) → n < length bytes → put_text (buffer bytes n) (x ∷ t) ≡ put_text (buffer (set bytes n x) (n + 1)) t
+unfolding put_text put_byte
+put_room bytes n x t h = rw (lt-ltb n (length bytes) h) refl
 
 -- a byte of a text is put
 module _ (bytes : List ℕ) (n : ℕ) (t : List ℕ) (i : ℕ) (b : Buffer) where
-  pub put-step : n < length bytes → i < length t → putText (buffer bytes n) (drop i t) ≡ b
-      → putText (buffer (set bytes n (get_or t i 0)) (n + 1)) (drop (i + 1) t) ≡ b
-  put-step h l e =
+  pub put_step : n < length bytes → i < length t → put_text (buffer bytes n) (drop i t) ≡ b
+      → put_text (buffer (set bytes n (get_or t i 0)) (n + 1)) (drop (i + 1) t) ≡ b
+  put_step h l e =
       let next : i + 1 ≡ suc i = omega arith in
-      rw next (sym (put-room bytes n (get_or t i 0) (drop (suc i) t) h) ∙ (rw (drop-cons t i 0 l) at e))
+      rw next (sym (put_room bytes n (get_or t i 0) (drop (suc i) t) h) ∙ (rw (drop-cons t i 0 l) at e))
 
   -- and all of it
-  pub put-end : length t ≤ i → putText (buffer bytes n) (drop i t) ≡ b → buffer bytes n ≡ b
-  unfolding putText
-  put-end l e = rw (drop_of_length-le t l) at e
+  pub put_end : length t ≤ i → put_text (buffer bytes n) (drop i t) ≡ b → buffer bytes n ≡ b
+  unfolding put_text
+  put_end l e = rw (drop_of_length-le t l) at e
 
 -- a text that has room
-put-sets : (t bytes : List ℕ) (n : ℕ) → n + length t ≤ length bytes → putText (buffer bytes n) t ≡ buffer (sets bytes n t) (n + length t)
-unfolding putText
-put-sets [] bytes n h = ap (buffer bytes) (omega arith)
-put-sets (x ∷ t) bytes n h =
+put_sets : (t bytes : List ℕ) (n : ℕ) → n + length t ≤ length bytes → put_text (buffer bytes n) t ≡ buffer (sets bytes n t) (n + length t)
+unfolding put_text
+put_sets [] bytes n h = ap (buffer bytes) (omega arith)
+put_sets (x ∷ t) bytes n h =
     let e : n + 1 ≡ suc n = omega arith in
     let f : suc n + length t ≡ n + suc (length t) = omega arith in
-    put-room bytes n x t (omega arith)
-    ∙ rw (e, put-sets t (set bytes n x) (suc n) (rw length-set (omega arith)), f) refl
+    put_room bytes n x t (omega arith)
+    ∙ rw (e, put_sets t (set bytes n x) (suc n) (rw length-set (omega arith)), f) refl
 
 -- from the buffer's start
-pub put-filled : (bytes t : List ℕ) → length t ≤ length bytes → putText (buffer bytes 0) t ≡ buffer (filled bytes t) (length t)
+pub put_filled : (bytes t : List ℕ) → length t ≤ length bytes → put_text (buffer bytes 0) t ≡ buffer (filled bytes t) (length t)
 unfolding filled
-put-filled bytes t h =
+put_filled bytes t h =
     let l : 0 + length t ≤ length bytes = omega arith in
     let e : 0 + length t ≡ length t = omega arith in
-    put-sets t bytes 0 l ∙ rw (sets-eq t bytes 0 l, e) refl
+    put_sets t bytes 0 l ∙ rw (sets-eq t bytes 0 l, e) refl
 
 counted : (before text : List ℕ) → IsPrefixLen (length text) (filled before text)
 unfolding filled
 counted before text = (rw (length-append text (drop (length text) before)) (omega arith), rw (take-append_seam text (drop (length text) before)) refl)
 
 -- what is put from the start of a buffer that has room fills it
-pub put-fills : (before text after : List ℕ) (n : ℕ) → buffer after n ≡ putText (buffer before 0) text → length text ≤ length before → TextFilled before text n after
-put-fills before text after n e h =
-    let f = e ∙ put-filled before text h in
+pub put_fills : (before text after : List ℕ) (n : ℕ) → buffer after n ≡ put_text (buffer before 0) text → length text ≤ length before → TextFilled before text n after
+put_fills before text after n e h =
+    let f = e ∙ put_filled before text h in
     let m : n ≡ length text = ap (λ (b : Buffer). b.count) f in
     let w : after ≡ filled before text = ap (λ (b : Buffer). b.bytes) f in
     record { number = m; written = w; counts = rw (m, w) (counted before text) }

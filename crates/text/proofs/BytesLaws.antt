@@ -17,10 +17,10 @@ compared (a ∷ s) [] = refl
 compared (a ∷ s) (b ∷ t) = ap (λ (r : Bool). eqb a b && r) (compared s t)
 
 -- texts one behind the other
-pub join-length : (s : List ℕ) (ss : List (List ℕ)) → length (join (s ∷ ss)) ≡ length s + length (join ss)
+pub join_length : (s : List ℕ) (ss : List (List ℕ)) → length (join (s ∷ ss)) ≡ length s + length (join ss)
 unfolding join
-join-length s ss = length-append s (join ss)
+join_length s ss = length-append s (join ss)
 
-pub none-length : length (join []) ≡ 0
+pub none_length : length (join []) ≡ 0
 unfolding join
-none-length = refl
+none_length = refl

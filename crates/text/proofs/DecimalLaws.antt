@@ -13,13 +13,13 @@ use mir.Syntax.{w16}
 use mir.Val.{SFits}
 use Rattle.values.specs.declared.Gain.{Gain}
 use Rattle.values.specs.declared.Gain.TheVariants.{Silent, Tenths}
-use Rattle.values.specs.Signed.{wordOf}
+use Rattle.values.specs.Signed.{word_of}
 use Rattle.io.specs.Digits.{hex_digit_ascii, last_digits, IsDigitCount}
 use Rattle.text.specs.Bytes.{ascii, join}
-use Rattle.text.specs.Decimal.{digitByte, spelled, decimal, signedDecimal, gainText}
+use Rattle.text.specs.Decimal.{digit_byte, spelled, decimal, signed_decimal, gain_text}
 
 -- a digit's byte
-last : (n : ℕ) → hex_digit_ascii (n % 10) ∷ [] ≡ digitByte (n % 10)
+last : (n : ℕ) → hex_digit_ascii (n % 10) ∷ [] ≡ digit_byte (n % 10)
 last n = rw (lt-ltb (n % 10) 10 (mod-lt n (omega arith))) refl
 
 -- the least number of that many digits
@@ -38,16 +38,16 @@ fewer n r f =
 ten : (n r : ℕ) → IsDigitCount 10 1 n (suc (suc r)) → 10 ≤ n
 ten n r f = le_trans (pow-le-pow_right {n = 10} (omega arith) {i = 1} {j = suc r} (omega arith)) (least n r f)
 
-spelled-digits : (k r n : ℕ) → r ≤ suc k → IsDigitCount 10 1 n r → last_digits 10 r n ≡ spelled k n
+spelled_digits : (k r n : ℕ) → r ≤ suc k → IsDigitCount 10 1 n r → last_digits 10 r n ≡ spelled k n
 unfolding spelled
-spelled-digits k zero n l f = absurd (omega arith)
-spelled-digits zero (suc zero) n l f = last n
-spelled-digits zero (suc (suc r)) n l f = absurd (omega arith)
-spelled-digits (suc k) (suc zero) n l (_, below, above) =
+spelled_digits k zero n l f = absurd (omega arith)
+spelled_digits zero (suc zero) n l f = last n
+spelled_digits zero (suc (suc r)) n l f = absurd (omega arith)
+spelled_digits (suc k) (suc zero) n l (_, below, above) =
     let h : n < 10 = below in
-    rw (lt-ltb n 10 h) (last n ∙ ap digitByte (mod-eq_of_lt h))
-spelled-digits (suc k) (suc (suc r)) n l f =
-    rw (le-ltb n 10 (ten n r f), spelled-digits k (suc r) (n / 10) (omega arith) (fewer n r f), last n) refl
+    rw (lt-ltb n 10 h) (last n ∙ ap digit_byte (mod-eq_of_lt h))
+spelled_digits (suc k) (suc (suc r)) n l f =
+    rw (le-ltb n 10 (ten n r f), spelled_digits k (suc r) (n / 10) (omega arith) (fewer n r f), last n) refl
 
 -- a number of 64 bits has at most 20 digits
 few : (r n : ℕ) → n < 2 ^ 64 → IsDigitCount 10 1 n r → r ≤ 20
@@ -61,43 +61,43 @@ few r n h f =
           absurd (omega arith)
     ]) refl
 
-pub decimal-digits : (r n : ℕ) → n < 2 ^ 64 → IsDigitCount 10 1 n r → last_digits 10 r n ≡ decimal n
+pub decimal_digits : (r n : ℕ) → n < 2 ^ 64 → IsDigitCount 10 1 n r → last_digits 10 r n ≡ decimal n
 unfolding decimal
-decimal-digits r n h f = spelled-digits 19 r n (few r n h f) f
+decimal_digits r n h f = spelled_digits 19 r n (few r n h f) f
 
 -- no number has more than 20 digits
-spelled-fits : (k n : ℕ) → length (spelled k n) ≤ suc k
+spelled_fits : (k n : ℕ) → length (spelled k n) ≤ suc k
 unfolding spelled
-spelled-fits zero n = omega arith
-spelled-fits (suc k) n =
-    (elim (ltb n 10) as (λ b. length (cond b (digitByte n) (spelled k (n / 10) ++ digitByte (n % 10))) ≤ suc (suc k)) [
+spelled_fits zero n = omega arith
+spelled_fits (suc k) n =
+    (elim (ltb n 10) as (λ b. length (cond b (digit_byte n) (spelled k (n / 10) ++ digit_byte (n % 10))) ≤ suc (suc k)) [
       | true ↦ omega arith
-      | false ↦ rw length-append (omega (arith, spelled-fits k (n / 10)))
+      | false ↦ rw length-append (omega (arith, spelled_fits k (n / 10)))
     ])
 
-pub decimal-fits : (n : ℕ) → length (decimal n) ≤ 20
+pub decimal_fits : (n : ℕ) → length (decimal n) ≤ 20
 unfolding decimal
-decimal-fits n = spelled-fits 19 n
+decimal_fits n = spelled_fits 19 n
 
-pub signed-fits : (z : ℤ) → length (signedDecimal z) ≤ 21
-unfolding signedDecimal
-signed-fits (pos n) = omega (arith, decimal-fits n)
-signed-fits (negsuc n) = omega (arith, decimal-fits (suc n))
+pub signed_fits : (z : ℤ) → length (signed_decimal z) ≤ 21
+unfolding signed_decimal
+signed_fits (pos n) = omega (arith, decimal_fits n)
+signed_fits (negsuc n) = omega (arith, decimal_fits (suc n))
 
 -- a number with its sign, by its word
-pub signed-plain : (z : ℤ) → SFits w16 z → wordOf z < 32768 → signedDecimal z ≡ decimal (wordOf z)
-unfolding wordOf signedDecimal
-signed-plain (pos n) f h = refl
-signed-plain (negsuc n) f h = absurd (omega (arith, f.sfits))
+pub signed_plain : (z : ℤ) → SFits w16 z → word_of z < 32768 → signed_decimal z ≡ decimal (word_of z)
+unfolding word_of signed_decimal
+signed_plain (pos n) f h = refl
+signed_plain (negsuc n) f h = absurd (omega (arith, f.sfits))
 
-pub signed-minus : (z : ℤ) → SFits w16 z → 32768 ≤ wordOf z → signedDecimal z ≡ join (ascii "-" ∷ decimal (65536 - wordOf z) ∷ [])
-unfolding wordOf signedDecimal join
-signed-minus (pos n) f h = absurd (omega (arith, f.sfits))
-signed-minus (negsuc n) f h =
+pub signed_minus : (z : ℤ) → SFits w16 z → 32768 ≤ word_of z → signed_decimal z ≡ join (ascii "-" ∷ decimal (65536 - word_of z) ∷ [])
+unfolding word_of signed_decimal join
+signed_minus (pos n) f h = absurd (omega (arith, f.sfits))
+signed_minus (negsuc n) f h =
     let e : 65536 - (65535 - n) ≡ suc n = omega (arith, f.sfits) in
     rw (e, append-nil (decimal (suc n))) refl
 
-pub gain-fits : (g : Gain) → length (gainText g) ≤ 21
-unfolding gainText
-gain-fits Silent = omega arith
-gain-fits (Tenths z) = signed-fits z
+pub gain_fits_lem : (g : Gain) → length (gain_text g) ≤ 21
+unfolding gain_text
+gain_fits_lem Silent = omega arith
+gain_fits_lem (Tenths z) = signed_fits z

@@ -14,15 +14,15 @@ use mir.Val.{to_z}
 use lib.Seq.{drop-cons, drop-length, take_all}
 use Rattle.std.specs.Prelude.{Some, None}
 use Rattle.std.proofs.lemmas.Option.{cond_some, none-some}
-use Rattle.text.proofs.BoolLaws.{and-both, and-false}
+use Rattle.text.proofs.BoolLaws.{and_both, and_false}
 use Rattle.text.specs.declared.numbers.Number.TheVariants.{Nothing, Of}
 use Rattle.text.specs.declared.numbers.Tenths.TheVariants as tenths
-use Rattle.text.specs.Numbers.{isDigit, digits, value, isNumber, numberOf, minus, positive, negative, tenthsOf}
+use Rattle.text.specs.Numbers.{is_digit, digits, value, is_number, number_of, minus, positive, negative, tenths_of}
 
 -- a digit's range
-pub digit-range : (b : ℕ) → isDigit b ≡ true → (48 ≤ b) × (b ≤ 57)
-unfolding isDigit
-digit-range b h = let r = and-both (leb 48 b) (leb b 57) h in (leb-true 48 b r.0, leb-true b 57 r.1)
+pub digit_range : (b : ℕ) → is_digit b ≡ true → (48 ≤ b) × (b ≤ 57)
+unfolding is_digit
+digit_range b h = let r = and_both (leb 48 b) (leb b 57) h in (leb-true 48 b r.0, leb-true b 57 r.1)
 
 -- more digits make a number no smaller
 pub grows : (s : List ℕ) (n : ℕ) → n ≤ value n s
@@ -36,43 +36,43 @@ module _ (s : List ℕ) (i n : ℕ) (h : i < length s) (v : value n (drop i s) �
   unfolding value
   valued = rw (add-one) (rw (drop-cons s i 0 h) at v)
 
-  pub judged : isDigit (get_or s i 0) ≡ true → digits (drop (i + 1) s) ≡ digits s
+  pub judged : is_digit (get_or s i 0) ≡ true → digits (drop (i + 1) s) ≡ digits s
   unfolding digits
   judged e = rw (add-one) (rw e at (rw (drop-cons s i 0 h) at d))
 
-  pub stray : (most : ℕ) → isDigit (get_or s i 0) ≡ false → 0 < length s → isNumber most s ≡ false
-  unfolding digits isNumber
+  pub stray : (most : ℕ) → is_digit (get_or s i 0) ≡ false → 0 < length s → is_number most s ≡ false
+  unfolding digits is_number
   stray most e l = let f : false ≡ digits s = rw e at (rw (drop-cons s i 0 h) at d) in simp (lt-ltb 0 (length s) l, sym f)
 
-  pub above : (most : ℕ) → most < n * 10 + (get_or s i 0 - 48) → isNumber most s ≡ false
-  unfolding isNumber
+  pub above : (most : ℕ) → most < n * 10 + (get_or s i 0 - 48) → is_number most s ≡ false
+  unfolding is_number
   above most l =
       let m : most < value 0 s = omega (arith, l, valued, grows (drop (i + 1) s) (n * 10 + (get_or s i 0 - 48))) in
-      simp (lt-leb (value 0 s) most m, and-false)
+      simp (lt-leb (value 0 s) most m, and_false)
 
-pub empty : (most : ℕ) (s : List ℕ) → length s ≡ 0 → isNumber most s ≡ false
-unfolding isNumber
+pub empty : (most : ℕ) (s : List ℕ) → length s ≡ 0 → is_number most s ≡ false
+unfolding is_number
 empty most s h = simp h
 
 -- no text, no number
-pub nothing : (s : List ℕ) → length s ≡ 0 → tenths.Nothing ≡ tenthsOf s
-unfolding tenthsOf positive numberOf isNumber
+pub nothing : (s : List ℕ) → length s ≡ 0 → tenths.Nothing ≡ tenths_of s
+unfolding tenths_of positive number_of is_number
 nothing [] h = refl
 nothing (b ∷ s) h = absurd (omega arith)
 
 -- with a minus, and without
-pub signed : (s : List ℕ) → get_or s 0 0 ≡ 45 → negative (numberOf (take (length s - 1) (drop 1 s))) ≡ tenthsOf s
-unfolding tenthsOf
+pub signed : (s : List ℕ) → get_or s 0 0 ≡ 45 → negative (number_of (take (length s - 1) (drop 1 s))) ≡ tenths_of s
+unfolding tenths_of
 signed s h = simp (take_all (length s - 1) (drop 1 s) (simp length-drop (omega arith)), eq-eqb _ _ h)
 
-pub unsigned : (s : List ℕ) → (get_or s 0 0 ≡ 45 → ⊥) → positive (numberOf s) ≡ tenthsOf s
-unfolding tenthsOf
+pub unsigned : (s : List ℕ) → (get_or s 0 0 ≡ 45 → ⊥) → positive (number_of s) ≡ tenths_of s
+unfolding tenths_of
 unsigned s h = simp (ne_eqb _ _ h)
 
 -- all digits are read
 pub finished : (most : ℕ) (s : List ℕ) (i n : ℕ) → i ≡ length s → 0 < length s → n ≤ most → value n (drop i s) ≡ value 0 s → digits (drop i s) ≡ digits s
-    → (isNumber most s ≡ true) × (n ≡ value 0 s)
-unfolding digits value isNumber
+    → (is_number most s ≡ true) × (n ≡ value 0 s)
+unfolding digits value is_number
 finished most s i n e h l v d =
     let z : drop i s ≡ [] = rw e (drop-length s) in
     let w : n ≡ value 0 s = rw z at v in
@@ -84,20 +84,20 @@ absent : (b : Bool) (x : ℕ) → cond b (Some x) None ≡ None → b ≡ false
 absent true x h = absurd (none-some x (sym h))
 absent false x h = refl
 
-pub read-none : (s : List ℕ) → cond (isNumber 65535 s) (Some (value 0 s)) None ≡ None → Nothing ≡ numberOf s
-unfolding numberOf
-read-none s h = simp (absent (isNumber 65535 s) (value 0 s) h)
+pub read_none : (s : List ℕ) → cond (is_number 65535 s) (Some (value 0 s)) None ≡ None → Nothing ≡ number_of s
+unfolding number_of
+read_none s h = simp (absent (is_number 65535 s) (value 0 s) h)
 
-pub read-some : (n : ℕ) (s : List ℕ) → cond (isNumber 65535 s) (Some (value 0 s)) None ≡ Some n → Of n ≡ numberOf s
-unfolding numberOf
-read-some n s h = let p = cond_some (isNumber 65535 s) (value 0 s) n h in rw (p.0, p.1) refl
+pub read_some : (n : ℕ) (s : List ℕ) → cond (is_number 65535 s) (Some (value 0 s)) None ≡ Some n → Of n ≡ number_of s
+unfolding number_of
+read_some n s h = let p = cond_some (is_number 65535 s) (value 0 s) n h in rw (p.0, p.1) refl
 
 -- and it is small
-pub number-small : (most n : ℕ) (s : List ℕ) → cond (isNumber most s) (Some (value 0 s)) None ≡ Some n → n ≤ most
-unfolding isNumber
-number-small most n s h =
-    let p = cond_some (isNumber most s) (value 0 s) n h in
-    let l = leb-true (value 0 s) most (and-both (ltb 0 (length s) && digits s) (leb (value 0 s) most) p.0).1 in
+pub number_small : (most n : ℕ) (s : List ℕ) → cond (is_number most s) (Some (value 0 s)) None ≡ Some n → n ≤ most
+unfolding is_number
+number_small most n s h =
+    let p = cond_some (is_number most s) (value 0 s) n h in
+    let l = leb-true (value 0 s) most (and_both (ltb 0 (length s) && digits s) (leb (value 0 s) most) p.0).1 in
     rw p.1 at l
 
 -- a number and its negative as signed words

@@ -11,13 +11,13 @@ abbrev pub buffer : List ℕ → ℕ → Buffer
 buffer bytes count = record { bytes = bytes; count = count }
 
 -- a byte behind those written, if there is room
-unfoldable pub putByte : Buffer → ℕ → Buffer
-putByte b x = cond (ltb b.count (length b.bytes)) (buffer (set b.bytes b.count x) (b.count + 1)) b
+unfoldable pub put_byte : Buffer → ℕ → Buffer
+put_byte b x = cond (ltb b.count (length b.bytes)) (buffer (set b.bytes b.count x) (b.count + 1)) b
 
 -- a text behind them, as much of it as there is room for
-unfoldable pub putText : Buffer → List ℕ → Buffer
-putText b [] = b
-putText b (x ∷ t) = putText (putByte b x) t
+unfoldable pub put_text : Buffer → List ℕ → Buffer
+put_text b [] = b
+put_text b (x ∷ t) = put_text (put_byte b x) t
 
 -- a buffer whose first bytes are the text; later ones stay
 unfoldable pub filled : List ℕ → List ℕ → List ℕ

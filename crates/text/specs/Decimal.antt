@@ -5,24 +5,24 @@ use Rattle.values.specs.declared.Gain.TheVariants.{Silent, Tenths}
 use Rattle.text.specs.Bytes.{ascii}
 
 -- a digit's byte: 48 is "0"
-abbrev pub digitByte : ℕ → List ℕ
-digitByte d = (48 + d) ∷ []
+abbrev pub digit_byte : ℕ → List ℕ
+digit_byte d = (48 + d) ∷ []
 
 -- a number of at most k + 1 digits
 unfoldable pub spelled : ℕ → ℕ → List ℕ
-spelled zero n = digitByte (n % 10)
-spelled (suc k) n = cond (ltb n 10) (digitByte n) (spelled k (n / 10) ++ digitByte (n % 10))
+spelled zero n = digit_byte (n % 10)
+spelled (suc k) n = cond (ltb n 10) (digit_byte n) (spelled k (n / 10) ++ digit_byte (n % 10))
 
 -- a number of 64 bits: at most 20 digits
 unfoldable pub decimal : ℕ → List ℕ
 decimal n = spelled 19 n
 
 -- `negsuc n` is -(n + 1)
-unfoldable pub signedDecimal : ℤ → List ℕ
-signedDecimal (pos n) = decimal n
-signedDecimal (negsuc n) = ascii "-" ++ decimal (suc n)
+unfoldable pub signed_decimal : ℤ → List ℕ
+signed_decimal (pos n) = decimal n
+signed_decimal (negsuc n) = ascii "-" ++ decimal (suc n)
 
 -- `silence`, or the number of tenths
-unfoldable pub gainText : Gain → List ℕ
-gainText Silent = ascii "silence"
-gainText (Tenths z) = signedDecimal z
+unfoldable pub gain_text : Gain → List ℕ
+gain_text Silent = ascii "silence"
+gain_text (Tenths z) = signed_decimal z

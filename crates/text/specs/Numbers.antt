@@ -10,13 +10,13 @@ use Rattle.values.specs.declared.Gain.TheVariants as gain
 use Rattle.text.specs.Bytes.{ascii, same}
 
 -- "0" to "9"
-unfoldable pub isDigit : ℕ → Bool
-isDigit b = leb 48 b && leb b 57
+unfoldable pub is_digit : ℕ → Bool
+is_digit b = leb 48 b && leb b 57
 
 -- digits only
 unfoldable pub digits : List ℕ → Bool
 digits [] = true
-digits (b ∷ s) = isDigit b && digits s
+digits (b ∷ s) = is_digit b && digits s
 
 -- the number that digits stand for, written behind the digits of n
 unfoldable pub value : ℕ → List ℕ → ℕ
@@ -24,16 +24,16 @@ value n [] = n
 value n (b ∷ s) = value (n * 10 + (b - 48)) s
 
 -- a text is a number from 0 to `most`
-unfoldable pub isNumber : ℕ → List ℕ → Bool
-isNumber most s = ltb 0 (length s) && digits s && leb (value 0 s) most
+unfoldable pub is_number : ℕ → List ℕ → Bool
+is_number most s = ltb 0 (length s) && digits s && leb (value 0 s) most
 
 -- the number that a text stands for, of 16 bits: nothing where it is none
-unfoldable pub numberOf : List ℕ → Number
-numberOf s = cond (isNumber 65535 s) (Of (value 0 s)) Nothing
+unfoldable pub number_of : List ℕ → Number
+number_of s = cond (is_number 65535 s) (Of (value 0 s)) Nothing
 
 -- of 32 bits
-unfoldable pub wideNumberOf : List ℕ → Option ℕ
-wideNumberOf s = cond (isNumber 4294967295 s) (Some (value 0 s)) None
+unfoldable pub wide_number_of : List ℕ → Option ℕ
+wide_number_of s = cond (is_number 4294967295 s) (Some (value 0 s)) None
 
 -- a number's negative: `negsuc n` is -(n + 1)
 abbrev pub minus : ℕ → ℤ
@@ -51,14 +51,14 @@ negative Nothing = tenths.Nothing
 negative (Of n) = cond (leb n 32768) (tenths.Of (minus n)) tenths.Nothing
 
 -- 45 is the minus
-unfoldable pub tenthsOf : List ℕ → Tenths
-tenthsOf s = cond (eqb (get_or s 0 0) 45) (negative (numberOf (drop 1 s))) (positive (numberOf s))
+unfoldable pub tenths_of : List ℕ → Tenths
+tenths_of s = cond (eqb (get_or s 0 0) 45) (negative (number_of (drop 1 s))) (positive (number_of s))
 
 -- the gain of a number of tenths; -32768 is that number, which is no legal gain, and not silence
-abbrev pub tenthsGain : Tenths → GainValue
-tenthsGain tenths.Nothing = gains.Nothing
-tenthsGain (tenths.Of z) = gains.Of (gain.Tenths z)
+abbrev pub tenths_gain : Tenths → GainValue
+tenths_gain tenths.Nothing = gains.Nothing
+tenths_gain (tenths.Of z) = gains.Of (gain.Tenths z)
 
 -- `silence`, or a number of tenths
-unfoldable pub gainValueOf : List ℕ → GainValue
-gainValueOf s = cond (same s (ascii "silence")) (gains.Of gain.Silent) (tenthsGain (tenthsOf s))
+unfoldable pub gain_value_of : List ℕ → GainValue
+gain_value_of s = cond (same s (ascii "silence")) (gains.Of gain.Silent) (tenths_gain (tenths_of s))

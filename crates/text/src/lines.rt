@@ -2,8 +2,8 @@
 ghost use Rattle.std.specs.Prelude.{◌+◌, ◌≤◌, [], ◌≡◌, ◌==◌, length, get_or, take, drop};
 ghost use Rattle.std.specs.List.{position_or_len};
 ghost use Rattle.text.specs.Bytes.{same};
-ghost use Rattle.text.specs.Lines.{fields, isBlank, lineEnd, part, said};
-ghost use Rattle.text.specs.steps.Stretches.{isSuch, nextField, stretchEnd};
+ghost use Rattle.text.specs.Lines.{fields, is_blank, line_end, part, said};
+ghost use Rattle.text.specs.steps.Stretches.{is_such, next_field, stretch_end};
 
 // The longest line that can be a command, without its newline.
 const LONGEST: usize = 256;
@@ -50,7 +50,7 @@ fn find(text: &[u8], at: usize, end: usize, byte: u8) -> usize
 
 // Where the line that begins at a place of a text ends: before its newline, or at the text's end.
 pub fn line_end(text: &[u8], at: usize) -> usize
-    ensures { (result ≡ lineEnd text.now at) × (at ≤ result) × (at ≤ length text.now → result ≤ length text.now) }
+    ensures { (result ≡ line_end text.now at) × (at ≤ result) × (at ≤ length text.now → result ≤ length text.now) }
 {
     if at >= text.len() {
         return at;
@@ -77,21 +77,21 @@ pub fn said(line: &[u8]) -> &[u8]
 
 // Fields are separated by spaces and tabs.
 fn is_blank(b: u8) -> bool
-    ensures { result ≡ isBlank b }
+    ensures { result ≡ is_blank b }
 {
     (b == b' ') | (b == b'\t')
 }
 
 // Whether a byte is blank, or is not, as asked.
 fn is_such(b: u8, blank: bool) -> bool
-    ensures { result ≡ isSuch blank b }
+    ensures { result ≡ is_such blank b }
 {
     if blank { is_blank(b) } else { !is_blank(b) }
 }
 
 // Where a stretch of blank bytes, or of others, that starts at `from` ends.
 fn stretch_end(line: &[u8], from: usize, blank: bool) -> usize
-    ensures { result ≡ stretchEnd line.now from blank }
+    ensures { result ≡ stretch_end line.now from blank }
 {
     let mut i = from;
     while i < line.len() {
@@ -105,7 +105,7 @@ fn stretch_end(line: &[u8], from: usize, blank: bool) -> usize
 
 // Where the field behind the one at a place starts.
 fn next_field(line: &[u8], at: usize) -> usize
-    ensures { result ≡ nextField line.now at }
+    ensures { result ≡ next_field line.now at }
 {
     stretch_end(line, stretch_end(line, at, false), true)
 }

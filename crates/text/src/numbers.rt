@@ -1,6 +1,6 @@
 // Decimal numbers: digits, leading zeros among them, with a minus before them where the number may be negative.
 ghost use Rattle.std.specs.Prelude.{◌≡◌, None, Some, cond};
-ghost use Rattle.text.specs.Numbers.{gainValueOf, isDigit, isNumber, numberOf, negative, positive, tenthsGain, tenthsOf, value, wideNumberOf};
+ghost use Rattle.text.specs.Numbers.{gain_value_of, is_digit, is_number, number_of, negative, positive, tenths_gain, tenths_of, value, wide_number_of};
 
 use crate::lines::same;
 use values::Gain;
@@ -25,14 +25,14 @@ pub enum GainValue {
 }
 
 fn is_digit(b: u8) -> bool
-    ensures { result ≡ isDigit b }
+    ensures { result ≡ is_digit b }
 {
     (b'0' <= b) & (b <= b'9')
 }
 
 // A number from 0 to `most`.
 fn number_up_to(text: &[u8], most: u32) -> Option<u32>
-    ensures { result ≡ cond (isNumber most text.now) (Some (value 0 text.now)) None }
+    ensures { result ≡ cond (is_number most text.now) (Some (value 0 text.now)) None }
 {
     if text.len() == 0 {
         return None;
@@ -55,7 +55,7 @@ fn number_up_to(text: &[u8], most: u32) -> Option<u32>
 
 // A number from 0 to 65535.
 pub fn number_of(text: &[u8]) -> Number
-    ensures { result ≡ numberOf text.now }
+    ensures { result ≡ number_of text.now }
 {
     match number_up_to(text, 65535) {
         None => Number::Nothing,
@@ -65,7 +65,7 @@ pub fn number_of(text: &[u8]) -> Number
 
 // A number of 32 bits.
 pub fn wide_number_of(text: &[u8]) -> Option<u32>
-    ensures { result ≡ wideNumberOf text.now }
+    ensures { result ≡ wide_number_of text.now }
 {
     number_up_to(text, u32::MAX)
 }
@@ -106,7 +106,7 @@ fn negative(n: Number) -> Tenths
 
 // A number from -32768 to 32767.
 pub fn tenths_of(text: &[u8]) -> Tenths
-    ensures { result ≡ tenthsOf text.now }
+    ensures { result ≡ tenths_of text.now }
 {
     if text.len() == 0 {
         return Tenths::Nothing;
@@ -120,7 +120,7 @@ pub fn tenths_of(text: &[u8]) -> Tenths
 
 // The gain of a number of tenths. -32768 is that number, which is no legal gain, and not silence.
 fn tenths_gain(value: Tenths) -> GainValue
-    ensures { result ≡ tenthsGain value }
+    ensures { result ≡ tenths_gain value }
 {
     match value {
         Tenths::Nothing => GainValue::Nothing,
@@ -130,7 +130,7 @@ fn tenths_gain(value: Tenths) -> GainValue
 
 // A gain: `silence`, or a number of tenths.
 pub fn gain_value_of(text: &[u8]) -> GainValue
-    ensures { result ≡ gainValueOf text.now }
+    ensures { result ≡ gain_value_of text.now }
 {
     if same(text, b"silence") {
         return GainValue::Of(Gain::Silent);

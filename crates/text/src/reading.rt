@@ -11,7 +11,7 @@ use std::fs::Files;
 use std::io::{Error, ErrorKind, Read};
 use std::{fs, str};
 
-// A list of more words can't rise, so that so many bytes decide (`cut-langs`, crates/verdicts/proofs/LongInput.antt): 65,537 words.
+// A list of more words can't rise, so that so many bytes decide (`cut_langs`, crates/verdicts/proofs/LongInput.antt): 65,537 words.
 pub const LANGS_ROOM: usize = 131074;
 
 // What reading gave: so many bytes at the start of the buffer, and why it stopped there, if a read failed.

@@ -8,8 +8,8 @@ unfoldable pub letter : ℕ → Bool
 letter n = leb 1 n && leb n 26
 
 -- "1024 times the first letter plus 32 times the second plus the third"
-unfoldable pub threeLetters : ℕ → Bool
-threeLetters w = letter (w / 1024) && letter (w / 32 % 32) && letter (w % 32)
+unfoldable pub three_letters : ℕ → Bool
+three_letters w = letter (w / 1024) && letter (w / 32 % 32) && letter (w % 32)
 
 -- "1 integrated, 2 dialogue, 3 both"
 unfoldable pub loudness : ℕ → Bool

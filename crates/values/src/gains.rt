@@ -1,12 +1,12 @@
 // "A gain is either silence (-32768) or a number of tenths of a dB from -600 to 210, and silence is below every number".
 ghost use Rattle.std.specs.Prelude.{◌≡◌};
 ghost use Rattle.values.specs.Gain.{
-  gainOf,
-  atMost,
-  gainInRange,
-  legalGain,
-  legalGainMinimum,
-  legalGainMaximum,
+  gain_of,
+  at_most,
+  gain_in_range,
+  legal_gain,
+  legal_gain_minimum,
+  legal_gain_maximum,
 };
 
 use crate::Gain;
@@ -14,7 +14,7 @@ use crate::signed::signed;
 
 // The gain that a word stands for, legal or not: 32768 is the word of -32768.
 pub fn gain_of(w: u16) -> Gain
-    ensures { result ≡ gainOf w }
+    ensures { result ≡ gain_of w }
 {
     if w == 32768 {
         Gain::Silent
@@ -25,7 +25,7 @@ pub fn gain_of(w: u16) -> Gain
 
 // "silence is below every number"
 pub fn at_most(a: Gain, b: Gain) -> bool
-    ensures { result ≡ atMost a b }
+    ensures { result ≡ at_most a b }
 {
     match a {
         Gain::Silent => true,
@@ -38,14 +38,14 @@ pub fn at_most(a: Gain, b: Gain) -> bool
 
 // From `lo` to `hi`, both included.
 pub fn gain_in_range(lo: Gain, g: Gain, hi: Gain) -> bool
-    ensures { result ≡ gainInRange lo g hi }
+    ensures { result ≡ gain_in_range lo g hi }
 {
     at_most(lo, g) & at_most(g, hi)
 }
 
 // "either silence (-32768) or a number of tenths of a dB from -600 to 210"
 pub fn legal_gain(g: Gain) -> bool
-    ensures { result ≡ legalGain g }
+    ensures { result ≡ legal_gain g }
 {
     match g {
         Gain::Silent => true,
@@ -55,7 +55,7 @@ pub fn legal_gain(g: Gain) -> bool
 
 // "Minimums: silence or -600 to 0"
 pub fn legal_gain_minimum(g: Gain) -> bool
-    ensures { result ≡ legalGainMinimum g }
+    ensures { result ≡ legal_gain_minimum g }
 {
     match g {
         Gain::Silent => true,
@@ -65,7 +65,7 @@ pub fn legal_gain_minimum(g: Gain) -> bool
 
 // "Maximums: 0 to 210"
 pub fn legal_gain_maximum(g: Gain) -> bool
-    ensures { result ≡ legalGainMaximum g }
+    ensures { result ≡ legal_gain_maximum g }
 {
     match g {
         Gain::Silent => false,

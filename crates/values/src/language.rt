@@ -1,6 +1,6 @@
 // Codes of three letters, and loudness.
 ghost use Rattle.std.specs.Prelude.{◌≡◌};
-ghost use Rattle.values.specs.Language.{letter, threeLetters, loudness};
+ghost use Rattle.values.specs.Language.{letter, three_letters, loudness};
 
 // "a = 1 to z = 26"
 pub fn letter(n: u16) -> bool
@@ -11,7 +11,7 @@ pub fn letter(n: u16) -> bool
 
 // "1024 times the first letter plus 32 times the second plus the third".
 pub fn three_letters(w: u16) -> bool
-    ensures { result ≡ threeLetters w }
+    ensures { result ≡ three_letters w }
 {
     letter(w / 1024) & letter(w / 32 % 32) & letter(w % 32)
 }

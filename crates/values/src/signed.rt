@@ -1,10 +1,10 @@
 // "A word is 16 bits [..]; signed words are two's complement."
 ghost use Rattle.std.specs.Prelude.{◌≡◌};
-ghost use Rattle.values.specs.Signed.{signedOf, wordOf};
+ghost use Rattle.values.specs.Signed.{signed_of, word_of};
 
 // The number that a word stands for. `!n` is -(n + 1).
 pub fn signed(w: u16) -> i16
-    ensures { result ≡ signedOf w }
+    ensures { result ≡ signed_of w }
 {
     if w < 32768 {
         w as i16
@@ -15,7 +15,7 @@ pub fn signed(w: u16) -> i16
 
 // The word that stands for a number.
 pub fn word(z: i16) -> u16
-    ensures { result ≡ wordOf z }
+    ensures { result ≡ word_of z }
 {
     if z < 0 { 65535 - (!z as u16) } else { z as u16 }
 }

@@ -1,12 +1,12 @@
 // The words of either sort.
 ghost use Rattle.std.specs.Prelude.{◌≡◌};
 ghost use Rattle.values.specs.Values.{
-  isAbsent,
-  orElse,
-  isValue,
-  isMinimum,
-  isMaximum,
-  inRange,
+  is_absent,
+  or_else,
+  is_value,
+  is_minimum,
+  is_maximum,
+  in_range,
 };
 
 use crate::Sort;
@@ -16,21 +16,21 @@ use crate::signed::signed;
 
 // "In gain, offset and range words 32767 means absent"
 pub fn is_absent(w: u16) -> bool
-    ensures { result ≡ isAbsent w }
+    ensures { result ≡ is_absent w }
 {
     w == 32767
 }
 
 // `w`, or `other` where `w` is absent.
 pub fn or_else(w: u16, other: u16) -> u16
-    ensures { result ≡ orElse w other }
+    ensures { result ≡ or_else w other }
 {
     if is_absent(w) { other } else { w }
 }
 
 // A legal value of that sort.
 pub fn is_value(sort: Sort, w: u16) -> bool
-    ensures { result ≡ isValue sort w }
+    ensures { result ≡ is_value sort w }
 {
     match sort {
         Sort::Gains => legal_gain(gain_of(w)),
@@ -40,7 +40,7 @@ pub fn is_value(sort: Sort, w: u16) -> bool
 
 // A legal minimum of a range of that sort.
 pub fn is_minimum(sort: Sort, w: u16) -> bool
-    ensures { result ≡ isMinimum sort w }
+    ensures { result ≡ is_minimum sort w }
 {
     match sort {
         Sort::Gains => legal_gain_minimum(gain_of(w)),
@@ -50,7 +50,7 @@ pub fn is_minimum(sort: Sort, w: u16) -> bool
 
 // A legal maximum of a range of that sort.
 pub fn is_maximum(sort: Sort, w: u16) -> bool
-    ensures { result ≡ isMaximum sort w }
+    ensures { result ≡ is_maximum sort w }
 {
     match sort {
         Sort::Gains => legal_gain_maximum(gain_of(w)),
@@ -60,7 +60,7 @@ pub fn is_maximum(sort: Sort, w: u16) -> bool
 
 // The value `w` lies in the range from `lo` to `hi`, both included.
 pub fn in_range(sort: Sort, lo: u16, w: u16, hi: u16) -> bool
-    ensures { result ≡ inRange sort lo w hi }
+    ensures { result ≡ in_range sort lo w hi }
 {
     match sort {
         Sort::Gains => gain_in_range(gain_of(lo), gain_of(w), gain_of(hi)),

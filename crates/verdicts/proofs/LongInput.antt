@@ -11,89 +11,89 @@ use lib.Dec.{ltb}
 use lib.ListN.{length, get_or, get_or-eq_default, take}
 use lib.Seq.{length-take-le}
 use Rattle.std.proofs.lemmas.List.{get_or-take}
-use Rattle.sheet.specs.Words.{Sheet, words, sheetOf}
+use Rattle.sheet.specs.Words.{Sheet, words, sheet_of}
 use Rattle.profile.specs.declared.Verdict.TheVariants.{Accepted, Broken}
 use Rattle.profile.specs.declared.Place.TheVariants.{Header}
 use Rattle.profile.specs.Counting.{any}
-use Rattle.profile.specs.Languages.{isRising}
+use Rattle.profile.specs.Languages.{is_rising}
 use Rattle.profile.specs.Rules.{rule1, rule33}
-use Rattle.profile.specs.Verdict.{rules, ruleCount, ruleAt, numberAt, breaks, subjectKind, subjects, ruleBroken, brokenPosition, brokenAt, verdict}
-use Rattle.profile.proofs.BoolLaws.{or-true}
-use Rattle.profile.proofs.HeaderLaws.{found-verdict-at, lowest-second, not-rising, placed, rule-broken}
-use Rattle.profile.proofs.RisingLaws.{too-many}
-use Rattle.profile.proofs.VerdictLaws.{rule-kept}
+use Rattle.profile.specs.Verdict.{rules, rule_count, rule_at, number_at, breaks, subject_kind, subjects, rule_broken, broken_position, broken_at, verdict}
+use Rattle.profile.proofs.BoolLaws.{or_true}
+use Rattle.profile.proofs.HeaderLaws.{found_verdict_at, lowest_second, not_rising, placed, rule_broken_lem}
+use Rattle.profile.proofs.RisingLaws.{too_many}
+use Rattle.profile.proofs.VerdictLaws.{rule_kept}
 use Rattle.checker.specs.Checked.{checked}
-use Rattle.verdicts.specs.VerdictLine.{verdictLine}
+use Rattle.verdicts.specs.VerdictLine.{verdict_line}
 
 module _ (s : Sheet) (langs : List ℕ) where
   -- it rises, and the sheet is too long
-  module _ (rises : isRising langs ≡ true) (long : 65534 < s.bytes) where
-    no-list : any (λ section. any (breaks s langs 33 section) (subjects s 33 section)) 8 ≡ false
-    unfolding any breaks subjects subjectKind rule33
-    no-list = rw rises refl
+  module _ (rises : is_rising langs ≡ true) (long : 65534 < s.bytes) where
+    no_list : any (λ section. any (breaks s langs 33 section) (subjects s 33 section)) 8 ≡ false
+    unfolding any breaks subjects subject_kind rule33
+    no_list = rw rises refl
 
-    list-kept : ruleBroken s langs (numberAt 0) ≡ false
-    unfolding numberAt ruleAt rules
-    list-kept = rule-kept s langs 33 no-list
+    list_kept : rule_broken s langs (number_at 0) ≡ false
+    unfolding number_at rule_at rules
+    list_kept = rule_kept s langs 33 no_list
 
-    rule-1 : rule1 s 0 0 ≡ true
+    rule_1 : rule1 s 0 0 ≡ true
     unfolding rule1
-    rule-1 = rw (lt-ltb 65534 s.bytes long, or-true (ltb s.bytes 32)) refl
+    rule_1 = rw (lt-ltb 65534 s.bytes long, or_true (ltb s.bytes 32)) refl
 
-    long-subject : subjects s 1 0 ≡ 1
-    unfolding subjects subjectKind
-    long-subject = refl
+    long_subject : subjects s 1 0 ≡ 1
+    unfolding subjects subject_kind
+    long_subject = refl
 
-    long-broken : breaks s langs 1 0 0 ≡ true
+    long_broken : breaks s langs 1 0 0 ≡ true
     unfolding breaks
-    long-broken = rule-1
+    long_broken = rule_1
 
-    long-number : ruleBroken s langs (numberAt 1) ≡ true
-    unfolding numberAt ruleAt rules
-    long-number = rule-broken s langs 1 long-subject long-broken
+    long_number : rule_broken s langs (number_at 1) ≡ true
+    unfolding number_at rule_at rules
+    long_number = rule_broken_lem s langs 1 long_subject long_broken
 
-    long-position : brokenPosition s langs ≡ 1
-    unfolding brokenPosition ruleCount rules
-    long-position = lowest-second (λ i. ruleBroken s langs (numberAt i)) 23 list-kept long-number
+    long_position : broken_position s langs ≡ 1
+    unfolding broken_position rule_count rules
+    long_position = lowest_second (λ i. rule_broken s langs (number_at i)) 23 list_kept long_number
 
-    long-known : cond (ltb 1 ruleCount) (brokenAt s langs (numberAt 1)) Accepted ≡ brokenAt s langs 1
-    unfolding ruleCount numberAt ruleAt rules
-    long-known = refl
+    long_known : cond (ltb 1 rule_count) (broken_at s langs (number_at 1)) Accepted ≡ broken_at s langs 1
+    unfolding rule_count number_at rule_at rules
+    long_known = refl
 
-    pub too-long : verdict s langs ≡ Broken 1 Header
-    too-long = found-verdict-at s langs 1 long-position ∙ long-known ∙ placed s langs 1 long-subject long-broken
+    pub too_long : verdict s langs ≡ Broken 1 Header
+    too_long = found_verdict_at s langs 1 long_position ∙ long_known ∙ placed s langs 1 long_subject long_broken
 
 -- two sheets that are too long have one verdict under every list
-pub both-long : (s t : Sheet) (langs : List ℕ) → 65534 < s.bytes → 65534 < t.bytes → verdict s langs ≡ verdict t langs
-both-long s t langs h l =
-    (elim (isRising langs) as (λ b. isRising langs ≡ b → verdict s langs ≡ verdict t langs) [
-      | true ↦ λ e. too-long s langs e h ∙ sym (too-long t langs e l)
-      | false ↦ λ e. not-rising s langs e ∙ sym (not-rising t langs e)
+pub both_long : (s t : Sheet) (langs : List ℕ) → 65534 < s.bytes → 65534 < t.bytes → verdict s langs ≡ verdict t langs
+both_long s t langs h l =
+    (elim (is_rising langs) as (λ b. is_rising langs ≡ b → verdict s langs ≡ verdict t langs) [
+      | true ↦ λ e. too_long s langs e h ∙ sym (too_long t langs e l)
+      | false ↦ λ e. not_rising s langs e ∙ sym (not_rising t langs e)
     ]) refl
 
 -- the bytes of a part of a list are bytes too
-bytes-taken : (n : ℕ) (bytes : List ℕ) → n ≤ length bytes → ((i : ℕ) → get_or bytes i 0 < 256) → (i : ℕ) → get_or (take n bytes) i 0 < 256
-bytes-taken n bytes l h i =
+bytes_taken : (n : ℕ) (bytes : List ℕ) → n ≤ length bytes → ((i : ℕ) → get_or bytes i 0 < 256) → (i : ℕ) → get_or (take n bytes) i 0 < 256
+bytes_taken n bytes l h i =
     (elim (ltb i n) as (λ b. ltb i n ≡ b → get_or (take n bytes) i 0 < 256) [
       | true ↦ λ e. rw (get_or-take n bytes i 0 (ltb-true _ _ e)) (h i)
       | false ↦ λ e. rw (get_or-eq_default (take n bytes) 0 {n = i} (omega (arith, length-take-le n bytes l, ltb-false _ _ e))) (omega arith)
     ]) refl
 
 -- two lists of so many bytes: under both every sheet has the verdict of rule 33
-pub cut-list : (s : Sheet) (langs : List ℕ) → ((i : ℕ) → get_or langs i 0 < 256) → 131074 ≤ length langs → verdict s (words (take 131074 langs)) ≡ verdict s (words langs)
-cut-list s langs h l =
+pub cut_list : (s : Sheet) (langs : List ℕ) → ((i : ℕ) → get_or langs i 0 < 256) → 131074 ≤ length langs → verdict s (words (take 131074 langs)) ≡ verdict s (words langs)
+cut_list s langs h l =
     let cut = length-take-le 131074 langs l in
-    not-rising s (words (take 131074 langs)) (too-many (take 131074 langs) (bytes-taken 131074 langs l h) (omega (arith, cut)))
-    ∙ sym (not-rising s (words langs) (too-many langs h l))
+    not_rising s (words (take 131074 langs)) (too_many (take 131074 langs) (bytes_taken 131074 langs l h) (omega (arith, cut)))
+    ∙ sym (not_rising s (words langs) (too_many langs h l))
 
 -- the line of an input is that of as much of it as the buffer holds, whatever the list
-pub cut-input : (sheet langs : List ℕ) → 65536 ≤ length sheet → verdictLine (checked (take 65536 sheet) langs) ≡ verdictLine (checked sheet langs)
-unfolding checked sheetOf
-cut-input sheet langs h =
+pub cut_input : (sheet langs : List ℕ) → 65536 ≤ length sheet → verdict_line (checked (take 65536 sheet) langs) ≡ verdict_line (checked sheet langs)
+unfolding checked sheet_of
+cut_input sheet langs h =
     let cut = length-take-le 65536 sheet h in
-    ap verdictLine (both-long (sheetOf (take 65536 sheet)) (sheetOf sheet) (words langs) (omega (arith, cut)) (omega arith))
+    ap verdict_line (both_long (sheet_of (take 65536 sheet)) (sheet_of sheet) (words langs) (omega (arith, cut)) (omega arith))
 
 -- and the line under a list is that under as much of it as the buffer holds, whatever the sheet
-pub cut-langs : (sheet langs : List ℕ) → ((i : ℕ) → get_or langs i 0 < 256) → 131074 ≤ length langs → verdictLine (checked sheet (take 131074 langs)) ≡ verdictLine (checked sheet langs)
+pub cut_langs : (sheet langs : List ℕ) → ((i : ℕ) → get_or langs i 0 < 256) → 131074 ≤ length langs → verdict_line (checked sheet (take 131074 langs)) ≡ verdict_line (checked sheet langs)
 unfolding checked
-cut-langs sheet langs h l = ap verdictLine (cut-list (sheetOf sheet) langs h l)
+cut_langs sheet langs h l = ap verdict_line (cut_list (sheet_of sheet) langs h l)

@@ -4,19 +4,19 @@ use Rattle.std.specs.Prelude.{ℕ, ◌≡◌, refl, List, [], ◌∷◌, map}
 use Rattle.profile.specs.declared.Verdict.{Verdict}
 use Rattle.profile.specs.declared.Verdict.TheVariants.{Accepted, Broken}
 use Rattle.profile.specs.declared.Place.TheVariants as place
-use Rattle.profile.specs.Verdict.{sectionOf, recordOf}
+use Rattle.profile.specs.Verdict.{section_of, record_of}
 use Rattle.text.specs.Bytes.{ascii, join}
 use Rattle.text.specs.Decimal.{spelled, decimal}
 
 -- `accepted`, or as in `rule 14 section 3 record 0`
-unfoldable pub verdictLine : Verdict → List ℕ
-verdictLine Accepted = ascii "accepted\n"
-verdictLine (Broken rule place) =
-    join (ascii "rule " ∷ decimal rule ∷ ascii " section " ∷ decimal (sectionOf place) ∷ ascii " record " ∷ decimal (recordOf place) ∷ ascii "\n" ∷ [])
+unfoldable pub verdict_line : Verdict → List ℕ
+verdict_line Accepted = ascii "accepted\n"
+verdict_line (Broken rule place) =
+    join (ascii "rule " ∷ decimal rule ∷ ascii " section " ∷ decimal (section_of place) ∷ ascii " record " ∷ decimal (record_of place) ∷ ascii "\n" ∷ [])
 
 -- some of them, computed
-pub verdict-lines :
-    map verdictLine (Accepted ∷ Broken 14 (place.Object 0) ∷ Broken 1 place.Header ∷ Broken 6 (place.ValueSet 4677) ∷ Broken 4 (place.Reference 10) ∷ Broken 33 place.Header ∷ [])
+pub verdict_lines :
+    map verdict_line (Accepted ∷ Broken 14 (place.Object 0) ∷ Broken 1 place.Header ∷ Broken 6 (place.ValueSet 4677) ∷ Broken 4 (place.Reference 10) ∷ Broken 33 place.Header ∷ [])
     ≡ ascii "accepted\n"
     ∷ ascii "rule 14 section 3 record 0\n"
     ∷ ascii "rule 1 section 0 record 0\n"
@@ -24,5 +24,5 @@ pub verdict-lines :
     ∷ ascii "rule 4 section 6 record 10\n"
     ∷ ascii "rule 33 section 0 record 0\n"
     ∷ []
-unfolding verdictLine join decimal spelled
-verdict-lines = refl
+unfolding verdict_line join decimal spelled
+verdict_lines = refl

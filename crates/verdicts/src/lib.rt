@@ -4,8 +4,8 @@
 
 ghost use Rattle.std.specs.Prelude.{◌≡◌};
 ghost use Rattle.checker.specs.Checked.{checked};
-ghost use Rattle.verdicts.specs.VerdictLine.{verdictLine};
-ghost use Rattle.text.specs.Buffer.{TextFilled, buffer as written, putText};
+ghost use Rattle.verdicts.specs.VerdictLine.{verdict_line};
+ghost use Rattle.text.specs.Buffer.{TextFilled, buffer as written, put_text};
 
 use checker::search::check;
 use profile::Verdict;
@@ -17,7 +17,7 @@ pub const VERDICT_ROOM: usize = 128;
 
 // `accepted`, or the rule with its place as in `rule 14 section 3 record 0`, and the line's end.
 pub fn put_verdict(line: &mut [u8], verdict: Verdict) -> usize
-    ensures { written line.new result ≡ putText (written line.old 0) (verdictLine verdict) }
+    ensures { written line.new result ≡ put_text (written line.old 0) (verdict_line verdict) }
 {
     match verdict {
         Verdict::Accepted => put_text(line, 0, b"accepted\n"),
@@ -35,7 +35,7 @@ pub fn put_verdict(line: &mut [u8], verdict: Verdict) -> usize
 
 // Writes the line of a sheet's verdict under a list of languages into a lent buffer, and gives its length.
 pub fn verdict_line(sheet: &[u8], langs: &[u8], line: &mut [u8; VERDICT_ROOM]) -> usize
-    ensures { TextFilled line.old (verdictLine (checked sheet.now langs.now)) result line.new }
+    ensures { TextFilled line.old (verdict_line (checked sheet.now langs.now)) result line.new }
 {
     put_verdict(line, check(sheet, langs))
 }

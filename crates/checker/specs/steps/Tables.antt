@@ -4,7 +4,7 @@ use Rattle.sheet.specs.Words.{Sheet}
 use Rattle.sheet.specs.Fields.{programmes, objects}
 use Rattle.tables.specs.steps.Right as tables
 use Rattle.runs.specs.steps.Runs.{LacksRight, LanguagesRight, OrdinalRight, RepeatRight, StrayRight}
-use Rattle.rules.specs.steps.Loops.{firstTarget, secondTarget}
+use Rattle.rules.specs.steps.Loops.{first_target, second_target}
 use Rattle.checker.specs.declared.Table.{Table}
 use Rattle.checker.specs.declared.Table.TheVariants.{Nothing, Named, Spanned, Listed, Tops, Complements, Owners, Leaders, Lacking, Languages, Repeats, Strays, Ordinals}
 
@@ -25,9 +25,9 @@ Right s langs Strays t = StrayRight s t
 Right s langs Ordinals t = OrdinalRight s t
 
 -- the first table that a rule is lent for the records of a section
-unfoldable pub firstTable : ℕ → ℕ → Table
-firstTable rule section =
-    cond (eqb rule 5) (Lacking (firstTarget section))
+unfoldable pub first_table : ℕ → ℕ → Table
+first_table rule section =
+    cond (eqb rule 5) (Lacking (first_target section))
     (cond (eqb rule 6) Languages
     (cond (eqb rule 9) Repeats
     (cond (eqb rule 11) (cond (eqb section objects) Named Spanned)
@@ -42,9 +42,9 @@ firstTable rule section =
     (cond (eqb rule 24) Tops Nothing))))))))))))
 
 -- the second one
-unfoldable pub secondTable : ℕ → ℕ → Table
-secondTable rule section =
-    cond (eqb rule 5) (Lacking (secondTarget section))
+unfoldable pub second_table : ℕ → ℕ → Table
+second_table rule section =
+    cond (eqb rule 5) (Lacking (second_target section))
     (cond (eqb rule 14) Ordinals
     (cond (eqb rule 19) Complements
     (cond (eqb rule 22) Leaders

@@ -2,55 +2,55 @@
 use Rattle.std.specs.Prelude.{ℕ, Bool, cond, not, ◌&&◌, ◌||◌, ℤ}
 use Rattle.sheet.specs.Words.{Sheet}
 use Rattle.sheet.specs.Layout.{field, number}
-use Rattle.sheet.specs.Fields.{programmes, objects, setList}
+use Rattle.sheet.specs.Fields.{programmes, objects, set_list}
 use Rattle.values.specs.declared.Gain.{Gain}
 use Rattle.values.specs.declared.Sort.{Sort}
 use Rattle.values.specs.declared.Sort.TheVariants.{Gains, Offsets}
-use Rattle.values.specs.Signed.{signedOf}
-use Rattle.values.specs.Gain.{gainOf, gainInRange, legalGain}
-use Rattle.values.specs.Offset.{offsetInRange, legalOffset}
-use Rattle.values.specs.Values.{isAbsent}
+use Rattle.values.specs.Signed.{signed_of}
+use Rattle.values.specs.Gain.{gain_of, gain_in_range, legal_gain}
+use Rattle.values.specs.Offset.{offset_in_range, legal_offset}
+use Rattle.values.specs.Values.{is_absent}
 use Rattle.profile.specs.Counting.{lowest}
-use Rattle.profile.specs.Relations.{hasSet, namedSet, namesSet, setFor, objectMinimum, objectMaximum, ownValue, effectiveValue, effectiveMinimum, effectiveMaximum}
+use Rattle.profile.specs.Relations.{has_set, named_set, names_set, set_for, object_minimum, object_maximum, own_value, effective_value, effective_minimum, effective_maximum}
 use Rattle.granted.specs.declared.Named.{Named}
 use Rattle.granted.specs.declared.Range.{Range}
-use Rattle.granted.specs.Granted.{grantedMinimum, grantedMaximum}
-use Rattle.granted.specs.Fitting.{sameGain, sameOffset}
+use Rattle.granted.specs.Granted.{granted_minimum, granted_maximum}
+use Rattle.granted.specs.Fitting.{same_gain, same_offset}
 
 -- where the programme's set list has the first set of the object, the list's length where it has none
-unfoldable pub setPlace : Sheet → ℕ → ℕ → ℕ
-setPlace s p o = lowest (λ i. hasSet s o (namedSet s p i)) (number s programmes p setList)
+unfoldable pub set_place : Sheet → ℕ → ℕ → ℕ
+set_place s p o = lowest (λ i. has_set s o (named_set s p i)) (number s programmes p set_list)
 
 -- the set that the programme names for the object
-unfoldable pub namedFor : Sheet → ℕ → ℕ → Named
-namedFor s p o = record { any = namesSet s p o; set = cond (namesSet s p o) (setFor s p o) 0 }
+unfoldable pub named_for : Sheet → ℕ → ℕ → Named
+named_for s p o = record { any = names_set s p o; set = cond (names_set s p o) (set_for s p o) 0 }
 
 -- the start value and the range of an object by its named set
-unfoldable pub startBy : Sheet → ℕ → Named → Sort → ℕ
-startBy s o m t = cond m.any (effectiveValue s o m.set t) (ownValue s o t)
+unfoldable pub start_by : Sheet → ℕ → Named → Sort → ℕ
+start_by s o m t = cond m.any (effective_value s o m.set t) (own_value s o t)
 
-unfoldable pub rangeBy : Sheet → ℕ → Named → Sort → Range
-rangeBy s o m t =
+unfoldable pub range_by : Sheet → ℕ → Named → Sort → Range
+range_by s o m t =
     cond m.any
-    (record { minimum = effectiveMinimum s o m.set t; maximum = effectiveMaximum s o m.set t })
-    (record { minimum = field s objects o (objectMinimum t); maximum = field s objects o (objectMaximum t) })
+    (record { minimum = effective_minimum s o m.set t; maximum = effective_maximum s o m.set t })
+    (record { minimum = field s objects o (object_minimum t); maximum = field s objects o (object_maximum t) })
 
-unfoldable pub grantedRange : Sheet → ℕ → ℕ → Sort → Range
-grantedRange s p o t = record { minimum = grantedMinimum s p o t; maximum = grantedMaximum s p o t }
+unfoldable pub granted_range : Sheet → ℕ → ℕ → Sort → Range
+granted_range s p o t = record { minimum = granted_minimum s p o t; maximum = granted_maximum s p o t }
 
 -- there is a range, and a value is legal and in it
-unfoldable pub isRange : Range → Bool
-isRange r = not (isAbsent r.minimum)
+unfoldable pub is_range : Range → Bool
+is_range r = not (is_absent r.minimum)
 
-unfoldable pub gainWithin : Range → Gain → Bool
-gainWithin r g = legalGain g && gainInRange (gainOf r.minimum) g (gainOf r.maximum)
+unfoldable pub gain_within : Range → Gain → Bool
+gain_within r g = legal_gain g && gain_in_range (gain_of r.minimum) g (gain_of r.maximum)
 
-unfoldable pub offsetWithin : Range → ℤ → Bool
-offsetWithin r z = legalOffset z && offsetInRange (signedOf r.minimum) z (signedOf r.maximum)
+unfoldable pub offset_within : Range → ℤ → Bool
+offset_within r z = legal_offset z && offset_in_range (signed_of r.minimum) z (signed_of r.maximum)
 
 -- "its start value or legal in its range"
-unfoldable pub soundGainBy : Sheet → ℕ → Named → Gain → Bool
-soundGainBy s o m g = sameGain g (gainOf (startBy s o m Gains)) || isRange (rangeBy s o m Gains) && gainWithin (rangeBy s o m Gains) g
+unfoldable pub sound_gain_by : Sheet → ℕ → Named → Gain → Bool
+sound_gain_by s o m g = same_gain g (gain_of (start_by s o m Gains)) || is_range (range_by s o m Gains) && gain_within (range_by s o m Gains) g
 
-unfoldable pub soundOffsetBy : Sheet → ℕ → Named → ℤ → Bool
-soundOffsetBy s o m z = sameOffset z (signedOf (startBy s o m Offsets)) || isRange (rangeBy s o m Offsets) && offsetWithin (rangeBy s o m Offsets) z
+unfoldable pub sound_offset_by : Sheet → ℕ → Named → ℤ → Bool
+sound_offset_by s o m z = same_offset z (signed_of (start_by s o m Offsets)) || is_range (range_by s o m Offsets) && offset_within (range_by s o m Offsets) z

@@ -2,13 +2,13 @@
 use Rattle.std.specs.Prelude.{ℕ, ◌<◌, ◌≡◌, Bool, true, false}
 use Rattle.sheet.specs.Words.{Sheet}
 use Rattle.sheet.specs.Layout.{count}
-use Rattle.sheet.specs.Fields.{programmes, objects, valueSets, contentList}
+use Rattle.sheet.specs.Fields.{programmes, objects, value_sets, content_list}
 use Rattle.profile.specs.Counting.{any}
 use Rattle.profile.specs.Rules.{repeats, rule11, rule19, rule21, rule22}
 
 -- a programme names no content twice and keeps rule 21 and, with both, rule 22
 abbrev pub ProgrammeKept : Sheet → Bool → ℕ → Type 0
-ProgrammeKept s both p = (repeats s programmes p contentList ≡ false) × (rule21 s programmes p ≡ false) × (both ≡ true → rule22 s programmes p ≡ false)
+ProgrammeKept s both p = (repeats s programmes p content_list ≡ false) × (rule21 s programmes p ≡ false) × (both ≡ true → rule22 s programmes p ≡ false)
 
 -- the programmes before k do
 abbrev pub KeptTo : Sheet → Bool → ℕ → Type 0
@@ -20,7 +20,7 @@ ProgrammesKept s = KeptTo s true (count s programmes)
 
 -- rule 11 is kept by the value sets: each is in one span
 abbrev pub OneSpan : Sheet → Type 0
-OneSpan s = any (rule11 s valueSets) (count s valueSets) ≡ false
+OneSpan s = any (rule11 s value_sets) (count s value_sets) ≡ false
 
 -- rule 19 is kept: so no two groups have a member in common, and none has one twice
 abbrev pub GroupsApart : Sheet → Type 0

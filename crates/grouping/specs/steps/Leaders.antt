@@ -2,16 +2,16 @@
 use Rattle.std.specs.Prelude.{ℕ, ◌+◌, ◌-◌, ◌*◌, ◌<◌, ◌≤◌, ◌≡◌, List, ◌⊎◌, eqb, length, get_or}
 use Rattle.sheet.specs.Words.{Sheet}
 use Rattle.sheet.specs.Layout.{count, number}
-use Rattle.sheet.specs.Fields.{programmes, objects, contentList}
-use Rattle.profile.specs.Counting.{howMany}
-use Rattle.profile.specs.Relations.{leaderOf}
+use Rattle.sheet.specs.Fields.{programmes, objects, content_list}
+use Rattle.profile.specs.Counting.{how_many}
+use Rattle.profile.specs.Relations.{leader_of}
 use Rattle.tables.specs.steps.Marks.{Standing}
 use Rattle.inclusion.specs.steps.Groups.{GroupKept}
-use Rattle.inclusion.specs.steps.Entering.{objectAt}
+use Rattle.inclusion.specs.steps.Entering.{object_at}
 
 -- the leader of the object of a content that the programme names
-unfoldable pub groupAt : Sheet → ℕ → ℕ → ℕ
-groupAt s p i = leaderOf s (objectAt s p i)
+unfoldable pub group_at : Sheet → ℕ → ℕ → ℕ
+group_at s p i = leader_of s (object_at s p i)
 
 -- no place of a table has more than k
 abbrev pub UpTo : ℕ → List ℕ → Type 0
@@ -31,11 +31,11 @@ abbrev pub Asked : Sheet → ℕ → List ℕ → ℕ → ℕ → List ℕ → L
 Asked s p t seen i h h' =
     UpTo seen h
     → UpTo (seen + 2) h'
-    × ((l : ℕ) → l < length h' → (get_or h' l 0 ≤ seen + 1 → howMany (λ k. eqb (groupAt s p k) l) i ≤ get_or h' l 0 - seen) × (seen + 1 < get_or h' l 0 → GroupKept s t l))
+    × ((l : ℕ) → l < length h' → (get_or h' l 0 ≤ seen + 1 → how_many (λ k. eqb (group_at s p k) l) i ≤ get_or h' l 0 - seen) × (seen + 1 < get_or h' l 0 → GroupKept s t l))
 
 -- all contents of programme p, with 2 p as what was seen before
 abbrev pub AllAsked : Sheet → ℕ → List ℕ → List ℕ → List ℕ → Type 0
-AllAsked s p t h h' = Asked s p t (2 * p) (number s programmes p contentList) h h'
+AllAsked s p t h h' = Asked s p t (2 * p) (number s programmes p content_list) h h'
 
 -- the tables before programme p: nothing is included, and no group was seen
 abbrev pub Ready : Sheet → ℕ → List ℕ → List ℕ → Type 0

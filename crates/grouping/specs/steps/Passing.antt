@@ -2,7 +2,7 @@
 use Rattle.std.specs.Prelude.{ℕ, ◌≡◌, Bool, true, not, ◌&&◌, ◌||◌, List, eqb, length}
 use Rattle.sheet.specs.Words.{Sheet}
 use Rattle.sheet.specs.Layout.{count, field, number}
-use Rattle.sheet.specs.Fields.{programmes, objects, contentList, setList}
+use Rattle.sheet.specs.Fields.{programmes, objects, content_list, set_list}
 use Rattle.tables.specs.steps.Right.{Owners}
 use Rattle.inclusion.specs.steps.Alike.{Alike}
 use Rattle.grouping.specs.declared.Wanted.{Wanted}
@@ -17,12 +17,12 @@ abbrev pub Full : Sheet → List ℕ → List ℕ → List ℕ → Type 0
 Full s t u v = (length t ≡ count s objects) × (length u ≡ count s objects) × (length v ≡ count s objects)
 
 -- two programmes have the same list at a position
-unfoldable pub sameList : Sheet → ℕ → ℕ → ℕ → Bool
-sameList s p q at = eqb (field s programmes p at) (field s programmes q at) && eqb (number s programmes p at) (number s programmes q at)
+unfoldable pub same_list : Sheet → ℕ → ℕ → ℕ → Bool
+same_list s p q at = eqb (field s programmes p at) (field s programmes q at) && eqb (number s programmes p at) (number s programmes q at)
 
 -- the same contents and, with both, the same sets
-unfoldable pub sameLists : Sheet → Bool → ℕ → ℕ → Bool
-sameLists s both p q = sameList s p q contentList && (not both || sameList s p q setList)
+unfoldable pub same_lists : Sheet → Bool → ℕ → ℕ → Bool
+same_lists s both p q = same_list s p q content_list && (not both || same_list s p q set_list)
 
 -- With three tables that keep their lengths: where they have a place for each object, and the programmes before the first that is tested
 -- are kept, those before r are.

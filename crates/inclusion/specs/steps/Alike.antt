@@ -1,7 +1,7 @@
 -- Value sets that stand for others with the same words. Assumes nothing.
 use Rattle.std.specs.Prelude.{ℕ, ◌≡◌, false, List, get_or}
 use Rattle.sheet.specs.Words.{Sheet}
-use Rattle.profile.specs.Rules.{setsDiffer}
+use Rattle.profile.specs.Rules.{sets_differ}
 use Rattle.tables.specs.steps.Right.{told}
 
 -- the set that stands for a set by a table: one less than the number at its place, or itself where that is 0 or the table ends before it
@@ -10,4 +10,4 @@ representative t v = told v (get_or t v 0)
 
 -- each has the words of the set that it stands for
 abbrev pub Alike : Sheet → List ℕ → Type 0
-Alike s t = (v : ℕ) → setsDiffer s (representative t v) v ≡ false
+Alike s t = (v : ℕ) → sets_differ s (representative t v) v ≡ false

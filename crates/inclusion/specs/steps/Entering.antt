@@ -2,25 +2,25 @@
 use Rattle.std.specs.Prelude.{ℕ, ◌+◌, ◌*◌, ◌<◌, ◌≡◌, Bool, true, false, cond, List, eqb, length, get_or}
 use Rattle.sheet.specs.Words.{Sheet, word}
 use Rattle.sheet.specs.Layout.{count, offset, field, number, entry}
-use Rattle.sheet.specs.Fields.{programmes, contents, references, valueSets, contentList, setList, contentObject}
+use Rattle.sheet.specs.Fields.{programmes, contents, references, value_sets, content_list, set_list, content_object}
 use Rattle.profile.specs.Counting.{any}
-use Rattle.profile.specs.Relations.{namedSet}
-use Rattle.profile.specs.Rules.{ownerAt}
+use Rattle.profile.specs.Relations.{named_set}
+use Rattle.profile.specs.Rules.{owner_at}
 use Rattle.tables.specs.steps.Marks.{Standing}
 use Rattle.inclusion.specs.declared.SectionOffsets.{SectionOffsets}
 use Rattle.inclusion.specs.steps.Alike.{representative}
 
 -- where sections 6, 2 and 7 begin
 abbrev pub Begins : Sheet → SectionOffsets → Type 0
-Begins s sections = (sections.references ≡ offset s references) × (sections.contents ≡ offset s contents) × (sections.sets ≡ offset s valueSets)
+Begins s sections = (sections.references ≡ offset s references) × (sections.contents ≡ offset s contents) × (sections.sets ≡ offset s value_sets)
 
 -- the object of the content that entry i of the list from an index of section 6 on names
-unfoldable pub objectFrom : Sheet → SectionOffsets → ℕ → ℕ → ℕ
-objectFrom s sections from i = word s (sections.contents + word s (sections.references + (from + i)) * 5 + 1)
+unfoldable pub object_from : Sheet → SectionOffsets → ℕ → ℕ → ℕ
+object_from s sections from i = word s (sections.contents + word s (sections.references + (from + i)) * 5 + 1)
 
 -- the object of a content that the programme names
-unfoldable pub objectAt : Sheet → ℕ → ℕ → ℕ
-objectAt s p i = field s contents (entry s programmes p contentList i) contentObject
+unfoldable pub object_at : Sheet → ℕ → ℕ → ℕ
+object_at s p i = field s contents (entry s programmes p content_list i) content_object
 
 -- the places f 0 to f (n - 1), no two the same, had one number and have another; the other places have what they had
 abbrev pub Changed : (ℕ → ℕ) → ℕ → ℕ → ℕ → List ℕ → List ℕ → Type 0
@@ -41,16 +41,16 @@ Noted f e n t t' =
 
 -- the objects that a programme includes had 0 and have 1
 abbrev pub ObjectsEntered : Sheet → ℕ → List ℕ → List ℕ → Type 0
-ObjectsEntered s p t t' = Changed (objectAt s p) (number s programmes p contentList) 0 1 t t'
+ObjectsEntered s p t t' = Changed (object_at s p) (number s programmes p content_list) 0 1 t t'
 
 -- the first n sets that a programme names are noted, each by the set that stands for it, and are sets of the sheet
 pub record SetsNotedTo (s : Sheet) (alike : List ℕ) (p n : ℕ) (t t' : List ℕ) : Type 0 where
-  pub noted : Noted (ownerAt s p) (λ j. representative alike (namedSet s p j)) n t t'
-  pub inside : (j : ℕ) → j < n → namedSet s p j < count s valueSets
+  pub noted : Noted (owner_at s p) (λ j. representative alike (named_set s p j)) n t t'
+  pub inside : (j : ℕ) → j < n → named_set s p j < count s value_sets
 
 -- all are
 abbrev pub SetsNoted : Sheet → List ℕ → ℕ → List ℕ → List ℕ → Type 0
-SetsNoted s alike p t t' = SetsNotedTo s alike p (number s programmes p setList) t t'
+SetsNoted s alike p t t' = SetsNotedTo s alike p (number s programmes p set_list) t t'
 
 -- what the programme includes is entered and, with both, the sets that it names are noted
 pub record Entered (s : Sheet) (both : Bool) (alike : List ℕ) (p : ℕ) (t t' : List ℕ) : Type 0 where

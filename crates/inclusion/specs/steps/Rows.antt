@@ -2,12 +2,12 @@
 use Rattle.std.specs.Prelude.{ℕ, ◌+◌, ◌<◌, ◌≡◌, List, ◌⊎◌, get_or}
 use Rattle.sheet.specs.Words.{Sheet}
 use Rattle.sheet.specs.Layout.{count, number, entry}
-use Rattle.sheet.specs.Fields.{objects, complementList}
+use Rattle.sheet.specs.Fields.{objects, complement_list}
 use Rattle.inclusion.specs.steps.Groups.{GroupKept}
 
 -- a leader has m as its complement where it has one
 abbrev pub OnlyComplement : Sheet → ℕ → ℕ → Type 0
-OnlyComplement s l m = number s objects l complementList ≡ 1 → m ≡ entry s objects l complementList 0
+OnlyComplement s l m = number s objects l complement_list ≡ 1 → m ≡ entry s objects l complement_list 0
 
 -- the table has one number for both, or the leader's group is kept
 abbrev pub RowKept : Sheet → List ℕ → ℕ → ℕ → Type 0
@@ -24,8 +24,8 @@ HasRow t u g l m = (i : ℕ) × (i < g) × (get_or t i 0 ≡ l) × (get_or u i 0
 -- the g rows have the objects below l with each of their complements, and l with the first j of its own
 abbrev pub RowsListed : Sheet → List ℕ → List ℕ → ℕ → ℕ → ℕ → Type 0
 RowsListed s t u g l j =
-    ((k : ℕ) → k < l → (i : ℕ) → i < number s objects k complementList → HasRow t u g k (entry s objects k complementList i))
-    × ((i : ℕ) → i < j → HasRow t u g l (entry s objects l complementList i))
+    ((k : ℕ) → k < l → (i : ℕ) → i < number s objects k complement_list → HasRow t u g k (entry s objects k complement_list i))
+    × ((i : ℕ) → i < j → HasRow t u g l (entry s objects l complement_list i))
     × ((i : ℕ) → i < g → OnlyComplement s (get_or t i 0) (get_or u i 0))
 
 -- fewer than 65535 rows have all

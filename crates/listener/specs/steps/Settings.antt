@@ -2,22 +2,22 @@
 use Rattle.std.specs.Prelude.{ℕ, Bool, cond, ◌&&◌, ◌||◌, List, eqb, ltb}
 use Rattle.sheet.specs.Words.{Sheet}
 use Rattle.profile.specs.Counting.{every}
-use Rattle.profile.specs.Relations.{leaderOf, includes}
-use Rattle.granted.specs.Fitting.{soundGain, soundOffset}
-use Rattle.granted.specs.steps.Flags.{flaggedActivity}
+use Rattle.profile.specs.Relations.{leader_of, includes}
+use Rattle.granted.specs.Fitting.{sound_gain, sound_offset}
+use Rattle.granted.specs.steps.Flags.{flagged_activity}
 use Rattle.listener.specs.declared.Setting.{Setting}
 use Rattle.listener.specs.declared.State.{State}
-use Rattle.listener.specs.State.{stateObjects, setting, isResting}
+use Rattle.listener.specs.State.{state_objects, setting, is_resting}
 
 -- an object with that setting is one of a sound state
-unfoldable pub flaggedSound : Sheet → ℕ → List ℕ → ℕ → Setting → Bool
-flaggedSound s p t o x =
-    cond (includes s p o) (flaggedActivity s p t o && soundGain s p o x.gain && soundOffset s p o x.offset) (isResting x)
+unfoldable pub flagged_sound : Sheet → ℕ → List ℕ → ℕ → Setting → Bool
+flagged_sound s p t o x =
+    cond (includes s p o) (flagged_activity s p t o && sound_gain s p o x.gain && sound_offset s p o x.offset) (is_resting x)
 
 -- what choosing object o makes of the setting of object q
-unfoldable pub movedFrom : Sheet → ℕ → ℕ → Setting → Setting
-movedFrom s o q x = cond (eqb (leaderOf s q) (leaderOf s o)) (record { active = eqb q o; gain = x.gain; offset = x.offset }) x
+unfoldable pub moved_from : Sheet → ℕ → ℕ → Setting → Setting
+moved_from s o q x = cond (eqb (leader_of s q) (leader_of s o)) (record { active = eqb q o; gain = x.gain; offset = x.offset }) x
 
 -- the settings from a number on are "inactive, 0, 0"
-unfoldable pub restingFrom : State → ℕ → Bool
-restingFrom st n = every (λ o. ltb o n || isResting (setting st o)) stateObjects
+unfoldable pub resting_from : State → ℕ → Bool
+resting_from st n = every (λ o. ltb o n || is_resting (setting st o)) state_objects

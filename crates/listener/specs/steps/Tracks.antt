@@ -2,40 +2,40 @@
 use Rattle.std.specs.Prelude.{ℕ, ◌+◌, cond, List, [], ◌++◌}
 use Rattle.sheet.specs.Words.{Sheet}
 use Rattle.sheet.specs.Layout.{number, entry}
-use Rattle.sheet.specs.Fields.{objects, trackList, childList}
-use Rattle.profile.specs.Counting.{sum, concatBelow, tabulate}
-use Rattle.relations.specs.steps.Sizes.{childrenTracks}
-use Rattle.profile.specs.Relations.{trackAt}
+use Rattle.sheet.specs.Fields.{objects, track_list, child_list}
+use Rattle.profile.specs.Counting.{sum, concat_below, tabulate}
+use Rattle.relations.specs.steps.Sizes.{children_tracks}
+use Rattle.profile.specs.Relations.{track_at}
 use Rattle.listener.specs.declared.State.{State}
-use Rattle.listener.specs.State.{stateObjects, active}
+use Rattle.listener.specs.State.{state_objects, active}
 
 -- an object's own tracks
-unfoldable pub ownTracks : Sheet → ℕ → List ℕ
-ownTracks s o = tabulate (trackAt s o) (number s objects o trackList)
+unfoldable pub own_tracks : Sheet → ℕ → List ℕ
+own_tracks s o = tabulate (track_at s o) (number s objects o track_list)
 
 -- its children's
-unfoldable pub childTracks : Sheet → ℕ → List ℕ
-childTracks s o = concatBelow (λ i. ownTracks s (entry s objects o childList i)) (number s objects o childList)
+unfoldable pub child_tracks : Sheet → ℕ → List ℕ
+child_tracks s o = concat_below (λ i. own_tracks s (entry s objects o child_list i)) (number s objects o child_list)
 
 -- both
-unfoldable pub objectTracks : Sheet → ℕ → List ℕ
-objectTracks s o = ownTracks s o ++ childTracks s o
+unfoldable pub object_tracks : Sheet → ℕ → List ℕ
+object_tracks s o = own_tracks s o ++ child_tracks s o
 
 -- those of an object that is active
-unfoldable pub tracksWhen : Sheet → State → ℕ → List ℕ
-tracksWhen s st o = cond (active st o) (objectTracks s o) []
+unfoldable pub tracks_when : Sheet → State → ℕ → List ℕ
+tracks_when s st o = cond (active st o) (object_tracks s o) []
 
 -- all of them
-unfoldable pub stateTracks : Sheet → State → List ℕ
-stateTracks s st = concatBelow (tracksWhen s st) stateObjects
+unfoldable pub state_tracks : Sheet → State → List ℕ
+state_tracks s st = concat_below (tracks_when s st) state_objects
 
 -- how many an object gives, and an active one
-unfoldable pub objectNumber : Sheet → ℕ → ℕ
-objectNumber s o = number s objects o trackList + childrenTracks s o
+unfoldable pub object_number : Sheet → ℕ → ℕ
+object_number s o = number s objects o track_list + children_tracks s o
 
-unfoldable pub numberWhen : Sheet → State → ℕ → ℕ
-numberWhen s st o = cond (active st o) (objectNumber s o) 0
+unfoldable pub number_when : Sheet → State → ℕ → ℕ
+number_when s st o = cond (active st o) (object_number s o) 0
 
 -- how many there are
-unfoldable pub stateNumber : Sheet → State → ℕ
-stateNumber s st = sum (numberWhen s st) stateObjects
+unfoldable pub state_number : Sheet → State → ℕ
+state_number s st = sum (number_when s st) state_objects

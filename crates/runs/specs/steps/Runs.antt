@@ -2,9 +2,9 @@
 use Rattle.std.specs.Prelude.{ℕ, ◌+◌, ◌<◌, ◌≤◌, ◌≡◌, Bool, true, not, ◌||◌, List, [], eqb, leb, ltb, length, get_or}
 use Rattle.sheet.specs.Words.{Sheet}
 use Rattle.sheet.specs.Layout.{count, field, first, number, reference}
-use Rattle.sheet.specs.Fields.{packs, tracks, references, packChannels, trackPack, trackOrdinal}
-use Rattle.profile.specs.Counting.{any, howMany, twoOf}
-use Rattle.profile.specs.Languages.{goodLanguage}
+use Rattle.sheet.specs.Fields.{packs, tracks, references, pack_channels, track_pack, track_ordinal}
+use Rattle.profile.specs.Counting.{any, how_many, two_of}
+use Rattle.profile.specs.Languages.{good_language}
 use Rattle.profile.specs.Rules.{lacks}
 use Rattle.runs.specs.declared.ReferenceTest.{ReferenceTest}
 use Rattle.runs.specs.declared.ReferenceTest.TheVariants.{Lacks, NoLanguage, Stray}
@@ -19,31 +19,31 @@ Next p m x v = (n : ℕ) → x + n ≤ m → ltb v (x + n) ≡ any (λ i. p (x +
 -- v is the least from x on at which f is what it is at one from x on before: two of the n from x on are alike exactly when v is
 -- below their end
 abbrev pub Repeat : (ℕ → ℕ) → ℕ → ℕ → ℕ → Type 0
-Repeat f m x v = (n : ℕ) → x + n ≤ m → ltb v (x + n) ≡ twoOf (λ i j. eqb (f (x + i)) (f (x + j))) n
+Repeat f m x v = (n : ℕ) → x + n ≤ m → ltb v (x + n) ≡ two_of (λ i j. eqb (f (x + i)) (f (x + j))) n
 
 -- pack and ordinal of the track that a reference names
-abbrev pub packAt : Sheet → ℕ → ℕ
-packAt s y = field s tracks (reference s y) trackPack
+abbrev pub pack_at : Sheet → ℕ → ℕ
+pack_at s y = field s tracks (reference s y) track_pack
 
-abbrev pub ordinalAt : Sheet → ℕ → ℕ
-ordinalAt s y = field s tracks (reference s y) trackOrdinal
+abbrev pub ordinal_at : Sheet → ℕ → ℕ
+ordinal_at s y = field s tracks (reference s y) track_ordinal
 
 -- the second of two tracks is of another pack, or has an ordinal past its pack's channels
 abbrev pub stray : Sheet → ℕ → ℕ → Bool
 stray s e f =
-    not (eqb (field s tracks e trackPack) (field s tracks f trackPack))
-    || leb (field s packs (field s tracks f trackPack) packChannels) (field s tracks f trackOrdinal)
+    not (eqb (field s tracks e track_pack) (field s tracks f track_pack))
+    || leb (field s packs (field s tracks f track_pack) pack_channels) (field s tracks f track_ordinal)
 
 -- a reference passes the test; only that for a language asks the lent list
-abbrev pub referenceTest : Sheet → List ℕ → ReferenceTest → ℕ → Bool
-referenceTest s langs (Lacks section) y = lacks s section (reference s y)
-referenceTest s langs NoLanguage y = not (goodLanguage langs (reference s y))
-referenceTest s langs Stray y = stray s (reference s y) (reference s (y + 1))
+abbrev pub reference_test : Sheet → List ℕ → ReferenceTest → ℕ → Bool
+reference_test s langs (Lacks section) y = lacks s section (reference s y)
+reference_test s langs NoLanguage y = not (good_language langs (reference s y))
+reference_test s langs Stray y = stray s (reference s y) (reference s (y + 1))
 
 -- what of it is compared
-abbrev pub referenceKey : Sheet → ReferenceKey → ℕ → ℕ
-referenceKey s Itself y = reference s y
-referenceKey s Ordinal y = ordinalAt s y
+abbrev pub reference_key : Sheet → ReferenceKey → ℕ → ℕ
+reference_key s Itself y = reference s y
+reference_key s Ordinal y = ordinal_at s y
 
 -- the table tells Q of each list inside section 6, n references from x on: Q x n exactly when what stands at x is below their end
 abbrev pub Tells : (ℕ → ℕ → Bool) → Sheet → List ℕ → Type 0
@@ -55,11 +55,11 @@ LookedUp s t section k at r = r.known ≡ true → (Q : ℕ → ℕ → Bool) �
 
 -- the table has for each reference the next that passes the test
 abbrev pub NextRight : Sheet → List ℕ → ReferenceTest → List ℕ → Type 0
-NextRight s langs test t = (x : ℕ) → x < length t → x < count s references → Next (referenceTest s langs test) (count s references) x (get_or t x 0)
+NextRight s langs test t = (x : ℕ) → x < length t → x < count s references → Next (reference_test s langs test) (count s references) x (get_or t x 0)
 
 -- the table has for each reference the next that repeats what is compared
 abbrev pub KeyRight : Sheet → ReferenceKey → List ℕ → Type 0
-KeyRight s key t = (x : ℕ) → x < length t → x < count s references → Repeat (referenceKey s key) (count s references) x (get_or t x 0)
+KeyRight s key t = (x : ℕ) → x < length t → x < count s references → Repeat (reference_key s key) (count s references) x (get_or t x 0)
 
 -- the next whose entry repeats
 abbrev pub RepeatRight : Sheet → List ℕ → Type 0
@@ -82,6 +82,6 @@ abbrev pub OrdinalRight : Sheet → List ℕ → Type 0
 OrdinalRight s t = KeyRight s Ordinal t
 
 -- of the n tracks that the references from a on name, one is of another pack, or some of n ordinals is not that of exactly one
-unfoldable pub oddTracks : Sheet → ℕ → ℕ → ℕ → Bool
-oddTracks s a n pack =
-    any (λ i. not (eqb (packAt s (a + i)) pack)) n || any (λ k. not (eqb (howMany (λ i. eqb (ordinalAt s (a + i)) k) n) 1)) n
+unfoldable pub odd_tracks : Sheet → ℕ → ℕ → ℕ → Bool
+odd_tracks s a n pack =
+    any (λ i. not (eqb (pack_at s (a + i)) pack)) n || any (λ k. not (eqb (how_many (λ i. eqb (ordinal_at s (a + i)) k) n) 1)) n

@@ -2,128 +2,128 @@
 use Rattle.std.specs.Prelude.{ℕ, ◌+◌, Bool, false, not, ◌&&◌, ◌||◌, ◌≡◌, eqb, leb, ltb}
 use Rattle.sheet.specs.Words.{Sheet}
 use Rattle.sheet.specs.Layout.{count, offset, start, field, first, number}
-use Rattle.sheet.specs.Fields.{objects, packs, tracks, references, valueSets, trackList, childList, complementList, interact, objectGain, objectGainMinimum, objectGainMaximum, objectOffset, objectOffsetMinimum, objectOffsetMaximum, setSpan, noPack, packKind, packChannels, packFront}
+use Rattle.sheet.specs.Fields.{objects, packs, tracks, references, value_sets, track_list, child_list, complement_list, interact, object_gain, object_gain_minimum, object_gain_maximum, object_offset, object_offset_minimum, object_offset_maximum, set_span, no_pack, pack_kind, pack_channels, pack_front}
 use Rattle.values.specs.declared.Sort.TheVariants.{Gains, Offsets}
-use Rattle.values.specs.Values.{isAbsent, orElse}
+use Rattle.values.specs.Values.{is_absent, or_else}
 use Rattle.profile.specs.Counting.{any}
-use Rattle.profile.specs.Limits.{exceeds, childrenLimit, complementsLimit, spanLimit}
-use Rattle.profile.specs.Relations.{hasPack, packOf, hasFrontPack}
-use Rattle.profile.specs.Rules.{lacks, listLacks, leaves, badObject, badComplement, differs, rule4, rule5, rule8, rule11, rule13, rule14, rule15, rule16, rule17, rule18, rule19, rule20}
-use Rattle.lists.specs.steps.Entries.{badChildAt, outOfOrderAt}
-use Rattle.screen.specs.steps.Values.{valuesAt, hasRange, nonePresent, wordsBroken, setBroken}
+use Rattle.profile.specs.Limits.{exceeds, children_limit, complements_limit, span_limit}
+use Rattle.profile.specs.Relations.{has_pack, pack_of, has_front_pack}
+use Rattle.profile.specs.Rules.{lacks, list_lacks, leaves, bad_object, bad_complement, differs, rule4, rule5, rule8, rule11, rule13, rule14, rule15, rule16, rule17, rule18, rule19, rule20}
+use Rattle.lists.specs.steps.Entries.{bad_child_at, out_of_order_at}
+use Rattle.screen.specs.steps.Values.{values_at, has_range, none_present, words_broken, set_broken}
 use Rattle.screen.specs.declared.Values.{Values}
 use Rattle.screen.specs.declared.ObjectValues.{ObjectValues}
 
 -- lists and a span that break rule 4 or 8
-unfoldable pub objectListsBroken : Sheet → ℕ → Bool
-objectListsBroken s o =
-    ltb (count s references) (first s objects o trackList + number s objects o trackList)
-    || ltb (count s references) (first s objects o childList + number s objects o childList)
-    || ltb (count s references) (first s objects o complementList + number s objects o complementList)
-    || ltb (count s valueSets) (first s objects o setSpan + number s objects o setSpan)
-    || exceeds s childrenLimit (number s objects o childList)
-    || exceeds s complementsLimit (number s objects o complementList)
-    || exceeds s spanLimit (number s objects o setSpan)
+unfoldable pub object_lists_broken : Sheet → ℕ → Bool
+object_lists_broken s o =
+    ltb (count s references) (first s objects o track_list + number s objects o track_list)
+    || ltb (count s references) (first s objects o child_list + number s objects o child_list)
+    || ltb (count s references) (first s objects o complement_list + number s objects o complement_list)
+    || ltb (count s value_sets) (first s objects o set_span + number s objects o set_span)
+    || exceeds s children_limit (number s objects o child_list)
+    || exceeds s complements_limit (number s objects o complement_list)
+    || exceeds s span_limit (number s objects o set_span)
 
 -- a pack, where there is one, is of kind 3 with front 1
-unfoldable pub isFront : Sheet → ℕ → Bool
-isFront s pack = not (eqb pack noPack) && eqb (field s packs pack packKind) 3 && eqb (field s packs pack packFront) 1
+unfoldable pub is_front : Sheet → ℕ → Bool
+is_front s pack = not (eqb pack no_pack) && eqb (field s packs pack pack_kind) 3 && eqb (field s packs pack pack_front) 1
 
 -- the gain and the offset of an object whose words begin at an index, with their ranges
-abbrev pub objectGains : Sheet → ℕ → Values
-objectGains s at = valuesAt s (at + objectGain) (at + objectGainMinimum) (at + objectGainMaximum)
+abbrev pub object_gains : Sheet → ℕ → Values
+object_gains s at = values_at s (at + object_gain) (at + object_gain_minimum) (at + object_gain_maximum)
 
-abbrev pub objectOffsets : Sheet → ℕ → Values
-objectOffsets s at = valuesAt s (at + objectOffset) (at + objectOffsetMinimum) (at + objectOffsetMaximum)
+abbrev pub object_offsets : Sheet → ℕ → Values
+object_offsets s at = values_at s (at + object_offset) (at + object_offset_minimum) (at + object_offset_maximum)
 
 -- the values of an object
-unfoldable pub objectValues : Sheet → ℕ → ObjectValues
-objectValues s o =
+unfoldable pub object_values : Sheet → ℕ → ObjectValues
+object_values s o =
     record {
       interact = field s objects o interact;
-      front = hasFrontPack s o;
-      gains = objectGains s (start s objects o);
-      offsets = objectOffsets s (start s objects o);
+      front = has_front_pack s o;
+      gains = object_gains s (start s objects o);
+      offsets = object_offsets s (start s objects o);
     }
 
 -- a gain with its range that breaks rule 6, 16 or 18
-unfoldable pub gainsBroken : ObjectValues → Bool
-gainsBroken v =
-    wordsBroken Gains v.gains
-    || eqb v.interact 0 && hasRange v.gains
-    || leaves Gains (orElse v.gains.value 0) v.gains.minimum v.gains.maximum
+unfoldable pub gains_broken : ObjectValues → Bool
+gains_broken v =
+    words_broken Gains v.gains
+    || eqb v.interact 0 && has_range v.gains
+    || leaves Gains (or_else v.gains.value 0) v.gains.minimum v.gains.maximum
 
 -- an offset with its range that breaks rule 6, 16, 17 or 18
-unfoldable pub offsetsBroken : ObjectValues → Bool
-offsetsBroken v =
-    wordsBroken Offsets v.offsets
-    || eqb v.interact 0 && hasRange v.offsets
-    || (not (isAbsent v.offsets.value) || hasRange v.offsets) && not v.front
-    || leaves Offsets (orElse v.offsets.value 0) v.offsets.minimum v.offsets.maximum
+unfoldable pub offsets_broken : ObjectValues → Bool
+offsets_broken v =
+    words_broken Offsets v.offsets
+    || eqb v.interact 0 && has_range v.offsets
+    || (not (is_absent v.offsets.value) || has_range v.offsets) && not v.front
+    || leaves Offsets (or_else v.offsets.value 0) v.offsets.minimum v.offsets.maximum
 
 -- values that break rule 6, 16, 17 or 18
-unfoldable pub valuesBroken : ObjectValues → Bool
-valuesBroken v = ltb 1 v.interact || gainsBroken v || offsetsBroken v
+unfoldable pub values_broken : ObjectValues → Bool
+values_broken v = ltb 1 v.interact || gains_broken v || offsets_broken v
 
 -- an object without a pack: no children, or a track, or a child that is no object with a pack of kind 3
-unfoldable pub childrenBroken : Sheet → ℕ → Bool
-childrenBroken s o =
-    eqb (number s objects o childList) 0
-    || not (eqb (number s objects o trackList) 0)
-    || any (badChildAt s (offset s references) (first s objects o childList) (count s objects)) (number s objects o childList)
+unfoldable pub children_broken : Sheet → ℕ → Bool
+children_broken s o =
+    eqb (number s objects o child_list) 0
+    || not (eqb (number s objects o track_list) 0)
+    || any (bad_child_at s (offset s references) (first s objects o child_list) (count s objects)) (number s objects o child_list)
 
 -- an object with a pack: a child, no such pack, or tracks that are not the pack's channels in their order
-unfoldable pub tracksBroken : Sheet → ℕ → ℕ → Bool
-tracksBroken s o pack =
-    ltb 0 (number s objects o childList)
+unfoldable pub tracks_broken : Sheet → ℕ → ℕ → Bool
+tracks_broken s o pack =
+    ltb 0 (number s objects o child_list)
     || leb (count s packs) pack
-    || not (eqb (number s objects o trackList) (field s packs pack packChannels))
-    || any (outOfOrderAt s (offset s references) (first s objects o trackList) pack) (number s objects o trackList)
+    || not (eqb (number s objects o track_list) (field s packs pack pack_channels))
+    || any (out_of_order_at s (offset s references) (first s objects o track_list) pack) (number s objects o track_list)
 
 -- an object that keeps rules 13 and 14, and rule 5 by its pack, its tracks and its children
-abbrev pub sourceKept : Sheet → ℕ → Type 0
-sourceKept s o =
-    ((hasPack s o && lacks s packs (packOf s o)) ≡ false)
-    × (listLacks s tracks objects o trackList ≡ false)
-    × (listLacks s objects objects o childList ≡ false)
+abbrev pub source_kept : Sheet → ℕ → Type 0
+source_kept s o =
+    ((has_pack s o && lacks s packs (pack_of s o)) ≡ false)
+    × (list_lacks s tracks objects o track_list ≡ false)
+    × (list_lacks s objects objects o child_list ≡ false)
     × (rule13 s objects o ≡ false)
     × (rule14 s objects o ≡ false)
 
 -- an object that keeps rules 19 and 20, and rule 5 by its complements
-abbrev pub complementsKept : Sheet → ℕ → Type 0
-complementsKept s o = (listLacks s objects objects o complementList ≡ false) × (rule19 s objects o ≡ false) × (rule20 s objects o ≡ false)
+abbrev pub complements_kept : Sheet → ℕ → Type 0
+complements_kept s o = (list_lacks s objects objects o complement_list ≡ false) × (rule19 s objects o ≡ false) × (rule20 s objects o ≡ false)
 
 -- a complement that breaks rule 19 or 20, or rule 5
-unfoldable pub complementBroken : Sheet → ℕ → ℕ → Bool
-complementBroken s l q = lacks s objects q || badComplement s q || differs s l q
+unfoldable pub complement_broken : Sheet → ℕ → ℕ → Bool
+complement_broken s l q = lacks s objects q || bad_complement s q || differs s l q
 
 -- a set of an object breaks rule 6, 16, 17 or 18
-unfoldable pub setsBroken : Sheet → ℕ → Bool
-setsBroken s o = any (λ i. setBroken s (objectValues s o) (start s valueSets (first s objects o setSpan + i))) (number s objects o setSpan)
+unfoldable pub sets_broken : Sheet → ℕ → Bool
+sets_broken s o = any (λ i. set_broken s (object_values s o) (start s value_sets (first s objects o set_span + i))) (number s objects o set_span)
 
 -- an object without complements and sets, with interact 0 and no gain, offset or range; plain is our word
-unfoldable pub isPlain : Sheet → ℕ → Bool
-isPlain s o =
-    eqb (number s objects o complementList) 0
-    && eqb (number s objects o setSpan) 0
+unfoldable pub is_plain : Sheet → ℕ → Bool
+is_plain s o =
+    eqb (number s objects o complement_list) 0
+    && eqb (number s objects o set_span) 0
     && eqb (field s objects o interact) 0
-    && nonePresent (objectGains s (start s objects o))
-    && nonePresent (objectOffsets s (start s objects o))
+    && none_present (object_gains s (start s objects o))
+    && none_present (object_offsets s (start s objects o))
 
 -- an object that keeps rules 6 and 15 to 20, with its sets, and rule 5 by its complements
-abbrev pub restKept : Sheet → ℕ → Type 0
-restKept s o =
-    (valuesBroken (objectValues s o) ≡ false)
-    × (setsBroken s o ≡ false)
-    × complementsKept s o
+abbrev pub rest_kept : Sheet → ℕ → Type 0
+rest_kept s o =
+    (values_broken (object_values s o) ≡ false)
+    × (sets_broken s o ≡ false)
+    × complements_kept s o
     × (rule15 s objects o ≡ false)
 
 -- an object, or a set of its, breaks a rule up to 20
-unfoldable pub objectBroken : Sheet → ℕ → Bool
-objectBroken s o =
+unfoldable pub object_broken : Sheet → ℕ → Bool
+object_broken s o =
     rule4 s objects o
     || rule5 s objects o
-    || badObject s o
+    || bad_object s o
     || rule8 s objects o
     || rule11 s objects o
     || rule13 s objects o
@@ -134,4 +134,4 @@ objectBroken s o =
     || rule18 s objects o
     || rule19 s objects o
     || rule20 s objects o
-    || setsBroken s o
+    || sets_broken s o

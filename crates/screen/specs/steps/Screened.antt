@@ -2,17 +2,17 @@
 use Rattle.std.specs.Prelude.{ℕ, ◌<◌, Bool, false, ◌||◌, ◌≡◌, List, length}
 use Rattle.sheet.specs.Words.{Sheet}
 use Rattle.sheet.specs.Layout.{count}
-use Rattle.sheet.specs.Fields.{programmes, contents, objects, packs, tracks, valueSets}
+use Rattle.sheet.specs.Fields.{programmes, contents, objects, packs, tracks, value_sets}
 use Rattle.profile.specs.Counting.{any}
-use Rattle.profile.specs.Rules.{badPack, rule1, rule2, rule3, rule5, rule7, rule10, rule11, rule12, rule23, rule24}
+use Rattle.profile.specs.Rules.{bad_pack, rule1, rule2, rule3, rule5, rule7, rule10, rule11, rule12, rule23, rule24}
 use Rattle.tables.specs.steps.Marks.{Standing}
 use Rattle.tables.specs.steps.Right.{Named, Listed, Tops, Complemented, Spanned, Owners}
-use Rattle.lists.specs.steps.Speech.{contentBroken, programmeBroken}
-use Rattle.screen.specs.steps.Objects.{objectBroken}
+use Rattle.lists.specs.steps.Speech.{content_broken, programme_broken}
+use Rattle.screen.specs.steps.Objects.{object_broken}
 
 -- the header breaks rule 1 or 2, or a section rule 3 or 7
-unfoldable pub headerBroken : Sheet → Bool
-headerBroken s =
+unfoldable pub header_broken : Sheet → Bool
+header_broken s =
     rule1 s 0 0
     || rule2 s 0 0
     || rule3 s 1 0
@@ -30,43 +30,43 @@ headerBroken s =
 
 -- no record of sections 1 to 5 breaks a rule from 4 to 20; an object, also by a set of its. Rule 12 is that of contents
 pub record RecordsKept (s : Sheet) (langs : List ℕ) : Type 0 where
-  pub programmes-kept : any (programmeBroken s langs) (count s programmes) ≡ false
-  pub contents-kept : any (λ k. contentBroken s langs k || rule12 s contents k) (count s contents) ≡ false
-  pub objects-kept : any (objectBroken s) (count s objects) ≡ false
-  pub packs-kept : any (λ k. badPack s k || rule10 s packs k) (count s packs) ≡ false
-  pub tracks-kept : any (rule5 s tracks) (count s tracks) ≡ false
+  pub programmes_kept : any (programme_broken s langs) (count s programmes) ≡ false
+  pub contents_kept : any (λ k. content_broken s langs k || rule12 s contents k) (count s contents) ≡ false
+  pub objects_kept : any (object_broken s) (count s objects) ≡ false
+  pub packs_kept : any (λ k. bad_pack s k || rule10 s packs k) (count s packs) ≡ false
+  pub tracks_kept : any (rule5 s tracks) (count s tracks) ≡ false
 
 -- the tables that the records are tested with are right
 pub record RecordsTabled (s : Sheet) (named listed tops complements : List ℕ) : Type 0 where
-  pub named-right : Named s named
-  pub listed-right : Listed s listed
-  pub tops-right : Tops s tops
-  pub complements-right : Complemented s complements
+  pub named_right : Named s named
+  pub listed_right : Listed s listed
+  pub tops_right : Tops s tops
+  pub complements_right : Complemented s complements
 
 -- they do, each value set is in one span, and the whole sheet keeps rules 23 and 24
 pub record RecordsAndTotalsKept (s : Sheet) (langs : List ℕ) : Type 0 where
   pub records : RecordsKept s langs
-  pub set-once : (v : ℕ) → v < count s valueSets → rule11 s valueSets v ≡ false
+  pub set_once : (v : ℕ) → v < count s value_sets → rule11 s value_sets v ≡ false
   pub groups : rule23 s 0 0 ≡ false
   pub tracks : rule24 s 0 0 ≡ false
 
 -- the six tables that the screening begins with have only noughts
 pub record Noughts (named spanned listed tops complements owners : List ℕ) : Type 0 where
-  pub named-nought : Standing (λ x. 0) named
-  pub spanned-nought : Standing (λ x. 0) spanned
-  pub listed-nought : Standing (λ x. 0) listed
-  pub tops-nought : Standing (λ x. 0) tops
-  pub complements-nought : Standing (λ x. 0) complements
-  pub owners-nought : Standing (λ x. 0) owners
+  pub named_nought : Standing (λ x. 0) named
+  pub spanned_nought : Standing (λ x. 0) spanned
+  pub listed_nought : Standing (λ x. 0) listed
+  pub tops_nought : Standing (λ x. 0) tops
+  pub complements_nought : Standing (λ x. 0) complements
+  pub owners_nought : Standing (λ x. 0) owners
 
 -- they are filled: as long as before, and right
 pub record TablesFilled (s : Sheet) (named₀ spanned₀ listed₀ tops₀ complements₀ owners₀ named spanned listed tops complements owners : List ℕ) : Type 0 where
-  pub named-long : length named ≡ length named₀
-  pub spanned-long : length spanned ≡ length spanned₀
-  pub listed-long : length listed ≡ length listed₀
-  pub tops-long : length tops ≡ length tops₀
-  pub complements-long : length complements ≡ length complements₀
-  pub owners-long : length owners ≡ length owners₀
+  pub named_long : length named ≡ length named₀
+  pub spanned_long : length spanned ≡ length spanned₀
+  pub listed_long : length listed ≡ length listed₀
+  pub tops_long : length tops ≡ length tops₀
+  pub complements_long : length complements ≡ length complements₀
+  pub owners_long : length owners ≡ length owners₀
   pub tabled : RecordsTabled s named listed tops complements
-  pub spanned-right : Spanned s spanned
-  pub owners-right : Owners s owners
+  pub spanned_right : Spanned s spanned
+  pub owners_right : Owners s owners

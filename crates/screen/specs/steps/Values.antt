@@ -1,62 +1,62 @@
 -- The values of an object and of its sets, as the screening tests them: on the words themselves. Assumes nothing.
 use Rattle.std.specs.Prelude.{ℕ, ◌+◌, Bool, false, cond, not, ◌&&◌, ◌||◌, eqb, ltb}
 use Rattle.sheet.specs.Words.{Sheet, word}
-use Rattle.sheet.specs.Fields.{setGain, setOwn, setGainMinimum, setGainMaximum, setOffset, setOffsetMinimum, setOffsetMaximum}
+use Rattle.sheet.specs.Fields.{set_gain, set_own, set_gain_minimum, set_gain_maximum, set_offset, set_offset_minimum, set_offset_maximum}
 use Rattle.values.specs.declared.Sort.{Sort}
 use Rattle.values.specs.declared.Sort.TheVariants.{Gains, Offsets}
-use Rattle.values.specs.Values.{isAbsent, orElse}
-use Rattle.profile.specs.Rules.{badWords, leaves}
+use Rattle.values.specs.Values.{is_absent, or_else}
+use Rattle.profile.specs.Rules.{bad_words, leaves}
 use Rattle.screen.specs.declared.Values.{Values}
 use Rattle.screen.specs.declared.ObjectValues.{ObjectValues}
 
 -- three words
-unfoldable pub valuesAt : Sheet → ℕ → ℕ → ℕ → Values
-valuesAt s value minimum maximum = record { value = word s value; minimum = word s minimum; maximum = word s maximum }
+unfoldable pub values_at : Sheet → ℕ → ℕ → ℕ → Values
+values_at s value minimum maximum = record { value = word s value; minimum = word s minimum; maximum = word s maximum }
 
 -- a minimum or a maximum is present
-unfoldable pub hasRange : Values → Bool
-hasRange v = not (isAbsent v.minimum) || not (isAbsent v.maximum)
+unfoldable pub has_range : Values → Bool
+has_range v = not (is_absent v.minimum) || not (is_absent v.maximum)
 
 -- neither a value nor a range is present
-unfoldable pub nonePresent : Values → Bool
-nonePresent v = isAbsent v.value && not (hasRange v)
+unfoldable pub none_present : Values → Bool
+none_present v = is_absent v.value && not (has_range v)
 
 -- a set's value leaves its effective range, or where it is the set's own, the object's range
-unfoldable pub valueLeaves : Sort → Bool → Values → Values → Bool
-valueLeaves t own set object =
-    leaves t (orElse set.value (orElse object.value 0)) (cond own set.minimum object.minimum) (cond own set.maximum object.maximum)
-    || not (isAbsent set.value) && leaves t set.value object.minimum object.maximum
+unfoldable pub value_leaves : Sort → Bool → Values → Values → Bool
+value_leaves t own set object =
+    leaves t (or_else set.value (or_else object.value 0)) (cond own set.minimum object.minimum) (cond own set.maximum object.maximum)
+    || not (is_absent set.value) && leaves t set.value object.minimum object.maximum
 
 -- words outside their values, or half a pair
-unfoldable pub wordsBroken : Sort → Values → Bool
-wordsBroken t v = badWords t v.value v.minimum v.maximum
+unfoldable pub words_broken : Sort → Values → Bool
+words_broken t v = bad_words t v.value v.minimum v.maximum
 
 -- where a set has its gain with its range, and its offset
-abbrev pub setGains : Sheet → ℕ → Values
-setGains s at = valuesAt s (at + setGain) (at + setGainMinimum) (at + setGainMaximum)
+abbrev pub set_gains : Sheet → ℕ → Values
+set_gains s at = values_at s (at + set_gain) (at + set_gain_minimum) (at + set_gain_maximum)
 
-abbrev pub setOffsets : Sheet → ℕ → Values
-setOffsets s at = valuesAt s (at + setOffset) (at + setOffsetMinimum) (at + setOffsetMaximum)
+abbrev pub set_offsets : Sheet → ℕ → Values
+set_offsets s at = values_at s (at + set_offset) (at + set_offset_minimum) (at + set_offset_maximum)
 
 -- the words of a set that break rule 6, 16, 17 or 18 as a set of an object with these values
-unfoldable pub setWordsBroken : ℕ → Values → Values → ObjectValues → Bool
-setWordsBroken own gains offsets v =
+unfoldable pub set_words_broken : ℕ → Values → Values → ObjectValues → Bool
+set_words_broken own gains offsets v =
     ltb 1 own
-    || wordsBroken Gains gains
-    || wordsBroken Offsets offsets
-    || eqb own 0 && (hasRange gains || hasRange offsets)
+    || words_broken Gains gains
+    || words_broken Offsets offsets
+    || eqb own 0 && (has_range gains || has_range offsets)
     || eqb v.interact 0 && eqb own 1
-    || (not (isAbsent offsets.value) || hasRange offsets) && not v.front
-    || valueLeaves Gains (eqb own 1) gains v.gains
-    || valueLeaves Offsets (eqb own 1) offsets v.offsets
+    || (not (is_absent offsets.value) || has_range offsets) && not v.front
+    || value_leaves Gains (eqb own 1) gains v.gains
+    || value_leaves Offsets (eqb own 1) offsets v.offsets
 
 -- the same of a set with own 0 that has no more than a gain
-unfoldable pub gainBroken : Values → ObjectValues → Bool
-gainBroken gains v =
-    wordsBroken Gains gains
-    || valueLeaves Gains false gains v.gains
-    || leaves Offsets (orElse v.offsets.value 0) v.offsets.minimum v.offsets.maximum
+unfoldable pub gain_broken : Values → ObjectValues → Bool
+gain_broken gains v =
+    words_broken Gains gains
+    || value_leaves Gains false gains v.gains
+    || leaves Offsets (or_else v.offsets.value 0) v.offsets.minimum v.offsets.maximum
 
 -- the set whose words begin at an index does
-unfoldable pub setBroken : Sheet → ObjectValues → ℕ → Bool
-setBroken s v at = setWordsBroken (word s (at + setOwn)) (setGains s at) (setOffsets s at) v
+unfoldable pub set_broken : Sheet → ObjectValues → ℕ → Bool
+set_broken s v at = set_words_broken (word s (at + set_own)) (set_gains s at) (set_offsets s at) v

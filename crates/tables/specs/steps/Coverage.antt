@@ -3,49 +3,49 @@
 use Rattle.std.specs.Prelude.{ℕ, ◌+◌, ◌<◌, ◌≤◌, Bool, cond, ◌&&◌, List, eqb, leb, ltb}
 use Rattle.sheet.specs.Words.{Sheet}
 use Rattle.sheet.specs.Layout.{field, first, reference}
-use Rattle.sheet.specs.Fields.{programmes, contents, objects, contentList, setList, contentObject, childList, complementList, setSpan}
-use Rattle.profile.specs.Counting.{howMany}
+use Rattle.sheet.specs.Fields.{programmes, contents, objects, content_list, set_list, content_object, child_list, complement_list, set_span}
+use Rattle.profile.specs.Counting.{how_many}
 use Rattle.tables.specs.declared.Naming.{Naming}
 use Rattle.tables.specs.declared.Naming.TheVariants.{ContentObjects, Children, Complements, ContentLists, Included, SetLists, SetSpans}
 use Rattle.tables.specs.steps.Namings.{namers, items}
 use Rattle.tables.specs.steps.Marks.{Standing}
 
 -- the index at which a record's run begins
-abbrev pub runBegin : Sheet → Naming → ℕ → ℕ
-runBegin s ContentObjects q = field s contents q contentObject
-runBegin s Children q = first s objects q childList
-runBegin s Complements q = first s objects q complementList
-runBegin s ContentLists q = first s programmes q contentList
-runBegin s Included q = first s programmes q contentList
-runBegin s SetLists q = first s programmes q setList
-runBegin s SetSpans q = first s objects q setSpan
+abbrev pub run_begin : Sheet → Naming → ℕ → ℕ
+run_begin s ContentObjects q = field s contents q content_object
+run_begin s Children q = first s objects q child_list
+run_begin s Complements q = first s objects q complement_list
+run_begin s ContentLists q = first s programmes q content_list
+run_begin s Included q = first s programmes q content_list
+run_begin s SetLists q = first s programmes q set_list
+run_begin s SetSpans q = first s objects q set_span
 
 -- the record that an index names
-abbrev pub namedAt : Sheet → Naming → ℕ → ℕ
-namedAt s ContentObjects y = y
-namedAt s Children y = reference s y
-namedAt s Complements y = reference s y
-namedAt s ContentLists y = reference s y
-namedAt s Included y = field s contents (reference s y) contentObject
-namedAt s SetLists y = reference s y
-namedAt s SetSpans y = y
+abbrev pub named_at : Sheet → Naming → ℕ → ℕ
+named_at s ContentObjects y = y
+named_at s Children y = reference s y
+named_at s Complements y = reference s y
+named_at s ContentLists y = reference s y
+named_at s Included y = field s contents (reference s y) content_object
+named_at s SetLists y = reference s y
+named_at s SetSpans y = y
 
 -- the index after the last of a record's run
-unfoldable pub runEnd : Sheet → Naming → ℕ → ℕ
-runEnd s kind q = runBegin s kind q + items s kind q
+unfoldable pub run_end : Sheet → Naming → ℕ → ℕ
+run_end s kind q = run_begin s kind q + items s kind q
 
 -- one edge of the run
 abbrev pub edge : Sheet → Naming → Bool → ℕ → ℕ
-edge s kind last q = cond last (runEnd s kind q) (runBegin s kind q)
+edge s kind last q = cond last (run_end s kind q) (run_begin s kind q)
 
 -- the table has for each index how many runs have it as that edge
 abbrev pub Tallied : Sheet → Naming → Bool → List ℕ → Type 0
-Tallied s kind last t = Standing (λ y. howMany (λ q. eqb (edge s kind last q) y) (namers s kind)) t
+Tallied s kind last t = Standing (λ y. how_many (λ q. eqb (edge s kind last q) y) (namers s kind)) t
 
 -- all runs end at m or before
 abbrev pub Reaching : Sheet → Naming → ℕ → Type 0
-Reaching s kind m = (q : ℕ) → q < namers s kind → runEnd s kind q ≤ m
+Reaching s kind m = (q : ℕ) → q < namers s kind → run_end s kind q ≤ m
 
 -- how many runs have an index
 unfoldable pub cover : Sheet → Naming → ℕ → ℕ
-cover s kind y = howMany (λ q. leb (runBegin s kind q) y && ltb y (runEnd s kind q)) (namers s kind)
+cover s kind y = how_many (λ q. leb (run_begin s kind q) y && ltb y (run_end s kind q)) (namers s kind)

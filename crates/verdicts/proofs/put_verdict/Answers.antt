@@ -1,26 +1,26 @@
 -- The line's pieces, one behind the other. Assumes nothing.
-use Rattle.verdicts.specs.VerdictLine.{verdictLine}
-use Rattle.text.proofs.BufferLaws.{put-join, put-none}
+use Rattle.verdicts.specs.VerdictLine.{verdict_line}
+use Rattle.text.proofs.BufferLaws.{put_join, put_none}
 use Rattle.verdicts.proofs.put_verdict.Goals as goal
 
 pub returns-in-Accepted : goal.returns-in-Accepted
-unfolding verdictLine
+unfolding verdict_line
 returns-in-Accepted c =
     rw c.in-Accepted.is c.put_text.ensures
 
 pub returns-in-Broken : goal.returns-in-Broken
-unfolding verdictLine
+unfolding verdict_line
 returns-in-Broken c =
     rw (
       c.in-Broken.is,
-      put-join,
-      put-join,
-      put-join,
-      put-join,
-      put-join,
-      put-join,
-      put-join,
-      put-none,
+      put_join,
+      put_join,
+      put_join,
+      put_join,
+      put_join,
+      put_join,
+      put_join,
+      put_none,
       ← c.put_text-n.ensures,
       ← c.put_number-n.ensures,
       ← c.put_text-n-in-Broken.ensures,

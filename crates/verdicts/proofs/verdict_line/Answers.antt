@@ -1,10 +1,10 @@
 -- The line of the verdict has room. Assumes nothing.
 use native.Mathlib.Omega.{arith}
 use Rattle.checker.specs.Checked.{checked}
-use Rattle.verdicts.proofs.LengthLaws.{verdict-fits}
-use Rattle.text.proofs.BufferLaws.{put-fills}
+use Rattle.verdicts.proofs.LengthLaws.{verdict_fits}
+use Rattle.text.proofs.BufferLaws.{put_fills}
 use Rattle.verdicts.proofs.verdict_line.Goals as goal
 
 pub returns : goal.returns
 returns c =
-    put-fills _ _ _ _ (rw c.check.ensures at c.put_verdict.ensures) (omega (arith, verdict-fits (checked c.args.sheet.now c.args.langs.now)))
+    put_fills _ _ _ _ (rw c.check.ensures at c.put_verdict.ensures) (omega (arith, verdict_fits (checked c.args.sheet.now c.args.langs.now)))

@@ -5,16 +5,16 @@ use mathlib.Core.Bool.{true≢false}
 use native.Mathlib.Omega.{arith}
 use lib.ListN.{replicate}
 use lib.Seq.{length-take-le}
-use Rattle.sheet.specs.Words.{sheetOf}
-use Rattle.inclusion.proofs.AlikeLaws.{alike-empty}
-use Rattle.checker.proofs.GroupLaws.{pairs-kept}
+use Rattle.sheet.specs.Words.{sheet_of}
+use Rattle.inclusion.proofs.AlikeLaws.{alike_empty}
+use Rattle.checker.proofs.GroupLaws.{pairs_kept}
 use Rattle.checker.proofs.groups.grouped_programmes.Goals as goal
 
 pub returns-then-n-from : goal.returns-then-n-from
 returns-then-n-from c = λ kept apart p l. (kept p l).1
 
 pub returns-then-groups_of_two : goal.returns-then-groups_of_two
-returns-then-groups_of_two c = λ kept apart p l. pairs-kept (sheetOf c.args.s.now) p (c.groups_of_two.ensures c.if-groups_of_two.true)
+returns-then-groups_of_two c = λ kept apart p l. pairs_kept (sheet_of c.args.s.now) p (c.groups_of_two.ensures c.if-groups_of_two.true)
 
 pub returns-then-m-gt2048 : goal.returns-then-m-gt2048
 returns-then-m-gt2048 c = λ kept apart p l. (kept p l).1
@@ -32,5 +32,5 @@ pub returns : goal.returns
 returns c =
     λ kept apart p l.
     let objects = c.count-m in let full = length-take-le {A = ℕ} objects.result (replicate 2048 0) (omega (arith, c.if-m-gt2048.false)) ∙ objects.ensures in
-    (c.kept_from.ensures.kept (λ x h. absurd (omega (arith, h)), alike-empty (sheetOf c.args.s.now), λ f. absurd (true≢false (sym f))) (full, full, full) apart
+    (c.kept_from.ensures.kept (λ x h. absurd (omega (arith, h)), alike_empty (sheet_of c.args.s.now), λ f. absurd (true≢false (sym f))) (full, full, full) apart
     (λ q h. ((kept q h).0, (kept q h).1, λ f. absurd (true≢false (sym f)))) p l).1

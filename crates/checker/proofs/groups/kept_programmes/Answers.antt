@@ -4,10 +4,10 @@ use mathlib.Core.Path.{sym, ◌∙◌}
 use native.Mathlib.Omega.{arith}
 use lib.ListN.{replicate}
 use lib.Seq.{length-take-le}
-use Rattle.sheet.specs.Words.{sheetOf}
+use Rattle.sheet.specs.Words.{sheet_of}
 use Rattle.tables.specs.declared.Naming.TheVariants.{SetSpans}
 use Rattle.tables.proofs.MarkLaws.{nought}
-use Rattle.checker.proofs.SearchLaws.{firsts-made}
+use Rattle.checker.proofs.SearchLaws.{firsts_made}
 use Rattle.checker.proofs.groups.kept_programmes.Goals as goal
 
 pub returns-then-m-gt2048 : goal.returns-then-m-gt2048
@@ -33,7 +33,7 @@ returns c =
     λ apart.
     let objects = c.count-m in let owners = c.first_namers in let leaders = c.first_namers-2 in let full = length-take-le {A = ℕ} objects.result (replicate 2048 0) (omega (arith, c.if-m-gt2048.false)) ∙ objects.ensures in
     c.kept_from.ensures.kept (
-      firsts-made (sheetOf c.args.s.now) (replicate 4680 0) (λ x h. nought 4680 x) SetSpans owners.new.table owners.ensures.0 owners.ensures.1,
+      firsts_made (sheet_of c.args.s.now) (replicate 4680 0) (λ x h. nought 4680 x) SetSpans owners.new.table owners.ensures.0 owners.ensures.1,
       c.fill_alike.ensures.1 (λ x h. nought 4680 x),
       λ f. c.sets_once.ensures c.if-not-sets_once.false,
     ) (length-take-le objects.result leaders.new.table (omega (arith, c.if-m-gt2048.false, leaders.ensures.0)) ∙ objects.ensures, full, full) apart (λ q h. absurd (omega (arith, h)))

@@ -1,12 +1,12 @@
 -- The tables are right. Assumes nothing.
 use mathlib.Core.Path.{sym}
 use native.Mathlib.Omega.{arith}
-use Rattle.profile.proofs.CountingLaws.{lowest-none}
+use Rattle.profile.proofs.CountingLaws.{lowest_none}
 use Rattle.tables.proofs.MarkLaws.{nought}
 use Rattle.checker.proofs.search.by_tables.Goals as goal
 
 pub returns-then-n-from : goal.returns-then-n-from
-returns-then-n-from c = sym (lowest-none _ _ (λ j l. c.requires j (omega (arith, l, c.if-n-from.true))))
+returns-then-n-from c = sym (lowest_none _ _ (λ j l. c.requires j (omega (arith, l, c.if-n-from.true))))
 
 pub broken_below-requires : goal.broken_below-requires
 broken_below-requires c = c.requires

@@ -1,20 +1,20 @@
 -- Under a list that rises, or not. Assumes nothing.
 use mathlib.Core.Path.{sym, ◌∙◌}
 use Rattle.std.proofs.lemmas.Option.{cond_some}
-use Rattle.sheet.specs.Words.{sheetOf, words}
-use Rattle.profile.specs.Languages.{isRising}
-use Rattle.profile.proofs.HeaderLaws.{not-rising}
+use Rattle.sheet.specs.Words.{sheet_of, words}
+use Rattle.profile.specs.Languages.{is_rising}
+use Rattle.profile.proofs.HeaderLaws.{not_rising}
 use Rattle.checker.specs.Checked.{checked}
-use Rattle.checker.proofs.SearchLaws.{none-lent}
+use Rattle.checker.proofs.SearchLaws.{none_lent}
 use Rattle.checker.proofs.search.check.Goals as goal
 
 pub returns-in-Some : goal.returns-in-Some
 unfolding checked
 returns-in-Some c =
-    let lent = cond_some (isRising (words c.args.langs.now)) (words c.args.langs.now) c.in-Some.list (sym c.lent.ensures ∙ c.in-Some.is) in
+    let lent = cond_some (is_rising (words c.args.langs.now)) (words c.args.langs.now) c.in-Some.list (sym c.lent.ensures ∙ c.in-Some.is) in
     rw lent.1 c.verdict_under.ensures
 
 pub returns-in-None : goal.returns-in-None
 unfolding checked
 returns-in-None c =
-    sym (not-rising (sheetOf c.args.sheet.now) (words c.args.langs.now) (none-lent (isRising (words c.args.langs.now)) (words c.args.langs.now) (sym c.lent.ensures ∙ c.in-None.is)))
+    sym (not_rising (sheet_of c.args.sheet.now) (words c.args.langs.now) (none_lent (is_rising (words c.args.langs.now)) (words c.args.langs.now) (sym c.lent.ensures ∙ c.in-None.is)))

@@ -1,11 +1,11 @@
 -- Each rule by its number. Assumes nothing.
 use native.Mathlib.Omega.{arith}
 use mathlib.Core.Path.{refl}
-use Rattle.sheet.specs.Words.{sheetOf}
-use Rattle.profile.specs.Verdict.{breaks, numberAt, ruleAt, ruleCount, rules}
+use Rattle.sheet.specs.Words.{sheet_of}
+use Rattle.profile.specs.Verdict.{breaks, number_at, rule_at, rule_count, rules}
 use Rattle.profile.specs.Rules.{rule33}
-use Rattle.checker.specs.steps.Tables.{Right, firstTable, secondTable}
-use Rattle.checker.proofs.SubjectLaws.{no-rule}
+use Rattle.checker.specs.steps.Tables.{Right, first_table, second_table}
+use Rattle.checker.proofs.SubjectLaws.{no_rule}
 use borrow.Author.Rules.{rules as found}
 use Rattle.checker.proofs.subjects.breaks.Goals as goal
 
@@ -26,11 +26,11 @@ unfolding breaks
 returns-in-4 c = (refl, λ first second. simp (c.rule4.ensures, c.in-4.is))
 
 pub returns-in-5 : goal.returns-in-5
-unfolding breaks firstTable secondTable
+unfolding breaks first_table second_table
 returns-in-5 c = (refl, λ first second. let k = c.in-5.is in simp (c.rule5.ensures (rw k at first) (rw k at second), k))
 
 pub returns-in-6 : goal.returns-in-6
-unfolding breaks firstTable secondTable
+unfolding breaks first_table second_table
 returns-in-6 c = (refl, λ first second. let k = c.in-6.is in simp (c.rule6.ensures (rw k at first), k))
 
 pub returns-in-7 : goal.returns-in-7
@@ -42,7 +42,7 @@ unfolding breaks
 returns-in-8 c = (refl, λ first second. simp (c.rule8.ensures, c.in-8.is))
 
 pub returns-in-9 : goal.returns-in-9
-unfolding breaks firstTable secondTable
+unfolding breaks first_table second_table
 returns-in-9 c = (refl, λ first second. let k = c.in-9.is in simp (c.rule9.ensures (rw k at first), k))
 
 pub returns-in-10 : goal.returns-in-10
@@ -50,23 +50,23 @@ unfolding breaks
 returns-in-10 c = (refl, λ first second. simp (c.rule10.ensures, c.in-10.is))
 
 pub returns-in-11 : goal.returns-in-11
-unfolding breaks firstTable secondTable
-returns-in-11 c = (refl, λ first second. let f : Right (sheetOf c.args.s.now) c.args.langs.now (firstTable 11 c.args.section) c.args.first.now = rw c.in-11.is at first in simp (c.rule11.ensures (λ e. rw e at f) (λ e. rw e at f), c.in-11.is))
+unfolding breaks first_table second_table
+returns-in-11 c = (refl, λ first second. let f : Right (sheet_of c.args.s.now) c.args.langs.now (first_table 11 c.args.section) c.args.first.now = rw c.in-11.is at first in simp (c.rule11.ensures (λ e. rw e at f) (λ e. rw e at f), c.in-11.is))
 
 pub returns-in-12 : goal.returns-in-12
-unfolding breaks firstTable secondTable
-returns-in-12 c = (refl, λ first second. let f : Right (sheetOf c.args.s.now) c.args.langs.now (firstTable 12 c.args.section) c.args.first.now = rw c.in-12.is at first in simp (c.rule12.ensures (λ e. rw e at f) (λ e. rw e at f), c.in-12.is))
+unfolding breaks first_table second_table
+returns-in-12 c = (refl, λ first second. let f : Right (sheet_of c.args.s.now) c.args.langs.now (first_table 12 c.args.section) c.args.first.now = rw c.in-12.is at first in simp (c.rule12.ensures (λ e. rw e at f) (λ e. rw e at f), c.in-12.is))
 
 pub returns-in-13 : goal.returns-in-13
 unfolding breaks
 returns-in-13 c = (refl, λ first second. simp (c.rule13.ensures, c.in-13.is))
 
 pub returns-in-14 : goal.returns-in-14
-unfolding breaks firstTable secondTable
+unfolding breaks first_table second_table
 returns-in-14 c = (refl, λ first second. let k = c.in-14.is in simp (c.rule14.ensures (rw k at first) (rw k at second), k))
 
 pub returns-in-15 : goal.returns-in-15
-unfolding breaks firstTable secondTable
+unfolding breaks first_table second_table
 returns-in-15 c = (refl, λ first second. let k = c.in-15.is in simp (c.rule15.ensures (rw k at first), k))
 
 pub returns-in-16 : goal.returns-in-16
@@ -74,15 +74,15 @@ unfolding breaks
 returns-in-16 c = (refl, λ first second. simp (c.rule16.ensures, c.in-16.is))
 
 pub returns-in-17 : goal.returns-in-17
-unfolding breaks firstTable secondTable
+unfolding breaks first_table second_table
 returns-in-17 c = (refl, λ first second. let k = c.in-17.is in simp (c.rule17.ensures (rw k at first), k))
 
 pub returns-in-18 : goal.returns-in-18
-unfolding breaks firstTable secondTable
+unfolding breaks first_table second_table
 returns-in-18 c = (refl, λ first second. let k = c.in-18.is in simp (c.rule18.ensures (rw k at first), k))
 
 pub returns-in-19 : goal.returns-in-19
-unfolding breaks firstTable secondTable
+unfolding breaks first_table second_table
 returns-in-19 c = (refl, λ first second. let k = c.in-19.is in simp (c.rule19.ensures (rw k at first) (rw k at second), k))
 
 pub returns-in-20 : goal.returns-in-20
@@ -99,7 +99,7 @@ returns-in-21 c =
 
 -- an empty table is right
 pub returns-then-marks-eq0 : goal.returns-then-marks-eq0
-unfolding breaks firstTable secondTable
+unfolding breaks first_table second_table
 returns-then-marks-eq0 c =
     let k = c.in-22.is in (refl, λ first second. simp (c.rule22.ensures (rw k at first) (rw k at second) (λ x l. absurd (omega (arith, c.if-marks-eq0.true, l))), k))
 
@@ -107,16 +107,16 @@ pub shape_of-marks-else-marks-eq0 : goal.shape_of-marks-else-marks-eq0
 shape_of-marks-else-marks-eq0 c = c.mark_included-else-marks-eq0.ensures.0
 
 pub returns-else-marks-eq0 : goal.returns-else-marks-eq0
-unfolding breaks firstTable secondTable
+unfolding breaks first_table second_table
 returns-else-marks-eq0 c =
     let k = c.in-22.is in (c.mark_included-else-marks-eq0.ensures.0, λ first second. simp (c.rule22-else-marks-eq0.ensures (rw k at first) (rw k at second) c.mark_included-else-marks-eq0.ensures.1, k))
 
 pub returns-in-23 : goal.returns-in-23
-unfolding breaks firstTable secondTable
+unfolding breaks first_table second_table
 returns-in-23 c = (refl, λ first second. let k = c.in-23.is in simp (c.rule23.ensures (rw k at first) (rw k at second), k))
 
 pub returns-in-24 : goal.returns-in-24
-unfolding breaks firstTable secondTable
+unfolding breaks first_table second_table
 returns-in-24 c = (refl, λ first second. let k = c.in-24.is in simp (c.rule24.ensures (rw k at first) (rw k at second), k))
 
 pub returns-in-33 : goal.returns-in-33
@@ -124,5 +124,5 @@ unfolding breaks rule33
 returns-in-33 c = (refl, λ first second. simp (c.rises.ensures, c.in-33.is))
 
 pub returns-in_default : goal.returns-in_default
-unfolding numberAt ruleAt ruleCount rules
-returns-in_default c = (refl, λ first second. no-rule _ _ c.args.rule _ _ (search found))
+unfolding number_at rule_at rule_count rules
+returns-in_default c = (refl, λ first second. no_rule _ _ c.args.rule _ _ (search found))

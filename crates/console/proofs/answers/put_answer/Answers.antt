@@ -1,22 +1,22 @@
 -- By the answer. Assumes nothing.
-use Rattle.console.specs.Answers.{answerLine}
-use Rattle.text.proofs.BufferLaws.{put-join, put-none}
+use Rattle.console.specs.Answers.{answer_line}
+use Rattle.text.proofs.BufferLaws.{put_join, put_none}
 use Rattle.console.proofs.answers.put_answer.Goals as goal
 
 pub returns-in-Done : goal.returns-in-Done
-unfolding answerLine
+unfolding answer_line
 returns-in-Done c =
     rw c.in-Done.is c.put_text.ensures
 
 pub returns-in-Refused : goal.returns-in-Refused
-unfolding answerLine
+unfolding answer_line
 returns-in-Refused c =
     rw (
       c.in-Refused.is,
-      put-join,
-      put-join,
-      put-join,
-      put-none,
+      put_join,
+      put_join,
+      put_join,
+      put_none,
       ← c.put_text-n.ensures,
       ← c.refusal_number.ensures,
       ← c.put_number-n.ensures,

@@ -3,17 +3,17 @@ use mathlib.Core.List.{[]}
 use native.Mathlib.Omega.{arith}
 use lib.ListN.{take}
 use lib.Seq.{take_all}
-use Rattle.text.specs.Buffer.{buffer as written, putText}
+use Rattle.text.specs.Buffer.{buffer as written, put_text}
 use Rattle.text.specs.Lines.{part}
-use Rattle.text.proofs.BufferLaws.{put-fills}
-use Rattle.factorlines.specs.Reading.{reading, afterRead}
-use Rattle.factorlines.proofs.LengthLaws.{read-fits, part-fits}
-use Rattle.factorlines.proofs.ReadingLaws.{newline-taken, byte-taken}
+use Rattle.text.proofs.BufferLaws.{put_fills}
+use Rattle.factorlines.specs.Reading.{reading, after_read}
+use Rattle.factorlines.proofs.LengthLaws.{read_fits, part_fits}
+use Rattle.factorlines.proofs.ReadingLaws.{newline_taken, byte_taken}
 use Rattle.factorlines.proofs.reading.answer_read.Goals.{then-bytes-i-eq10, else-bytes-i-eq10}
 use Rattle.factorlines.proofs.reading.answer_read.Goals as goal
 
 pub loop-i-init : goal.loop-i-init
-unfolding afterRead putText
+unfolding after_read put_text
 loop-i-init c = (omega arith, (refl, refl))
 
 pub loop-i-preserved : goal.loop-i-preserved
@@ -26,11 +26,11 @@ loop-i-preserved c =
       elim c.if-bytes-i-eq10.branch [
         | then-bytes-i-eq10 w ↦
             rw (w.line-is, w.at-is, w.answers-is, w.n-is)
-            (newline-taken start bytes c.loop-i.i c.loop-i-test.true line answers (written c.args.answers.now 0) inv.1
+            (newline_taken start bytes c.loop-i.i c.loop-i-test.true line answers (written c.args.answers.now 0) inv.1
             (written w.put_factor_line-n.new.answers w.put_factor_line-n.result) w.if-bytes-i-eq10.true (rw w.part.ensures at w.put_factor_line-n.ensures))
         | else-bytes-i-eq10 w ↦
             rw (w.line-is, w.at-is, w.answers-is, w.n-is, w.put_byte-at.ensures)
-            (byte-taken start bytes c.loop-i.i c.loop-i-test.true line answers (written c.args.answers.now 0) inv.1 w.if-bytes-i-eq10.false)
+            (byte_taken start bytes c.loop-i.i c.loop-i-test.true line answers (written c.args.answers.now 0) inv.1 w.if-bytes-i-eq10.false)
       ],
     )
 
@@ -46,4 +46,4 @@ pub returns-clause-text_filled : goal.returns-clause-text_filled
 returns-clause-text_filled c =
     let start = reading (written c.args.line.now c.args.kept) [] in
     let bytes = part c.args.read.now 0 c.args.count in
-    put-fills _ _ _ _ (rw (whole c) at c.loop-i.invariant.1.1) (omega (arith, read-fits start bytes, part-fits c.args.read.now c.args.count, c.fits-read))
+    put_fills _ _ _ _ (rw (whole c) at c.loop-i.invariant.1.1) (omega (arith, read_fits start bytes, part_fits c.args.read.now c.args.count, c.fits-read))

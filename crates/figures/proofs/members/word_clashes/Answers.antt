@@ -1,17 +1,17 @@
 use Rattle.std.proofs.Common.{◌≡◌, ap, ◌∙◌, arith, add-one}
-use Rattle.figures.specs.Clashes.{firstBelow}
-use Rattle.figures.specs.Members.{wordClashes, comparedCount}
+use Rattle.figures.specs.Clashes.{first_below}
+use Rattle.figures.specs.Members.{word_clashes, compared_count}
 use Rattle.figures.proofs.members.word_clashes.Goals as goal
 
 pub loop-i-init : goal.loop-i-init
-unfolding firstBelow
+unfolding first_below
 loop-i-init c = (omega arith, c.no_clash-first.ensures)
 
 pub loop-i-preserved : goal.loop-i-preserved
-unfolding firstBelow
+unfolding first_below
 loop-i-preserved c = (omega arith, rw (add-one, c.earlier-first.ensures, c.loop-i.invariant.1, c.word_clash.ensures))
 
 pub returns : goal.returns
-unfolding wordClashes
+unfolding word_clashes
 returns c =
-    let e : c.loop-i.i ≡ comparedCount = omega arith in c.loop-i.invariant.1 ∙ ap (firstBelow _) e
+    let e : c.loop-i.i ≡ compared_count = omega arith in c.loop-i.invariant.1 ∙ ap (first_below _) e

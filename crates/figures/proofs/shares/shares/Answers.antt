@@ -1,20 +1,20 @@
 use Rattle.std.proofs.Common.{◌≡◌, ap, ◌∙◌, arith, add-one}
-use Rattle.profile.specs.Counting.{concatBelow}
-use Rattle.figures.specs.Lists.{firstFigures, noFigures}
-use Rattle.figures.specs.Shares.{shareFigures, shareList}
-use Rattle.sheet.specs.Words.{sheetOf}
-use Rattle.figures.proofs.FiguresLaws.{first-append}
+use Rattle.profile.specs.Counting.{concat_below}
+use Rattle.figures.specs.Lists.{first_figures, no_figures}
+use Rattle.figures.specs.Shares.{share_figures, share_list}
+use Rattle.sheet.specs.Words.{sheet_of}
+use Rattle.figures.proofs.FiguresLaws.{first_append}
 use Rattle.figures.proofs.shares.shares.Goals as goal
 
 pub loop-o-init : goal.loop-o-init
-unfolding concatBelow firstFigures
+unfolding concat_below first_figures
 loop-o-init c = (omega arith, c.no_figures-given.ensures)
 
 pub loop-o-preserved : goal.loop-o-preserved
-unfolding concatBelow
-loop-o-preserved c = (omega arith, rw (add-one, first-append, ← c.loop-o.invariant.1, c.with_share-given.ensures))
+unfolding concat_below
+loop-o-preserved c = (omega arith, rw (add-one, first_append, ← c.loop-o.invariant.1, c.with_share-given.ensures))
 
 pub returns : goal.returns
-unfolding shareList
+unfolding share_list
 returns c =
-    let e : c.loop-o.o ≡ c.count-n.result = omega arith in c.loop-o.invariant.1 ∙ ap (λ n. firstFigures noFigures (concatBelow (shareFigures (sheetOf c.args.s.now)) n)) (e ∙ c.count-n.ensures)
+    let e : c.loop-o.o ≡ c.count-n.result = omega arith in c.loop-o.invariant.1 ∙ ap (λ n. first_figures no_figures (concat_below (share_figures (sheet_of c.args.s.now)) n)) (e ∙ c.count-n.ensures)

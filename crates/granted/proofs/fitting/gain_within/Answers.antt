@@ -1,7 +1,7 @@
 -- Legal, and in the range. Assumes nothing.
-use Rattle.granted.specs.steps.NamedSet.{gainWithin}
+use Rattle.granted.specs.steps.NamedSet.{gain_within}
 use Rattle.granted.proofs.fitting.gain_within.Goals as goal
 
 pub returns : goal.returns
-unfolding gainWithin
+unfolding gain_within
 returns c = simp (c.gain_in_range.ensures, c.legal_gain.ensures, c.gain_of-high.ensures, c.gain_of-low.ensures)

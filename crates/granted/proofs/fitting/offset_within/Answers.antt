@@ -2,12 +2,12 @@
 use mathlib.Core.Path.{◌≡◌}
 use mir.Val.{to_z, of_z}
 use mir.Syntax.{w16}
-use Rattle.granted.specs.steps.NamedSet.{offsetWithin}
+use Rattle.granted.specs.steps.NamedSet.{offset_within}
 use borrow.Author.Rules.{rules}
 use Rattle.granted.proofs.fitting.offset_within.Goals as goal
 
 pub returns : goal.returns
-unfolding offsetWithin
+unfolding offset_within
 returns c =
     let p : to_z w16 (of_z w16 c.args.offset) ≡ c.args.offset = search rules in
     let q : to_z w16 (of_z w16 c.signed-low.result) ≡ c.signed-low.result = search rules in

@@ -5,13 +5,13 @@ use mathlib.Core.Bool.{true≢false}
 use mathlib.Core.Logic.{inl, inr}
 use native.Mathlib.Omega.{arith}
 use lib.ListN.{get_or}
-use Rattle.grouping.proofs.LeaderLaws.{lies-inside, others, put}
+use Rattle.grouping.proofs.LeaderLaws.{lies_inside, others, put}
 use Rattle.grouping.proofs.leaders.group_asked.Goals as goal
 
 pub returns-then-seen-h : goal.returns-then-seen-h
 returns-then-seen-h c =
     let a = c.args in let more : a.seen + 1 < get_or a.groups.now a.l 0 = omega (arith, c.if-seen-h.true, c.at-h.ensures) in
-    (refl, λ e at. (lies-inside a.groups.now a.l (omega (arith, more)), λ x k other. refl, inr (inr (more, refl))))
+    (refl, λ e at. (lies_inside a.groups.now a.l (omega (arith, more)), λ x k other. refl, inr (inr (more, refl))))
 
 pub returns-then-h-seen : goal.returns-then-h-seen
 returns-then-h-seen c =

@@ -1,10 +1,10 @@
 use mathlib.Core.Path.{refl, ap, ◌∙◌}
 use native.Mathlib.Omega.{arith}
-use Rattle.sheet.specs.Words.{sheetOf}
+use Rattle.sheet.specs.Words.{sheet_of}
 use Rattle.tables.specs.declared.Naming.TheVariants.{Complements}
-use Rattle.tables.specs.steps.Marks.{firstBy}
+use Rattle.tables.specs.steps.Marks.{first_by}
 use Rattle.tables.specs.steps.Right.{Leaders}
-use Rattle.grouping.proofs.LeaderLaws.{led-more, led-ready}
+use Rattle.grouping.proofs.LeaderLaws.{led_more, led_ready}
 use Rattle.grouping.proofs.programmes.leaders_from.Goals as goal
 
 pub loop-p-init : goal.loop-p-init
@@ -55,13 +55,13 @@ loop-p-smaller c = omega (arith, c.next_other-p.ensures.0, c.loop-p-test.true)
 
 pub loop-p-preserved : goal.loop-p-preserved
 loop-p-preserved c =
-    let a = c.args in let here = c.loop-p in let named = c.first_namers in let enter = c.enter in let asked = c.groups_asked in let cleared = c.mark_objects in let at = c.section_offsets-sections.ensures in let led : Leaders (sheetOf a.s.now) named.new.table = λ x l. named.ensures.1 x l ∙ ap (firstBy (sheetOf a.s.now) Complements x) (c.clear.ensures.1 x (rw named.ensures.0 at l)) in (
+    let a = c.args in let here = c.loop-p in let named = c.first_namers in let enter = c.enter in let asked = c.groups_asked in let cleared = c.mark_objects in let at = c.section_offsets-sections.ensures in let led : Leaders (sheet_of a.s.now) named.new.table = λ x l. named.ensures.1 x l ∙ ap (first_by (sheet_of a.s.now) Complements x) (c.clear.ensures.1 x (rw named.ensures.0 at l)) in (
       asked.ensures.0 ∙ here.invariant.0,
       cleared.ensures.0 ∙ enter.ensures.0 ∙ here.invariant.1,
       λ pass apart full full₂ before.
           let so = here.invariant.2 pass apart full full₂ before in let entered = enter.ensures.1 c.if-not-enter.false at pass.0 in let groups = asked.ensures.1 c.if-not-groups_asked.false at led in (
-            led-ready (sheetOf a.s.now) a.wanted.both a.owners.now a.alike.now here.p here.included enter.new.included here.groups asked.new.groups pass entered so.0 groups asked.ensures.0 c.next_other-p.result cleared.new.table c.next_other-p.ensures.0 enter.ensures.0 cleared.ensures.0 cleared.ensures.1,
-            c.next_other-p.ensures.1 (led-more (sheetOf a.s.now) a.wanted.both a.owners.now a.alike.now here.p here.included enter.new.included here.groups asked.new.groups pass entered so.0 groups asked.ensures.0 apart so.1),
+            led_ready (sheet_of a.s.now) a.wanted.both a.owners.now a.alike.now here.p here.included enter.new.included here.groups asked.new.groups pass entered so.0 groups asked.ensures.0 c.next_other-p.result cleared.new.table c.next_other-p.ensures.0 enter.ensures.0 cleared.ensures.0 cleared.ensures.1,
+            c.next_other-p.ensures.1 (led_more (sheet_of a.s.now) a.wanted.both a.owners.now a.alike.now here.p here.included enter.new.included here.groups asked.new.groups pass entered so.0 groups asked.ensures.0 apart so.1),
           ),
     )
 

@@ -2,9 +2,9 @@ use Prim.Native.Nat.{◌-◌}
 use mathlib.Core.Path.{sym, ◌∙◌}
 use native.Mathlib.Omega.{arith}
 use borrow.Author.Count.{below_more}
-use Rattle.sheet.specs.Words.{sheetOf}
+use Rattle.sheet.specs.Words.{sheet_of}
 use Rattle.grouping.specs.steps.Groups.{ProgrammeKept}
-use Rattle.grouping.proofs.KeptLaws.{same-kept}
+use Rattle.grouping.proofs.KeptLaws.{same_kept}
 use borrow.Author.Rules.{rules}
 use Rattle.grouping.proofs.programmes.next_other.Goals as goal
 
@@ -20,8 +20,8 @@ loop-q-preserved c =
       search rules,
       λ before.
           let so = here.invariant.1 before in
-          below_more (ProgrammeKept (sheetOf a.s.now) a.both) here.q so
-          (same-kept (sheetOf a.s.now) here.q (here.q - 1) a.both (sym c.same_lists.ensures ∙ c.if-not-same_lists.false) (so (here.q - 1) (omega (arith, here.invariant.0)))),
+          below_more (ProgrammeKept (sheet_of a.s.now) a.both) here.q so
+          (same_kept (sheet_of a.s.now) here.q (here.q - 1) a.both (sym c.same_lists.ensures ∙ c.if-not-same_lists.false) (so (here.q - 1) (omega (arith, here.invariant.0)))),
     )
 
 pub returns : goal.returns

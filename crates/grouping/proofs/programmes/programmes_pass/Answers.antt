@@ -4,8 +4,8 @@ use mathlib.Core.Bool.{true≢false}
 use native.Mathlib.Omega.{arith}
 use lib.Seq.{length-take-le}
 use borrow.Author.Tests.{eqb-true}
-use Rattle.sheet.specs.Words.{sheetOf}
-use Rattle.inclusion.proofs.AlikeLaws.{alike-empty}
+use Rattle.sheet.specs.Words.{sheet_of}
+use Rattle.inclusion.proofs.AlikeLaws.{alike_empty}
 use borrow.Author.Rules.{rules}
 use Rattle.grouping.proofs.programmes.programmes_pass.Goals as goal
 
@@ -34,7 +34,7 @@ returns c =
       search rules,
       search rules,
       λ e owns ground p l.
-          kept.ensures.kept (owns, alike-empty (sheetOf a.s.now), λ f. ground.0)
+          kept.ensures.kept (owns, alike_empty (sheet_of a.s.now), λ f. ground.0)
           (length-take-le n.result a.first.now c.if-first-n.false ∙ n.ensures, length-take-le n.result a.second.now c.if-second-n.false ∙ n.ensures, length-take-le n.result a.included.now c.if-included-n.false ∙ n.ensures)
           ground.1 (λ q l. absurd (omega arith)) p (omega (arith, eqb-true kept.result c.count.result e, c.count.ensures, l)),
     )

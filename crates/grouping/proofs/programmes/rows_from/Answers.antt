@@ -1,7 +1,7 @@
 use mathlib.Core.Path.{refl, ◌∙◌}
 use native.Mathlib.Omega.{arith}
-use Rattle.sheet.specs.Words.{sheetOf}
-use Rattle.grouping.proofs.KeptLaws.{programme-more}
+use Rattle.sheet.specs.Words.{sheet_of}
+use Rattle.grouping.proofs.KeptLaws.{programme_more}
 use Rattle.grouping.proofs.programmes.rows_from.Goals as goal
 
 pub loop-p-init : goal.loop-p-init
@@ -43,7 +43,7 @@ loop-p-preserved c =
       enter.ensures.0 ∙ cleared.ensures.0 ∙ here.invariant.0,
       λ pass full before.
           c.next_other-p.ensures.1
-          (programme-more (sheetOf a.s.now) a.wanted.both a.owners.now a.alike.now here.p cleared.new.table enter.new.included pass
+          (programme_more (sheet_of a.s.now) a.wanted.both a.owners.now a.alike.now here.p cleared.new.table enter.new.included pass
           (enter.ensures.1 c.if-not-enter.false at pass.0) cleared.ensures.1 (cleared.ensures.0 ∙ here.invariant.0 ∙ full)
           (c.groups_kept.ensures c.if-not-groups_kept.false at c.list_leaders-g.ensures.2) (here.invariant.1 pass full before)),
     )

@@ -1,16 +1,16 @@
 use native.Mathlib.Omega.{arith}
-use Rattle.sheet.specs.Words.{sheetOf}
-use Rattle.inclusion.proofs.PassLaws.{sets-own}
+use Rattle.sheet.specs.Words.{sheet_of}
+use Rattle.inclusion.proofs.PassLaws.{sets_own}
 use Rattle.inclusion.proofs.alike.first_alike.Goals as goal
 
 pub returns-then-from-gt65527 : goal.returns-then-from-gt65527
-returns-then-from-gt65527 c = (λ l. l, λ at. sets-own (sheetOf c.args.s.now) c.args.v)
+returns-then-from-gt65527 c = (λ l. l, λ at. sets_own (sheet_of c.args.s.now) c.args.v)
 
 pub returns-then-n-i : goal.returns-then-n-i
-returns-then-n-i c = (λ l. l, λ at. sets-own (sheetOf c.args.s.now) c.args.v)
+returns-then-n-i c = (λ l. l, λ at. sets_own (sheet_of c.args.s.now) c.args.v)
 
 pub returns-then-not-sets_differ : goal.returns-then-not-sets_differ
 returns-then-not-sets_differ c = (λ l. omega arith, λ at. c.sets_differ.ensures c.if-not-sets_differ.true at)
 
 pub returns : goal.returns
-returns c = (λ l. l, λ at. sets-own (sheetOf c.args.s.now) c.args.v)
+returns c = (λ l. l, λ at. sets_own (sheet_of c.args.s.now) c.args.v)

@@ -1,11 +1,11 @@
 use mathlib.Core.Path.{◌≡◌, refl, sym, ◌∙◌}
 use mathlib.Core.Bool.{true≢false}
 use native.Mathlib.Omega.{arith}
-use Rattle.sheet.specs.Words.{sheetOf}
+use Rattle.sheet.specs.Words.{sheet_of}
 use Rattle.sheet.specs.Layout.{number}
-use Rattle.sheet.specs.Fields.{programmes, contentList}
-use Rattle.inclusion.specs.steps.Entering.{objectAt}
-use Rattle.inclusion.proofs.PassLaws.{changed-none, changed-more, object-entry}
+use Rattle.sheet.specs.Fields.{programmes, content_list}
+use Rattle.inclusion.specs.steps.Entering.{object_at}
+use Rattle.inclusion.proofs.PassLaws.{changed_none, changed_more, object_entry}
 use borrow.Author.Rules.{rules}
 use Rattle.inclusion.proofs.entering.enter_objects.Goals as goal
 
@@ -14,7 +14,7 @@ returns-then-word_count-sections c = (refl, λ e. absurd (true≢false (sym e)))
 
 pub loop-i-init : goal.loop-i-init
 loop-i-init c =
-    let a = c.args in (search rules, refl, λ at. changed-none (objectAt (sheetOf a.s.now) a.p) 0 1 a.included.now)
+    let a = c.args in (search rules, refl, λ at. changed_none (object_at (sheet_of a.s.now) a.p) 0 1 a.included.now)
 
 pub shape_of-included-then-not-change : goal.shape_of-included-then-not-change
 shape_of-included-then-not-change c = c.change.ensures.0 ∙ c.loop-i.invariant.1
@@ -28,8 +28,8 @@ loop-i-preserved c =
       search rules,
       changed.ensures.0 ∙ here.invariant.1,
       λ at.
-          changed-more (objectAt (sheetOf a.s.now) a.p) 0 1 a.included.now refl here.included changed.new.table here.i object.result
-          (object.ensures ∙ object-entry (sheetOf a.s.now) a.sections from.result a.p here.i at from.ensures)
+          changed_more (object_at (sheet_of a.s.now) a.p) 0 1 a.included.now refl here.included changed.new.table here.i object.result
+          (object.ensures ∙ object_entry (sheet_of a.s.now) a.sections from.result a.p here.i at from.ensures)
           here.invariant.1 changed.ensures.0 (here.invariant.2 at) now.0 now.1 now.2,
     )
 
@@ -38,5 +38,5 @@ shape_of-included c = c.loop-i.invariant.1
 
 pub returns : goal.returns
 returns c =
-    let a = c.args in let z : c.loop-i.i ≡ number (sheetOf a.s.now) programmes a.p contentList = omega (arith, c.loop-i.invariant.0, c.number-n.ensures, c.loop-i-test.false) in
+    let a = c.args in let z : c.loop-i.i ≡ number (sheet_of a.s.now) programmes a.p content_list = omega (arith, c.loop-i.invariant.0, c.number-n.ensures, c.loop-i-test.false) in
     (c.loop-i.invariant.1, λ e at. rw z at (c.loop-i.invariant.2 at))

@@ -5,10 +5,10 @@ use mathlib.Core.Logic.{⊎_elim, inl, inr}
 use native.Mathlib.Omega.{arith}
 use borrow.Author.Count.{below_more}
 use lib.ListN.{get_or}
-use Rattle.sheet.specs.Words.{sheetOf}
+use Rattle.sheet.specs.Words.{sheet_of}
 use Rattle.inclusion.specs.steps.Groups.{GroupKept}
 use Rattle.inclusion.specs.steps.Rows.{RowKept}
-use Rattle.inclusion.proofs.RowLaws.{rows-kept}
+use Rattle.inclusion.proofs.RowLaws.{rows_kept}
 use borrow.Author.Rules.{rules}
 use Rattle.inclusion.proofs.groups.groups_kept.Goals as goal
 use Rattle.inclusion.proofs.groups.groups_kept.Goals.{then-not-row_passes+else-not-row_kept, else-not-row_passes}
@@ -30,7 +30,7 @@ returns-then-not-row_kept c = λ e. absurd (true≢false (sym e))
 
 pub loop-i-preserved : goal.loop-i-preserved
 loop-i-preserved c =
-    let a = c.args in let i : ℕ = c.loop-i.i in let Kept : ℕ → Type 0 = GroupKept (sheetOf a.s.now) a.included.now in let P : ℕ → Type 0 = λ j. RowKept (sheetOf a.s.now) a.included.now (get_or a.leading.now j 0) (get_or a.partners.now j 0) in
+    let a = c.args in let i : ℕ = c.loop-i.i in let Kept : ℕ → Type 0 = GroupKept (sheet_of a.s.now) a.included.now in let P : ℕ → Type 0 = λ j. RowKept (sheet_of a.s.now) a.included.now (get_or a.leading.now j 0) (get_or a.partners.now j 0) in
     let few : a.g < 65535 = omega arith in (
       search rules,
       λ at listed.
@@ -51,4 +51,4 @@ loop-i-preserved c =
 pub returns : goal.returns
 returns c =
     let a = c.args in let here = c.loop-i in let z : here.i ≡ a.g = omega (arith, here.invariant.0, c.loop-i-test.false) in
-    λ e at listed. rows-kept (sheetOf a.s.now) a.included.now a.leading.now a.partners.now a.g (omega arith) listed (rw z at (here.invariant.1 at listed).1)
+    λ e at listed. rows_kept (sheet_of a.s.now) a.included.now a.leading.now a.partners.now a.g (omega arith) listed (rw z at (here.invariant.1 at listed).1)

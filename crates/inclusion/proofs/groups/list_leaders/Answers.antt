@@ -1,6 +1,6 @@
 use mathlib.Core.Path.{◌≡◌, refl, ◌∙◌}
 use native.Mathlib.Omega.{arith}
-use Rattle.sheet.specs.Words.{sheetOf}
+use Rattle.sheet.specs.Words.{sheet_of}
 use Rattle.sheet.specs.Layout.{count}
 use Rattle.sheet.specs.Fields.{objects}
 use borrow.Author.Rules.{rules}
@@ -21,5 +21,5 @@ shape_of-partners c = c.loop-l.invariant.2
 
 pub returns : goal.returns
 returns c =
-    let here = c.loop-l in let z : here.l ≡ count (sheetOf c.args.s.now) objects = omega (arith, here.invariant.0, c.count-n.ensures, c.loop-l-test.false) in
+    let here = c.loop-l in let z : here.l ≡ count (sheet_of c.args.s.now) objects = omega (arith, here.invariant.0, c.count-n.ensures, c.loop-l-test.false) in
     (here.invariant.1, here.invariant.2, λ few. rw z at (here.invariant.3 few))

@@ -3,16 +3,16 @@ use native.Mathlib.Omega.{arith}
 use native.Mathlib.Nat.{add-zero}
 use native.Mathlib.Numerals.{add-one}
 use borrow.Author.Tests.{leb-true}
-use Rattle.profile.specs.Counting.{howMany}
+use Rattle.profile.specs.Counting.{how_many}
 use borrow.Author.Rules.{rules}
 use Rattle.inclusion.proofs.groups.one_included.Goals as goal
 
 pub loop-i-init : goal.loop-i-init
-unfolding howMany
+unfolding how_many
 loop-i-init c = (search rules, omega (arith, c.one-many.ensures.1), c.one-many.ensures.0 ∙ sym (add-zero _))
 
 pub loop-i-preserved : goal.loop-i-preserved
-unfolding howMany
+unfolding how_many
 loop-i-preserved c =
     let before = c.loop-i.invariant in (search rules, omega (arith, before.1, c.one.ensures.1), rw (add-one, c.one.ensures.0, before.2, c.at-c.ensures, c.word.ensures) (omega arith))
 

@@ -1,12 +1,12 @@
 -- The members passed are counted. Assumes nothing.
 use Prim.Native.Nat.{◌+◌, ◌-◌, ◌≤◌}
 use mathlib.Core.Path.{◌≡◌}
-use Rattle.sheet.specs.Words.{sheetOf}
-use Rattle.inclusion.specs.steps.Groups.{manyListed}
+use Rattle.sheet.specs.Words.{sheet_of}
+use Rattle.inclusion.specs.steps.Groups.{many_listed}
 use Rattle.inclusion.proofs.groups.one_included.Given as goal
 
 abbrev pub invariant-loop-i : goal.invariant-loop-i
-invariant-loop-i l = (l.i ≤ l.n) × (l.many ≤ l.i + 1) × (l.many ≡ manyListed (sheetOf l.s) l.included l.base l.first l.i l.e)
+invariant-loop-i l = (l.i ≤ l.n) × (l.many ≤ l.i + 1) × (l.many ≡ many_listed (sheet_of l.s) l.included l.base l.first l.i l.e)
 
 abbrev pub decreases-loop-i : goal.decreases-loop-i
 decreases-loop-i l = l.n - l.i

@@ -1,7 +1,7 @@
 -- By the bytes. Assumes nothing.
 use mathlib.Core.Path.{sym, ◌∙◌}
 use mathlib.Core.Bool.{true≢false}
-use Rattle.inclusion.proofs.PassLaws.{bytes-alike}
+use Rattle.inclusion.proofs.PassLaws.{bytes_alike}
 use Rattle.inclusion.proofs.sets.sets_differ.Goals as goal
 
 pub returns-then-s-a : goal.returns-then-s-a
@@ -11,4 +11,4 @@ pub returns-then-s-b : goal.returns-then-s-b
 returns-then-s-b c = λ e. absurd (true≢false e)
 
 pub returns : goal.returns
-returns c = λ e at. bytes-alike c.args.s.now c.args.base c.args.u c.args.v at c.if-s-a.false c.if-s-b.false (sym c.bytes_differ.ensures ∙ e)
+returns c = λ e at. bytes_alike c.args.s.now c.args.base c.args.u c.args.v at c.if-s-a.false c.if-s-b.false (sym c.bytes_differ.ensures ∙ e)

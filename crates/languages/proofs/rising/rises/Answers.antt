@@ -5,11 +5,11 @@ use native.Mathlib.Numerals.{add-one}
 use mathlib.Core.Path.{◌≡◌}
 use lib.ListN.{length}
 use Rattle.profile.specs.Counting.{any}
-use Rattle.languages.proofs.RisingLaws.{bits-or, few-rise, rises-by-bytes}
+use Rattle.languages.proofs.RisingLaws.{bits_or, few_rise, rises_by_bytes}
 use Rattle.languages.proofs.rising.rises.Goals as goal
 
 pub returns-then-m-lt4 : goal.returns-then-m-lt4
-returns-then-m-lt4 c = few-rise c.args.langs.now c.if-m-lt4.true
+returns-then-m-lt4 c = few_rise c.args.langs.now c.if-m-lt4.true
 
 pub loop-j-init : goal.loop-j-init
 unfolding any
@@ -17,8 +17,8 @@ loop-j-init c = (omega arith, refl)
 
 pub loop-j-preserved : goal.loop-j-preserved
 unfolding any
-loop-j-preserved c = (omega (arith, c.loop-j-test.true), rw (c.loop-j.invariant.1, c.fall_bit-found.ensures, add-one) (bits-or _ _))
+loop-j-preserved c = (omega (arith, c.loop-j-test.true), rw (c.loop-j.invariant.1, c.fall_bit-found.ensures, add-one) (bits_or _ _))
 
 pub returns : goal.returns
-returns c = rises-by-bytes c.args.langs.now (λ i. omega (arith, c.type_inv.langs i)) (omega (arith, c.if-m-lt4.false)) c.loop-j.found
+returns c = rises_by_bytes c.args.langs.now (λ i. omega (arith, c.type_inv.langs i)) (omega (arith, c.if-m-lt4.false)) c.loop-j.found
     (let e : c.loop-j.j ≡ length c.args.langs.now - 3 = omega (arith, c.loop-j-test.false, c.loop-j.invariant.0) in rw e at c.loop-j.invariant.1)

@@ -3,25 +3,25 @@ use native.Mathlib.Omega.{arith}
 use mathlib.Core.Bool.{cond, ◌&&◌}
 use lib.Dec.{ltb}
 use lib.ListN.{length, get_or, set}
-use Rattle.values.specs.Language.{threeLetters}
-use Rattle.profile.specs.Languages.{isListed}
-use Rattle.sheet.specs.Words.{sheetOf, words, word, wordCount}
-use Rattle.languages.proofs.TableLaws.{tabled-first, tabled-more}
+use Rattle.values.specs.Language.{three_letters}
+use Rattle.profile.specs.Languages.{is_listed}
+use Rattle.sheet.specs.Words.{sheet_of, words, word, word_count}
+use Rattle.languages.proofs.TableLaws.{tabled_first, tabled_more}
 use Rattle.languages.proofs.table.fill.Goals as goal
 
 pub loop-i-init : goal.loop-i-init
-loop-i-init c = (omega arith, refl, tabled-first (words c.args.langs.now) 27483)
+loop-i-init c = (omega arith, refl, tabled_first (words c.args.langs.now) 27483)
 
 pub loop-i-preserved : goal.loop-i-preserved
-unfolding sheetOf word
+unfolding sheet_of word
 loop-i-preserved c =
     let l = c.loop-i in let langs = words c.args.langs.now in
     let v : c.word.result ≡ get_or langs l.i 0 = c.word.ensures in
-    let e : c.mark_code.new.table ≡ cond (threeLetters (get_or langs l.i 0) && ltb (get_or langs l.i 0) (length l.table)) (set l.table (get_or langs l.i 0) 1) l.table = rw v at c.mark_code.ensures in
-    (omega (arith, c.loop-i-test.true), c.mark_code.array_long, rw e (tabled-more langs l.i l.table l.invariant.2))
+    let e : c.mark_code.new.table ≡ cond (three_letters (get_or langs l.i 0) && ltb (get_or langs l.i 0) (length l.table)) (set l.table (get_or langs l.i 0) 1) l.table = rw v at c.mark_code.ensures in
+    (omega (arith, c.loop-i-test.true), c.mark_code.array_long, rw e (tabled_more langs l.i l.table l.invariant.2))
 
 pub returns : goal.returns
-unfolding isListed sheetOf wordCount
+unfolding is_listed sheet_of word_count
 returns c =
     let l = c.loop-i in let langs = words c.args.langs.now in
     let n : c.word_count-n.result ≡ length langs = c.word_count-n.ensures in

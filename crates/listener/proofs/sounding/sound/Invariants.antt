@@ -3,27 +3,27 @@ use Prim.Native.Nat.{◌-◌, ◌≤◌}
 use mathlib.Core.Path.{◌≡◌}
 use mathlib.Core.Bool.{cond, ◌&&◌, ◌||◌}
 use lib.Dec.{ltb}
-use Rattle.sheet.specs.Words.{sheetOf}
+use Rattle.sheet.specs.Words.{sheet_of}
 use Rattle.profile.specs.Counting.{every}
-use Rattle.listener.specs.State.{stateObjects, setting, active as isActive, isResting}
-use Rattle.listener.specs.steps.Settings.{flaggedSound}
+use Rattle.listener.specs.State.{state_objects, setting, active as is_active, is_resting}
+use Rattle.listener.specs.steps.Settings.{flagged_sound}
 use Rattle.listener.proofs.FillLaws.{Begun}
 use Rattle.listener.proofs.sounding.sound.Given as goal
 
 abbrev pub invariant-loop-o : goal.invariant-loop-o
-invariant-loop-o l = (l.o ≤ l.n) × Begun stateObjects (λ q. cond (isActive l.state q) 1 0) 0 0 l.active l.o
+invariant-loop-o l = (l.o ≤ l.n) × Begun state_objects (λ q. cond (is_active l.state q) 1 0) 0 0 l.active l.o
 
 abbrev pub decreases-loop-o : goal.decreases-loop-o
 decreases-loop-o l = l.n - l.o
 
 abbrev pub invariant-loop-o-2 : goal.invariant-loop-o-2
-invariant-loop-o-2 l = (l.o ≤ l.n) × (l.good ≡ every (λ q. flaggedSound (sheetOf l.s) l.state.programme l.active q (setting l.state q)) l.o)
+invariant-loop-o-2 l = (l.o ≤ l.n) × (l.good ≡ every (λ q. flagged_sound (sheet_of l.s) l.state.programme l.active q (setting l.state q)) l.o)
 
 abbrev pub decreases-loop-o-2 : goal.decreases-loop-o-2
 decreases-loop-o-2 l = l.n - l.o
 
 abbrev pub invariant-loop-o-3 : goal.invariant-loop-o-3
-invariant-loop-o-3 l = (l.o ≤ stateObjects) × (l.n ≤ l.o) × (l.good ≡ (l.initial.good && every (λ q. ltb q l.n || isResting (setting l.state q)) l.o))
+invariant-loop-o-3 l = (l.o ≤ state_objects) × (l.n ≤ l.o) × (l.good ≡ (l.initial.good && every (λ q. ltb q l.n || is_resting (setting l.state q)) l.o))
 
 abbrev pub decreases-loop-o-3 : goal.decreases-loop-o-3
-decreases-loop-o-3 l = stateObjects - l.o
+decreases-loop-o-3 l = state_objects - l.o

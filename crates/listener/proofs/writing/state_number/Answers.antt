@@ -2,9 +2,9 @@ use mathlib.Core.Path.{◌≡◌, refl, ap, ◌∙◌}
 use native.Mathlib.Omega.{arith}
 use native.Mathlib.Numerals.{add-one}
 use Rattle.profile.specs.Counting.{sum}
-use Rattle.listener.specs.State.{stateObjects}
-use Rattle.listener.specs.steps.Tracks.{numberWhen, stateNumber}
-use Rattle.listener.proofs.StepLaws.{element-active}
+use Rattle.listener.specs.State.{state_objects}
+use Rattle.listener.specs.steps.Tracks.{number_when, state_number}
+use Rattle.listener.proofs.StepLaws.{element_active}
 use borrow.Author.Rules.{rules}
 use Rattle.listener.proofs.writing.state_number.Goals as goal
 
@@ -16,13 +16,13 @@ pub overflow_add-total : goal.overflow_add-total
 overflow_add-total c = omega (arith, c.number_when-total.ensures.1)
 
 pub loop-o-preserved : goal.loop-o-preserved
-unfolding sum numberWhen
+unfolding sum number_when
 loop-o-preserved c = (
   search rules,
   omega (arith, c.number_when-total.ensures.1),
-  let l = c.loop-o in rw (add-one, c.number_when-total.ensures.0, element-active c.args.state l.o c.loop-o-test.true, l.invariant.2),
+  let l = c.loop-o in rw (add-one, c.number_when-total.ensures.0, element_active c.args.state l.o c.loop-o-test.true, l.invariant.2),
 )
 
 pub returns : goal.returns
-unfolding stateNumber
-returns c = let e : c.loop-o.o ≡ stateObjects = omega arith in c.loop-o.invariant.2 ∙ ap (sum _) e
+unfolding state_number
+returns c = let e : c.loop-o.o ≡ state_objects = omega arith in c.loop-o.invariant.2 ∙ ap (sum _) e

@@ -1,13 +1,13 @@
 -- The objects passed are written, one behind the other. Assumes nothing.
 use Prim.Native.Nat.{◌-◌}
-use Rattle.sheet.specs.Words.{sheetOf}
-use Rattle.listener.specs.State.{stateObjects}
-use Rattle.listener.specs.steps.Tracks.{tracksWhen}
+use Rattle.sheet.specs.Words.{sheet_of}
+use Rattle.listener.specs.State.{state_objects}
+use Rattle.listener.specs.steps.Tracks.{tracks_when}
 use Rattle.listener.proofs.WrittenLaws.{Written}
 use Rattle.listener.proofs.writing.write_state.Given as goal
 
 abbrev pub invariant-loop-o : goal.invariant-loop-o
-invariant-loop-o l = Written (tracksWhen (sheetOf l.s) l.state) stateObjects 0 l.initial.buffer l.buffer l.pos l.o
+invariant-loop-o l = Written (tracks_when (sheet_of l.s) l.state) state_objects 0 l.initial.buffer l.buffer l.pos l.o
 
 abbrev pub decreases-loop-o : goal.decreases-loop-o
-decreases-loop-o l = stateObjects - l.o
+decreases-loop-o l = state_objects - l.o

@@ -3,7 +3,7 @@ use native.Mathlib.Omega.{arith}
 use native.Mathlib.Numerals.{add-one}
 use Rattle.profile.specs.Counting.{any}
 use borrow.Author.Rules.{rules}
-use Rattle.lists.specs.steps.Entries.{lackingAt}
+use Rattle.lists.specs.steps.Entries.{lacking_at}
 use Rattle.lists.proofs.entries.any_lacking.Goals as goal
 
 pub loop-i-init : goal.loop-i-init
@@ -11,7 +11,7 @@ unfolding any
 loop-i-init c = (search rules, refl)
 
 pub loop-i-preserved : goal.loop-i-preserved
-unfolding any lackingAt
+unfolding any lacking_at
 loop-i-preserved c = (search rules, rw (add-one, c.entry_at.ensures, c.loop-i.invariant.1))
 
 pub returns : goal.returns

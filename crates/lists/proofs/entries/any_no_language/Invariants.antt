@@ -2,12 +2,12 @@
 use Prim.Native.Nat.{◌-◌, ◌≤◌}
 use mathlib.Core.Path.{◌≡◌}
 use Rattle.profile.specs.Counting.{any}
-use Rattle.sheet.specs.Words.{sheetOf}
-use Rattle.lists.specs.steps.Entries.{noLanguageAt}
+use Rattle.sheet.specs.Words.{sheet_of}
+use Rattle.lists.specs.steps.Entries.{no_language_at}
 use Rattle.lists.proofs.entries.any_no_language.Given as goal
 
 abbrev pub invariant-loop-i : goal.invariant-loop-i
-invariant-loop-i l = (l.i ≤ l.n) × (l.found ≡ any (noLanguageAt (sheetOf l.s) l.langs l.base l.first) l.i)
+invariant-loop-i l = (l.i ≤ l.n) × (l.found ≡ any (no_language_at (sheet_of l.s) l.langs l.base l.first) l.i)
 
 abbrev pub decreases-loop-i : goal.decreases-loop-i
 decreases-loop-i l = l.n - l.i

@@ -3,7 +3,7 @@ use native.Mathlib.Omega.{arith}
 use native.Mathlib.Numerals.{add-one}
 use Rattle.profile.specs.Counting.{any}
 use borrow.Author.Rules.{rules}
-use Rattle.lists.specs.steps.Entries.{outOfOrderAt}
+use Rattle.lists.specs.steps.Entries.{out_of_order_at}
 use Rattle.lists.proofs.entries.any_out_of_order.Goals as goal
 
 pub loop-i-init : goal.loop-i-init
@@ -11,7 +11,7 @@ unfolding any
 loop-i-init c = (search rules, refl)
 
 pub loop-i-preserved : goal.loop-i-preserved
-unfolding any outOfOrderAt
+unfolding any out_of_order_at
 loop-i-preserved c = (search rules, rw (add-one, c.field-in-loop-i.ensures, c.field.ensures, c.count-many.ensures, c.entry_at-t.ensures, c.loop-i.invariant.1))
 
 pub returns : goal.returns

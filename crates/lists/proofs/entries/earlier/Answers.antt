@@ -3,7 +3,7 @@ use native.Mathlib.Omega.{arith}
 use native.Mathlib.Numerals.{add-one}
 use Rattle.profile.specs.Counting.{any}
 use borrow.Author.Rules.{rules}
-use Rattle.lists.specs.steps.Entries.{sameAt}
+use Rattle.lists.specs.steps.Entries.{same_at}
 use Rattle.lists.proofs.entries.earlier.Goals as goal
 
 pub loop-i-init : goal.loop-i-init
@@ -11,7 +11,7 @@ unfolding any
 loop-i-init c = (search rules, refl)
 
 pub loop-i-preserved : goal.loop-i-preserved
-unfolding any sameAt
+unfolding any same_at
 loop-i-preserved c = (search rules, rw (add-one, c.entry_at.ensures, c.entry_at-y.ensures, c.loop-i.invariant.1))
 
 pub returns : goal.returns

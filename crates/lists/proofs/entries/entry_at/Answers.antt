@@ -1,7 +1,7 @@
 -- The word there. Assumes nothing.
-use Rattle.lists.specs.steps.Entries.{entryAt}
+use Rattle.lists.specs.steps.Entries.{entry_at}
 use Rattle.lists.proofs.entries.entry_at.Goals as goal
 
 pub returns : goal.returns
-unfolding entryAt
+unfolding entry_at
 returns c = c.word.ensures

@@ -1,37 +1,37 @@
 use Prim.Native.Nat.{◌<◌}
 use mathlib.Core.Path.{◌≡◌, refl, sym, ap, ◌∙◌}
 use mathlib.Core.Bool.{not, true≢false}
-use Rattle.sheet.specs.Words.{sheetOf}
+use Rattle.sheet.specs.Words.{sheet_of}
 use borrow.Author.Rules.{rules}
 use native.Mathlib.Omega.{arith}
 use native.Mathlib.Numerals.{add-one}
 use lib.Dec.{leb}
 use borrow.Author.Tests.{leb-false}
-use Rattle.profile.specs.Counting.{any, twoOf}
-use Rattle.profile.proofs.BoolLaws.{or-none}
-use Rattle.lists.specs.steps.Entries.{entryAt, noLanguageAt, sameAt}
-use Rattle.lists.proofs.RisingLaws.{below-none, below-more, not-earlier}
+use Rattle.profile.specs.Counting.{any, two_of}
+use Rattle.profile.proofs.BoolLaws.{or_none}
+use Rattle.lists.specs.steps.Entries.{entry_at, no_language_at, same_at}
+use Rattle.lists.proofs.RisingLaws.{below_none, below_more, not_earlier}
 use Rattle.lists.proofs.entries.labels_rise.Goals as goal
 
 pub loop-i-init : goal.loop-i-init
 unfolding any
-loop-i-init c = (search rules, below-none (entryAt (sheetOf c.args.s.now) c.args.base c.args.first) 0, refl, refl)
+loop-i-init c = (search rules, below_none (entry_at (sheet_of c.args.s.now) c.args.base c.args.first) 0, refl, refl)
 
 pub returns-then-x-last : goal.returns-then-x-last
 returns-then-x-last c = λ e. absurd (true≢false (sym e))
 
 pub loop-i-preserved : goal.loop-i-preserved
-unfolding any noLanguageAt sameAt
+unfolding any no_language_at same_at
 loop-i-preserved c =
-    let l = c.loop-i in let a = c.args in let entry = entryAt (sheetOf a.s.now) a.base a.first in
-    let x = c.entry_at-x in let p = or-none (leb x.result l.last) (not c.good.result) c.if-x-last.false in
+    let l = c.loop-i in let a = c.args in let entry = entry_at (sheet_of a.s.now) a.base a.first in
+    let x = c.entry_at-x in let p = or_none (leb x.result l.last) (not c.good.result) c.if-x-last.false in
     let h : l.last < entry l.i = rw x.ensures at (leb-false x.result l.last p.0) in (
       search rules,
-      rw x.ensures (below-more entry l.i l.last l.invariant.1 h),
+      rw x.ensures (below_more entry l.i l.last l.invariant.1 h),
       rw (add-one, l.invariant.2, sym x.ensures, sym c.good.ensures, p.1) refl,
-      rw (add-one, l.invariant.3, not-earlier entry l.i l.last l.invariant.1 h) refl,
+      rw (add-one, l.invariant.3, not_earlier entry l.i l.last l.invariant.1 h) refl,
     )
 
 pub returns : goal.returns
-unfolding twoOf
+unfolding two_of
 returns c = let e : c.loop-i.i ≡ c.args.n = omega arith in λ z. (sym (ap (any _) e) ∙ c.loop-i.invariant.2, sym (ap (any _) e) ∙ c.loop-i.invariant.3)

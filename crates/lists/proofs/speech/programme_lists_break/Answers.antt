@@ -1,9 +1,9 @@
 -- Each test is its callee's. Assumes nothing.
 use Rattle.profile.specs.Rules.{outside}
-use Rattle.lists.specs.steps.Speech.{programmeListsBroken}
+use Rattle.lists.specs.steps.Speech.{programme_lists_broken}
 use Rattle.lists.proofs.speech.programme_lists_break.Goals as goal
 
 pub returns : goal.returns
-unfolding programmeListsBroken outside
+unfolding programme_lists_broken outside
 returns c =
     simp (c.any_lacking-2.ensures, c.count-2.ensures, c.any_lacking.ensures, c.count.ensures, c.exceeds-2.ensures, c.exceeds.ensures, c.beyond-2.ensures, c.beyond.ensures, c.count-many.ensures, c.offset-base.ensures)

@@ -2,7 +2,7 @@
 use mathlib.Core.Path.{sym}
 use borrow.Author.Rules.{rules}
 use Rattle.profile.specs.Limits.{limit, limits}
-use Rattle.profile.proofs.LimitLaws.{past-columns, past-rows}
+use Rattle.profile.proofs.LimitLaws.{past_columns, past_rows}
 use mathlib.Core.Path.{sym}
 use Rattle.profile.proofs.limits.limit.Goals as goal
 
@@ -12,8 +12,8 @@ returns-then-c-lt15 c = rw c.row-r.ensures
 
 pub returns-else-c-lt15 : goal.returns-else-c-lt15
 unfolding limit
-returns-else-c-lt15 c = sym (past-columns _ _ (search rules))
+returns-else-c-lt15 c = sym (past_columns _ _ (search rules))
 
 pub returns-else-r-lt2 : goal.returns-else-r-lt2
 unfolding limit
-returns-else-r-lt2 c = rw (← c.row-r.ensures) (sym (past-rows _ _ (search rules)))
+returns-else-r-lt2 c = rw (← c.row-r.ensures) (sym (past_rows _ _ (search rules)))

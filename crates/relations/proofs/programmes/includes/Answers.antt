@@ -1,9 +1,9 @@
 use mathlib.Core.Path.{◌≡◌, refl, ap, ◌∙◌}
 use native.Mathlib.Omega.{arith}
 use native.Mathlib.Numerals.{add-one}
-use Rattle.sheet.specs.Words.{sheetOf}
+use Rattle.sheet.specs.Words.{sheet_of}
 use Rattle.sheet.specs.Layout.{number}
-use Rattle.sheet.specs.Fields.{programmes, contentList}
+use Rattle.sheet.specs.Fields.{programmes, content_list}
 use Rattle.profile.specs.Counting.{any}
 use Rattle.profile.specs.Relations.{includes}
 use borrow.Author.Rules.{rules}
@@ -19,4 +19,4 @@ loop-i-preserved c = (search rules, rw (add-one, c.loop-i.invariant.1, c.field.e
 
 pub returns : goal.returns
 unfolding includes
-returns c = let e : c.loop-i.i ≡ number (sheetOf c.args.s.now) programmes c.args.p contentList = omega (arith, c.number-n.ensures, c.loop-i-test.false, c.loop-i.invariant.0) in c.loop-i.invariant.1 ∙ ap (any _) e
+returns c = let e : c.loop-i.i ≡ number (sheet_of c.args.s.now) programmes c.args.p content_list = omega (arith, c.number-n.ensures, c.loop-i-test.false, c.loop-i.invariant.0) in c.loop-i.invariant.1 ∙ ap (any _) e

@@ -1,7 +1,7 @@
 -- The object's word, or 0. Assumes nothing.
-use Rattle.profile.specs.Relations.{ownValue}
+use Rattle.profile.specs.Relations.{own_value}
 use Rattle.relations.proofs.sets.own_value.Goals as goal
 
 pub returns : goal.returns
-unfolding ownValue
+unfolding own_value
 returns c = simp (c.or_else.ensures, c.field.ensures, c.object_value.ensures)

@@ -2,7 +2,7 @@ use mathlib.Core.Path.{◌≡◌, refl, ap, ◌∙◌}
 use native.Mathlib.Omega.{arith}
 use native.Mathlib.Numerals.{add-one}
 use Rattle.profile.specs.Counting.{sum}
-use Rattle.relations.specs.steps.Sizes.{childrenTracks}
+use Rattle.relations.specs.steps.Sizes.{children_tracks}
 use borrow.Author.Rules.{rules}
 use Rattle.relations.proofs.sizes.children_tracks.Goals as goal
 
@@ -22,7 +22,7 @@ loop-i-preserved c = (
 )
 
 pub returns : goal.returns
-unfolding childrenTracks
+unfolding children_tracks
 returns c =
     let e : c.loop-i.i ≡ c.number-n.result = omega arith in
     c.loop-i.invariant.2 ∙ ap (sum _) (e ∙ c.number-n.ensures)

@@ -2,7 +2,7 @@ use mathlib.Core.Path.{◌≡◌, refl, ap, ◌∙◌}
 use native.Mathlib.Omega.{arith}
 use native.Mathlib.Numerals.{add-one}
 use Rattle.profile.specs.Counting.{largest}
-use Rattle.relations.specs.steps.Sizes.{largestMember}
+use Rattle.relations.specs.steps.Sizes.{largest_member}
 use borrow.Author.Rules.{rules}
 use Rattle.relations.proofs.sizes.largest_member.Goals as goal
 
@@ -15,7 +15,7 @@ unfolding largest
 loop-i-preserved c = (search rules, rw (add-one, c.larger-most.ensures, c.size.ensures, c.member.ensures, c.loop-i.invariant.1))
 
 pub returns : goal.returns
-unfolding largestMember
+unfolding largest_member
 returns c =
     let e : c.loop-i.i ≡ c.members-n.result = omega arith in
     c.loop-i.invariant.1 ∙ ap (largest _) (e ∙ c.members-n.ensures.0)

@@ -1,9 +1,9 @@
 -- A complement that passes the test. Assumes nothing.
 use Rattle.profile.specs.Rules.{rule19}
-use Rattle.rules.specs.steps.Loops.{anyTabled}
+use Rattle.rules.specs.steps.Loops.{any_tabled}
 use Rattle.sheet.specs.Layout.{entry}
 use Rattle.rules.proofs.groups.rule19.Goals as goal
 
 pub returns : goal.returns
-unfolding rule19 anyTabled entry
+unfolding rule19 any_tabled entry
 returns c = λ tops complements. rw (c.field.ensures, c.number.ensures) at (c.any_tabled.ensures (tops, complements))

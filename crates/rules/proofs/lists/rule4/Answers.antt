@@ -1,17 +1,17 @@
 -- The lists of each section. Assumes nothing.
 use Rattle.profile.specs.Rules.{rule4}
-use Rattle.profile.proofs.BoolLaws.{or-false}
+use Rattle.profile.proofs.BoolLaws.{or_false}
 use native.Mathlib.Omega.{arith}
 use borrow.Author.Tests.{ne_eqb}
 use Rattle.rules.proofs.lists.rule4.Goals as goal
 
 pub returns-in-1 : goal.returns-in-1
 unfolding rule4
-returns-in-1 c = simp (c.beyond-in-1-2.ensures, c.beyond-in-1.ensures, c.beyond.ensures, c.in-1.is, or-false)
+returns-in-1 c = simp (c.beyond-in-1-2.ensures, c.beyond-in-1.ensures, c.beyond.ensures, c.in-1.is, or_false)
 
 pub returns-in-2 : goal.returns-in-2
 unfolding rule4
-returns-in-2 c = simp (c.beyond-in-2.ensures, c.in-2.is, or-false)
+returns-in-2 c = simp (c.beyond-in-2.ensures, c.in-2.is, or_false)
 
 pub returns-in-3 : goal.returns-in-3
 unfolding rule4
@@ -19,4 +19,4 @@ returns-in-3 c = simp (c.beyond-in-3-4.ensures, c.beyond-in-3-3.ensures, c.beyon
 
 pub returns-in_default : goal.returns-in_default
 unfolding rule4
-returns-in_default c = simp (ne_eqb c.args.section 1 (omega arith), ne_eqb c.args.section 2 (omega arith), ne_eqb c.args.section 3 (omega arith), or-false)
+returns-in_default c = simp (ne_eqb c.args.section 1 (omega arith), ne_eqb c.args.section 2 (omega arith), ne_eqb c.args.section 3 (omega arith), or_false)

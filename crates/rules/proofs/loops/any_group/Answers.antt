@@ -2,7 +2,7 @@ use mathlib.Core.Path.{◌≡◌, refl, ap, ◌∙◌}
 use native.Mathlib.Omega.{arith}
 use native.Mathlib.Numerals.{add-one}
 use Rattle.profile.specs.Counting.{any}
-use Rattle.rules.specs.steps.Loops.{anyGroup}
+use Rattle.rules.specs.steps.Loops.{any_group}
 use borrow.Author.Rules.{rules}
 use Rattle.rules.proofs.loops.any_group.Goals as goal
 
@@ -15,5 +15,5 @@ unfolding any
 loop-l-preserved c = (search rules, λ marks sets. rw (add-one, c.group_test-found.ensures marks sets, c.loop-l.invariant.1 marks sets))
 
 pub returns : goal.returns
-unfolding anyGroup
+unfolding any_group
 returns c = let e : c.loop-l.l ≡ c.count-n.result = omega arith in λ marks sets. c.loop-l.invariant.1 marks sets ∙ ap (any _) (e ∙ c.count-n.ensures)

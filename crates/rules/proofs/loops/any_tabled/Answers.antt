@@ -2,7 +2,7 @@ use mathlib.Core.Path.{◌≡◌, refl, ap, ◌∙◌}
 use native.Mathlib.Omega.{arith}
 use native.Mathlib.Numerals.{add-one}
 use Rattle.profile.specs.Counting.{any}
-use Rattle.rules.specs.steps.Loops.{anyTabled}
+use Rattle.rules.specs.steps.Loops.{any_tabled}
 use borrow.Author.Rules.{rules}
 use Rattle.rules.proofs.loops.any_tabled.Goals as goal
 
@@ -15,5 +15,5 @@ unfolding any
 loop-i-preserved c = (search rules, λ right. rw (add-one, c.tabled_test-found.ensures right, c.reference.ensures, c.loop-i.invariant.1 right))
 
 pub returns : goal.returns
-unfolding anyTabled
+unfolding any_tabled
 returns c = let e : c.loop-i.i ≡ c.args.n = omega arith in λ right. c.loop-i.invariant.1 right ∙ ap (any _) e

@@ -2,7 +2,7 @@ use mathlib.Core.Path.{◌≡◌, refl, ap, ◌∙◌}
 use native.Mathlib.Omega.{arith}
 use native.Mathlib.Numerals.{add-one}
 use Rattle.profile.specs.Counting.{any}
-use Rattle.rules.specs.steps.Loops.{fieldsDiffer}
+use Rattle.rules.specs.steps.Loops.{fields_differ}
 use borrow.Author.Rules.{rules}
 use Rattle.rules.proofs.loops.fields_differ.Goals as goal
 
@@ -15,5 +15,5 @@ unfolding any
 loop-f-preserved c = (search rules, rw (add-one, c.field-in-loop-f.ensures, c.field.ensures, c.loop-f.invariant.1))
 
 pub returns : goal.returns
-unfolding fieldsDiffer
+unfolding fields_differ
 returns c = let e : c.loop-f.f ≡ 7 = omega arith in c.loop-f.invariant.1 ∙ ap (any _) e

@@ -5,11 +5,11 @@ use mathlib.Core.Bool.{not}
 use lib.Dec.{eqb}
 use Rattle.profile.specs.Counting.{any}
 use Rattle.sheet.specs.Layout.{field}
-use Rattle.sheet.specs.Words.{sheetOf}
+use Rattle.sheet.specs.Words.{sheet_of}
 use Rattle.rules.proofs.loops.fields_differ.Given as goal
 
 abbrev pub invariant-loop-f : goal.invariant-loop-f
-invariant-loop-f l = (l.f ≤ 7) × (l.found ≡ any (λ j. not (eqb (field (sheetOf l.s) l.section l.a (l.from + j)) (field (sheetOf l.s) l.section l.b (l.from + j)))) l.f)
+invariant-loop-f l = (l.f ≤ 7) × (l.found ≡ any (λ j. not (eqb (field (sheet_of l.s) l.section l.a (l.from + j)) (field (sheet_of l.s) l.section l.b (l.from + j)))) l.f)
 
 abbrev pub decreases-loop-f : goal.decreases-loop-f
 decreases-loop-f l = 7 - l.f

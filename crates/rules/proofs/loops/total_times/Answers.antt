@@ -2,7 +2,7 @@ use mathlib.Core.Path.{◌≡◌, refl, ap, ◌∙◌}
 use native.Mathlib.Omega.{arith}
 use native.Mathlib.Numerals.{add-one}
 use Rattle.profile.specs.Counting.{sum}
-use Rattle.rules.specs.steps.Loops.{totalTimes}
+use Rattle.rules.specs.steps.Loops.{total_times}
 use borrow.Author.Rules.{rules}
 use Rattle.rules.proofs.loops.total_times.Goals as goal
 
@@ -22,7 +22,7 @@ loop-q-preserved c = (
 )
 
 pub returns : goal.returns
-unfolding totalTimes
+unfolding total_times
 returns c =
     let e : c.loop-q.q ≡ c.count-n.result = omega arith in
     c.loop-q.invariant.2 ∙ ap (sum _) (e ∙ c.count-n.ensures)

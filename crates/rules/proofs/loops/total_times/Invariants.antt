@@ -4,11 +4,11 @@ use mathlib.Core.Path.{◌≡◌}
 use Rattle.profile.specs.Counting.{sum}
 use Rattle.sheet.specs.Fields.{objects}
 use Rattle.profile.specs.Relations.{times}
-use Rattle.sheet.specs.Words.{sheetOf}
+use Rattle.sheet.specs.Words.{sheet_of}
 use Rattle.rules.proofs.loops.total_times.Given as goal
 
 abbrev pub invariant-loop-q : goal.invariant-loop-q
-invariant-loop-q l = (l.q ≤ l.n) × (l.total ≤ 65535 * l.q) × (l.total ≡ sum (λ j. times (sheetOf l.s) objects j l.at l.x) l.q)
+invariant-loop-q l = (l.q ≤ l.n) × (l.total ≤ 65535 * l.q) × (l.total ≡ sum (λ j. times (sheet_of l.s) objects j l.at l.x) l.q)
 
 abbrev pub decreases-loop-q : goal.decreases-loop-q
 decreases-loop-q l = l.n - l.q

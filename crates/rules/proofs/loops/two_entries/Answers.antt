@@ -1,8 +1,8 @@
 use mathlib.Core.Path.{◌≡◌, refl, ap, ◌∙◌}
 use native.Mathlib.Omega.{arith}
 use native.Mathlib.Numerals.{add-one}
-use Rattle.profile.specs.Counting.{any, twoOf}
-use Rattle.rules.specs.steps.Loops.{earlierEntry, twoEntries}
+use Rattle.profile.specs.Counting.{any, two_of}
+use Rattle.rules.specs.steps.Loops.{earlier_entry, two_entries}
 use borrow.Author.Rules.{rules}
 use Rattle.rules.proofs.loops.two_entries.Goals as goal
 
@@ -15,5 +15,5 @@ unfolding any
 loop-j-preserved c = (search rules, λ right. rw (add-one, c.earlier_entry-found.ensures right, c.loop-j.invariant.1 right))
 
 pub returns : goal.returns
-unfolding twoEntries twoOf earlierEntry
+unfolding two_entries two_of earlier_entry
 returns c = let e : c.loop-j.j ≡ c.args.n = omega arith in λ right. c.loop-j.invariant.1 right ∙ ap (any _) e

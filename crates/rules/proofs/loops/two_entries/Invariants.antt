@@ -2,12 +2,12 @@
 use Prim.Native.Nat.{◌-◌, ◌≤◌}
 use mathlib.Core.Path.{◌≡◌}
 use Rattle.profile.specs.Counting.{any}
-use Rattle.sheet.specs.Words.{sheetOf}
-use Rattle.rules.specs.steps.Loops.{pairRight, earlierEntry}
+use Rattle.sheet.specs.Words.{sheet_of}
+use Rattle.rules.specs.steps.Loops.{pair_right, earlier_entry}
 use Rattle.rules.proofs.loops.two_entries.Given as goal
 
 abbrev pub invariant-loop-j : goal.invariant-loop-j
-invariant-loop-j l = (l.j ≤ l.n) × (pairRight (sheetOf l.s) l.test l.owners l.leaders → l.found ≡ any (earlierEntry (sheetOf l.s) l.first l.test) l.j)
+invariant-loop-j l = (l.j ≤ l.n) × (pair_right (sheet_of l.s) l.test l.owners l.leaders → l.found ≡ any (earlier_entry (sheet_of l.s) l.first l.test) l.j)
 
 abbrev pub decreases-loop-j : goal.decreases-loop-j
 decreases-loop-j l = l.n - l.j

@@ -2,13 +2,13 @@
 use Prim.Native.Nat.{ℕ}
 use mathlib.Core.Path.{ap, ◌∙◌}
 use lib.Dec.{eqb}
-use Rattle.tables.proofs.TableLaws.{counted-one}
-use Rattle.relations.specs.steps.Tests.{howManyRecords}
+use Rattle.tables.proofs.TableLaws.{counted_one}
+use Rattle.relations.specs.steps.Tests.{how_many_records}
 use Rattle.rules.proofs.naming.spanned_once.Goals as goal
 
 pub returns-then-i-spanned : goal.returns-then-i-spanned
-returns-then-i-spanned c = λ right. ap (λ (n : ℕ). eqb n 1) (right c.args.v c.if-i-spanned.true) ∙ counted-one _
+returns-then-i-spanned c = λ right. ap (λ (n : ℕ). eqb n 1) (right c.args.v c.if-i-spanned.true) ∙ counted_one _
 
 pub returns-else-i-spanned : goal.returns-else-i-spanned
-unfolding howManyRecords
+unfolding how_many_records
 returns-else-i-spanned c = λ right. ap (λ (n : ℕ). eqb n 1) c.how_many_records.ensures.0

@@ -3,22 +3,22 @@ use mathlib.Core.Path.{sym, ap, ap₂, ◌∙◌}
 use native.Mathlib.Omega.{arith}
 use borrow.Author.Count.{below_none}
 use lib.ListN.{length, length-replicate}
-use Rattle.profile.specs.Counting.{any, twoOf}
-use Rattle.profile.specs.Relations.{leaderOf, owner, namedSet}
-use Rattle.profile.specs.Rules.{setsDiffer}
-use Rattle.profile.proofs.SumLaws.{any-one, any-nowhere}
+use Rattle.profile.specs.Counting.{any, two_of}
+use Rattle.profile.specs.Relations.{leader_of, owner, named_set}
+use Rattle.profile.specs.Rules.{sets_differ}
+use Rattle.profile.proofs.SumLaws.{any_one, any_nowhere}
 use Rattle.sheet.specs.Layout.{number, entry}
-use Rattle.sheet.specs.Fields.{programmes, setList}
-use Rattle.sheet.specs.Words.{sheetOf}
-use Rattle.rules.specs.steps.Loops.{twoEntries}
-use Rattle.rules.proofs.DifferLaws.{differ, firsts-none, firsts-next, found-next}
+use Rattle.sheet.specs.Fields.{programmes, set_list}
+use Rattle.sheet.specs.Words.{sheet_of}
+use Rattle.rules.specs.steps.Loops.{two_entries}
+use Rattle.rules.proofs.DifferLaws.{differ, firsts_none, firsts_next, found_next}
 use borrow.Author.Rules.{rules}
 use Rattle.rules.proofs.repeats.differ_from_first.Goals as goal
 
 pub loop-j-init : goal.loop-j-init
 loop-j-init c =
-    let a = c.args in let s = sheetOf a.s.now in
-    (search rules, length-replicate {A = ℕ} 2048 0, λ owners leaders. (firsts-none s (namedSet s a.p) (λ i. leaderOf s (owner s (namedSet s a.p i))) 2048, below_none _))
+    let a = c.args in let s = sheet_of a.s.now in
+    (search rules, length-replicate {A = ℕ} 2048 0, λ owners leaders. (firsts_none s (named_set s a.p) (λ i. leader_of s (owner s (named_set s a.p i))) 2048, below_none _))
 
 pub returns-then-l-ge2048 : goal.returns-then-l-ge2048
 returns-then-l-ge2048 c = λ owners leaders. c.group_pairs_differ.ensures owners leaders
@@ -27,23 +27,23 @@ pub first_of-i-requires : goal.first_of-i-requires
 first_of-i-requires c = (c.loop-j.invariant.1, omega (arith, c.if-l-ge2048.false), omega (arith, c.loop-j-test.true))
 
 pub returns-then-sets_differ : goal.returns-then-sets_differ
-unfolding twoEntries twoOf namedSet entry
+unfolding two_entries two_of named_set entry
 returns-then-sets_differ c =
-    let a = c.args in let s = sheetOf a.s.now in
-    let e = namedSet s a.p in let g : ℕ → ℕ = λ i. leaderOf s (owner s (e i)) in let l = c.loop-j in let set = c.named_set-v.ensures in let lead = c.leader_by-l in let place = c.first_of-i in let inside : lead.result < length l.first = omega (arith, l.invariant.1, c.if-l-ge2048.false) in
-    let test = sym (c.sets_differ.ensures ∙ ap₂ (setsDiffer s) c.named_set.ensures set) in
-    let below : l.j < number s programmes a.p setList = omega (arith, c.loop-j-test.true, c.number-n.ensures) in
-    λ owners leaders. sym (any-one (λ m. any (λ i. differ s e g i m) m) _ l.j below (found-next s e g l.first l.j lead.result place.result (l.invariant.2 owners leaders).0 (lead.ensures leaders ∙ ap (leaderOf s) (c.owner_by.ensures owners ∙ ap (owner s) set)) inside place.ensures.1 (l.invariant.2 owners leaders).1 (test ∙ c.if-sets_differ.true)))
+    let a = c.args in let s = sheet_of a.s.now in
+    let e = named_set s a.p in let g : ℕ → ℕ = λ i. leader_of s (owner s (e i)) in let l = c.loop-j in let set = c.named_set-v.ensures in let lead = c.leader_by-l in let place = c.first_of-i in let inside : lead.result < length l.first = omega (arith, l.invariant.1, c.if-l-ge2048.false) in
+    let test = sym (c.sets_differ.ensures ∙ ap₂ (sets_differ s) c.named_set.ensures set) in
+    let below : l.j < number s programmes a.p set_list = omega (arith, c.loop-j-test.true, c.number-n.ensures) in
+    λ owners leaders. sym (any_one (λ m. any (λ i. differ s e g i m) m) _ l.j below (found_next s e g l.first l.j lead.result place.result (l.invariant.2 owners leaders).0 (lead.ensures leaders ∙ ap (leader_of s) (c.owner_by.ensures owners ∙ ap (owner s) set)) inside place.ensures.1 (l.invariant.2 owners leaders).1 (test ∙ c.if-sets_differ.true)))
 
 pub loop-j-preserved : goal.loop-j-preserved
 loop-j-preserved c =
-    let a = c.args in let s = sheetOf a.s.now in
-    let e = namedSet s a.p in let g : ℕ → ℕ = λ i. leaderOf s (owner s (e i)) in let l = c.loop-j in let set = c.named_set-v.ensures in let lead = c.leader_by-l in let place = c.first_of-i in let inside : lead.result < length l.first = omega (arith, l.invariant.1, c.if-l-ge2048.false) in
-    let test = sym (c.sets_differ.ensures ∙ ap₂ (setsDiffer s) c.named_set.ensures set) in
-    (search rules, place.ensures.0, λ owners leaders. firsts-next s e g l.first l.j lead.result place.result (l.invariant.2 owners leaders).0 (lead.ensures leaders ∙ ap (leaderOf s) (c.owner_by.ensures owners ∙ ap (owner s) set)) inside place.ensures.1 (l.invariant.2 owners leaders).1 (test ∙ c.if-sets_differ.false) place.new.first (place.ensures.0 ∙ sym l.invariant.1) place.ensures.2)
+    let a = c.args in let s = sheet_of a.s.now in
+    let e = named_set s a.p in let g : ℕ → ℕ = λ i. leader_of s (owner s (e i)) in let l = c.loop-j in let set = c.named_set-v.ensures in let lead = c.leader_by-l in let place = c.first_of-i in let inside : lead.result < length l.first = omega (arith, l.invariant.1, c.if-l-ge2048.false) in
+    let test = sym (c.sets_differ.ensures ∙ ap₂ (sets_differ s) c.named_set.ensures set) in
+    (search rules, place.ensures.0, λ owners leaders. firsts_next s e g l.first l.j lead.result place.result (l.invariant.2 owners leaders).0 (lead.ensures leaders ∙ ap (leader_of s) (c.owner_by.ensures owners ∙ ap (owner s) set)) inside place.ensures.1 (l.invariant.2 owners leaders).1 (test ∙ c.if-sets_differ.false) place.new.first (place.ensures.0 ∙ sym l.invariant.1) place.ensures.2)
 
 pub returns : goal.returns
-unfolding twoEntries twoOf namedSet entry
+unfolding two_entries two_of named_set entry
 returns c =
-    let a = c.args in let s = sheetOf a.s.now in let e = namedSet s a.p in let g : ℕ → ℕ = λ i. leaderOf s (owner s (e i)) in
-    λ owners leaders. sym (any-nowhere (λ m. any (λ i. differ s e g i m) m) (number s programmes a.p setList) (λ m l. (c.loop-j.invariant.2 owners leaders).1 m (omega (arith, l, c.loop-j-test.false, c.number-n.ensures))))
+    let a = c.args in let s = sheet_of a.s.now in let e = named_set s a.p in let g : ℕ → ℕ = λ i. leader_of s (owner s (e i)) in
+    λ owners leaders. sym (any_nowhere (λ m. any (λ i. differ s e g i m) m) (number s programmes a.p set_list) (λ m l. (c.loop-j.invariant.2 owners leaders).1 m (omega (arith, l, c.loop-j-test.false, c.number-n.ensures))))

@@ -2,8 +2,8 @@
 use Prim.Native.Nat.{◌-◌, ◌≤◌}
 use mathlib.Core.Path.{◌≡◌}
 use lib.ListN.{length}
-use Rattle.profile.specs.Relations.{leaderOf, owner, namedSet}
-use Rattle.sheet.specs.Words.{sheetOf}
+use Rattle.profile.specs.Relations.{leader_of, owner, named_set}
+use Rattle.sheet.specs.Words.{sheet_of}
 use Rattle.tables.specs.steps.Right.{Owners, Leaders}
 use Rattle.rules.proofs.DifferLaws.{Firsts, Agree}
 use Rattle.rules.proofs.repeats.differ_from_first.Given as goal
@@ -12,7 +12,7 @@ abbrev pub invariant-loop-j : goal.invariant-loop-j
 invariant-loop-j l =
     (l.j ≤ l.n)
     × (length l.first ≡ 2048)
-    × (Owners (sheetOf l.s) l.owners → Leaders (sheetOf l.s) l.leaders → Firsts (sheetOf l.s) (namedSet (sheetOf l.s) l.p) (λ h. leaderOf (sheetOf l.s) (owner (sheetOf l.s) (namedSet (sheetOf l.s) l.p h))) l.first l.j × Agree (sheetOf l.s) (namedSet (sheetOf l.s) l.p) (λ h. leaderOf (sheetOf l.s) (owner (sheetOf l.s) (namedSet (sheetOf l.s) l.p h))) l.j)
+    × (Owners (sheet_of l.s) l.owners → Leaders (sheet_of l.s) l.leaders → Firsts (sheet_of l.s) (named_set (sheet_of l.s) l.p) (λ h. leader_of (sheet_of l.s) (owner (sheet_of l.s) (named_set (sheet_of l.s) l.p h))) l.first l.j × Agree (sheet_of l.s) (named_set (sheet_of l.s) l.p) (λ h. leader_of (sheet_of l.s) (owner (sheet_of l.s) (named_set (sheet_of l.s) l.p h))) l.j)
 
 abbrev pub decreases-loop-j : goal.decreases-loop-j
 decreases-loop-j l = l.n - l.j

@@ -1,13 +1,13 @@
 -- By pairs or by a table. Assumes nothing.
 use Rattle.profile.specs.Rules.{repeats}
-use Rattle.rules.specs.steps.Loops.{twoEntries, keysAlike}
+use Rattle.rules.specs.steps.Loops.{two_entries, keys_alike}
 use Rattle.sheet.specs.Layout.{entry}
 use Rattle.rules.proofs.repeats.repeats.Goals as goal
 
 pub returns-then-n-le-SHORT : goal.returns-then-n-le-SHORT
-unfolding repeats twoEntries entry
+unfolding repeats two_entries entry
 returns-then-n-le-SHORT c = rw (c.field.ensures, c.number-n.ensures) at (c.two_entries.ensures tt)
 
 pub returns-else-n-le-SHORT : goal.returns-else-n-le-SHORT
-unfolding repeats keysAlike
+unfolding repeats keys_alike
 returns-else-n-le-SHORT c = c.keys_alike.ensures tt

@@ -3,16 +3,16 @@ use Prim.Native.Nat.{ℕ, ◌<◌, ◌≤◌}
 use mathlib.Core.Path.{◌≡◌}
 use lib.Dec.{eqb}
 use lib.ListN.{length, get_or}
-use Rattle.sheet.specs.Words.{sheetOf}
+use Rattle.sheet.specs.Words.{sheet_of}
 use Rattle.sheet.specs.Layout.{count}
 use Rattle.sheet.specs.Fields.{references}
-use Rattle.runs.specs.steps.Runs.{Next, Repeat, referenceKey}
+use Rattle.runs.specs.steps.Runs.{Next, Repeat, reference_key}
 use Rattle.runs.proofs.RunLaws.{FilledFrom}
 use Rattle.runs.proofs.fill.fill_repeats.Given as goal
 
 abbrev pub invariant-loop-x : goal.invariant-loop-x
 invariant-loop-x l =
-    let f = referenceKey (sheetOf l.s) l.key in let m = count (sheetOf l.s) references in
+    let f = reference_key (sheet_of l.s) l.key in let m = count (sheet_of l.s) references in
     (l.x ≤ m)
     × (length l.table ≡ length l.initial.table)
     × (length l.later ≡ 65536)

@@ -1,7 +1,7 @@
 -- The words are those of the pack. Assumes nothing.
 use mathlib.Core.Bool.{true≢false}
-use Rattle.sheet.specs.Words.{sheetOf}
-use Rattle.screen.proofs.PackLaws.{three-kept, one-kept}
+use Rattle.sheet.specs.Words.{sheet_of}
+use Rattle.screen.proofs.PackLaws.{three_kept, one_kept}
 use Rattle.screen.proofs.records.pack_breaks.Goals as goal
 
 pub returns-then-ends_before : goal.returns-then-ends_before
@@ -9,8 +9,8 @@ returns-then-ends_before c = λ e. absurd (true≢false e)
 
 pub returns-then-kind-eq3 : goal.returns-then-kind-eq3
 returns-then-kind-eq3 c =
-    let a = c.args in λ e. three-kept (sheetOf a.s.now) a.k c.record_at-at.result c.record_at-at.ensures c.word_at-kind.ensures c.word_at-channels.ensures c.word_at-front.ensures c.if-kind-eq3.true e
+    let a = c.args in λ e. three_kept (sheet_of a.s.now) a.k c.record_at-at.result c.record_at-at.ensures c.word_at-kind.ensures c.word_at-channels.ensures c.word_at-front.ensures c.if-kind-eq3.true e
 
 pub returns : goal.returns
 returns c =
-    let a = c.args in λ e. one-kept (sheetOf a.s.now) a.k c.record_at-at.result c.record_at-at.ensures c.word_at-kind.ensures c.word_at-channels.ensures c.word_at-front.ensures (rw c.exceeds.ensures at e)
+    let a = c.args in λ e. one_kept (sheet_of a.s.now) a.k c.record_at-at.result c.record_at-at.ensures c.word_at-kind.ensures c.word_at-channels.ensures c.word_at-front.ensures (rw c.exceeds.ensures at e)

@@ -19,9 +19,9 @@ pub returns : goal.returns
 returns c =
     λ e t.
     record {
-      programmes-kept = c.programmes_keep.ensures c.if-not-programmes_keep.false;
-      contents-kept = c.contents_keep.ensures c.if-not-contents_keep.false t.listed-right;
-      objects-kept = c.objects_keep.ensures c.if-not-objects_keep.false t.named-right t.tops-right t.complements-right;
-      packs-kept = c.packs_keep.ensures c.if-not-packs_keep.false;
-      tracks-kept = c.tracks_keep.ensures e;
+      programmes_kept = c.programmes_keep.ensures c.if-not-programmes_keep.false;
+      contents_kept = c.contents_keep.ensures c.if-not-contents_keep.false t.listed_right;
+      objects_kept = c.objects_keep.ensures c.if-not-objects_keep.false t.named_right t.tops_right t.complements_right;
+      packs_kept = c.packs_keep.ensures c.if-not-packs_keep.false;
+      tracks_kept = c.tracks_keep.ensures e;
     }

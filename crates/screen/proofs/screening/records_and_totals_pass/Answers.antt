@@ -2,8 +2,8 @@
 use mathlib.Core.Path.{sym}
 use mathlib.Core.Bool.{true≢false}
 use borrow.Author.Tests.{not-true}
-use Rattle.sheet.specs.Words.{sheetOf}
-use Rattle.screen.proofs.NoughtLaws.{spanned-once}
+use Rattle.sheet.specs.Words.{sheet_of}
+use Rattle.screen.proofs.NoughtLaws.{spanned_once}
 use Rattle.screen.proofs.screening.records_and_totals_pass.Goals as goal
 
 pub returns-then-not-records_pass : goal.returns-then-not-records_pass
@@ -16,10 +16,10 @@ pub returns : goal.returns
 returns c =
     λ e tabled spans.
     let once = c.all_once.ensures c.if-not-all_once.false in
-    let sums = c.totals_break.ensures (not-true c.totals_break.result e) tabled.tops-right tabled.complements-right in
+    let sums = c.totals_break.ensures (not-true c.totals_break.result e) tabled.tops_right tabled.complements_right in
     record {
       records = c.records_pass.ensures c.if-not-records_pass.false tabled;
-      set-once = λ v l. let h = once v (rw (sym c.count.ensures) at l) in spanned-once (sheetOf c.args.s.now) c.args.spanned.now v spans h.0 h.1;
+      set_once = λ v l. let h = once v (rw (sym c.count.ensures) at l) in spanned_once (sheet_of c.args.s.now) c.args.spanned.now v spans h.0 h.1;
       groups = sums.0;
       tracks = sums.1;
     }

@@ -1,13 +1,13 @@
 use mathlib.Core.Path.{◌≡◌, refl}
 use native.Mathlib.Omega.{arith}
 use native.Mathlib.Numerals.{add-one}
-use Rattle.profile.specs.Counting.{howMany, sum}
+use Rattle.profile.specs.Counting.{how_many, sum}
 use borrow.Author.Rules.{rules}
 use Rattle.screen.proofs.totals.totals.Goals as goal
 
 pub loop-o-init : goal.loop-o-init
-unfolding howMany sum
-loop-o-init c = (search rules, search rules, λ v f. record { groups-to = refl; lone-to = refl; tracks-to = refl })
+unfolding how_many sum
+loop-o-init c = (search rules, search rules, λ v f. record { groups_to = refl; lone_to = refl; tracks_to = refl })
 
 pub with_object-t-requires : goal.with_object-t-requires
 with_object-t-requires c = c.loop-o.invariant.1

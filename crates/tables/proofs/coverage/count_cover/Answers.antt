@@ -3,11 +3,11 @@ use Prim.Native.Nat.{ℕ}
 use mathlib.Core.Path.{ap, ◌∙◌}
 use native.Mathlib.Omega.{arith}
 use lib.ListN.{get_or, length-replicate}
-use Rattle.sheet.specs.Words.{sheetOf}
+use Rattle.sheet.specs.Words.{sheet_of}
 use Rattle.tables.specs.declared.Mark.TheVariants.{Count}
 use Rattle.tables.specs.steps.Marks.{marked, repeat}
 use Rattle.tables.proofs.MarkLaws.{nought}
-use Rattle.tables.proofs.CoverLaws.{named-cover}
+use Rattle.tables.proofs.CoverLaws.{named_cover}
 use Rattle.tables.proofs.coverage.count_cover.Goals as goal
 
 pub tally-requires : goal.tally-requires
@@ -22,5 +22,5 @@ count_indices-requires c =
 
 pub returns : goal.returns
 returns c =
-    let a = c.args in let counted = c.count_indices.ensures in let named = named-cover (sheetOf a.s.now) a.kind a.m c.requires.1 in
+    let a = c.args in let counted = c.count_indices.ensures in let named = named_cover (sheet_of a.s.now) a.kind a.m c.requires.1 in
     (counted.0, λ x l. counted.1 x l ∙ ap (λ (n : ℕ). repeat (marked Count) n (get_or a.table.now x 0)) (named x))

@@ -1,13 +1,13 @@
 -- The places passed are marked. Assumes nothing.
 use Prim.Native.Nat.{◌+◌, ◌-◌, ◌≤◌}
 use lib.Dec.{eqb}
-use Rattle.sheet.specs.Words.{sheetOf, word}
-use Rattle.profile.specs.Counting.{howMany}
+use Rattle.sheet.specs.Words.{sheet_of, word}
+use Rattle.profile.specs.Counting.{how_many}
 use Rattle.tables.specs.steps.Marks.{MarkedTimes}
 use Rattle.tables.proofs.marks.mark_list.Given as goal
 
 abbrev pub invariant-loop-i : goal.invariant-loop-i
-invariant-loop-i l = (l.i ≤ l.n) × MarkedTimes l.mark (λ x. howMany (λ j. eqb (word (sheetOf l.s) (l.base + (l.first + j))) x) l.i) l.initial.table l.table
+invariant-loop-i l = (l.i ≤ l.n) × MarkedTimes l.mark (λ x. how_many (λ j. eqb (word (sheet_of l.s) (l.base + (l.first + j))) x) l.i) l.initial.table l.table
 
 abbrev pub decreases-loop-i : goal.decreases-loop-i
 decreases-loop-i l = l.n - l.i

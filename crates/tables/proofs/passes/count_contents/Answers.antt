@@ -1,14 +1,14 @@
 use mathlib.Core.Path.{◌≡◌, refl}
 use native.Mathlib.Omega.{arith}
-use Rattle.sheet.specs.Words.{sheetOf}
+use Rattle.sheet.specs.Words.{sheet_of}
 use Rattle.sheet.specs.Layout.{count, entry, reference}
 use Rattle.sheet.specs.Fields.{programmes}
 use Rattle.profile.specs.Counting.{sum}
 use borrow.Author.Rules.{rules}
 use Rattle.tables.specs.declared.Mark.TheVariants.{Count}
 use Rattle.tables.specs.declared.Naming.TheVariants.{ContentLists}
-use Rattle.tables.specs.steps.Marks.{repeat, timesBy, namedBy}
-use Rattle.tables.proofs.MarkLaws.{namers-more}
+use Rattle.tables.specs.steps.Marks.{repeat, times_by, named_by}
+use Rattle.tables.proofs.MarkLaws.{namers_more}
 use Rattle.tables.proofs.passes.count_contents.Goals as goal
 
 pub loop-q-init : goal.loop-q-init
@@ -16,15 +16,15 @@ unfolding sum repeat
 loop-q-init c = (search rules, (refl, λ x l. refl))
 
 pub loop-q-preserved : goal.loop-q-preserved
-unfolding timesBy entry reference
+unfolding times_by entry reference
 loop-q-preserved c =
-    let a = c.args in let l = c.loop-q in let m = c.mark_list in (search rules, namers-more Count (sheetOf a.s.now) ContentLists a.listed.now l.listed m.new.table l.q l.invariant.1 (rw (c.offset-base.ensures, c.field.ensures, c.number.ensures) at m.ensures))
+    let a = c.args in let l = c.loop-q in let m = c.mark_list in (search rules, namers_more Count (sheet_of a.s.now) ContentLists a.listed.now l.listed m.new.table l.q l.invariant.1 (rw (c.offset-base.ensures, c.field.ensures, c.number.ensures) at m.ensures))
 
 pub shape_of-listed : goal.shape_of-listed
 shape_of-listed c = c.loop-q.invariant.1.0
 
 pub returns : goal.returns
-unfolding namedBy
+unfolding named_by
 returns c =
-    let e : c.loop-q.q ≡ count (sheetOf c.args.s.now) programmes = omega (arith, c.count-n.ensures, c.loop-q-test.false) in
+    let e : c.loop-q.q ≡ count (sheet_of c.args.s.now) programmes = omega (arith, c.count-n.ensures, c.loop-q-test.false) in
     rw e at c.loop-q.invariant.1

@@ -2,20 +2,20 @@
 use Prim.Native.Nat.{◌-◌, ◌≤◌}
 use mathlib.Core.Path.{◌≡◌}
 use lib.ListN.{length}
-use Rattle.sheet.specs.Words.{sheetOf}
+use Rattle.sheet.specs.Words.{sheet_of}
 use Rattle.tables.specs.declared.Mark.TheVariants.{Count}
 use Rattle.tables.specs.declared.Naming.TheVariants.{Children, Complements, SetSpans}
-use Rattle.tables.specs.steps.Marks.{Standing, namesBy, firstFrom, MarkedTimes, namedBefore}
+use Rattle.tables.specs.steps.Marks.{Standing, names_by, first_from, MarkedTimes, named_before}
 use Rattle.tables.proofs.passes.count_lists.Given as goal
 
 abbrev pub invariant-loop-q : goal.invariant-loop-q
 invariant-loop-q l =
     (l.q ≤ l.n)
-    × MarkedTimes Count (namedBefore (sheetOf l.s) Children l.q) l.initial.named l.named
-    × MarkedTimes Count (namedBefore (sheetOf l.s) Complements l.q) l.initial.complements l.complements
-    × MarkedTimes Count (namedBefore (sheetOf l.s) SetSpans l.q) l.initial.spanned l.spanned
+    × MarkedTimes Count (named_before (sheet_of l.s) Children l.q) l.initial.named l.named
+    × MarkedTimes Count (named_before (sheet_of l.s) Complements l.q) l.initial.complements l.complements
+    × MarkedTimes Count (named_before (sheet_of l.s) SetSpans l.q) l.initial.spanned l.spanned
     × (length l.owners ≡ length l.initial.owners)
-    × (Standing (λ x. 0) l.initial.owners → Standing (λ x. firstFrom (λ j. namesBy (sheetOf l.s) SetSpans j x) 0 0 l.q) l.owners)
+    × (Standing (λ x. 0) l.initial.owners → Standing (λ x. first_from (λ j. names_by (sheet_of l.s) SetSpans j x) 0 0 l.q) l.owners)
 
 abbrev pub decreases-loop-q : goal.decreases-loop-q
 decreases-loop-q l = l.n - l.q

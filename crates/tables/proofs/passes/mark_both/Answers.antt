@@ -1,17 +1,17 @@
 -- Nothing to mark, or all of it, in each table. Assumes nothing.
 use mathlib.Core.Path.{◌≡◌, refl, sym, ◌∙◌}
 use native.Mathlib.Numerals.{add-one}
-use Rattle.sheet.specs.Words.{sheetOf}
-use Rattle.profile.specs.Counting.{howMany}
+use Rattle.sheet.specs.Words.{sheet_of}
+use Rattle.profile.specs.Counting.{how_many}
 use Rattle.tables.specs.steps.Namings.{items}
-use Rattle.tables.specs.steps.Marks.{repeat, timesBy}
+use Rattle.tables.specs.steps.Marks.{repeat, times_by}
 use Rattle.tables.proofs.passes.mark_both.Goals as goal
 
 pub returns-then-items-ne0 : goal.returns-then-items-ne0
 returns-then-items-ne0 c = (c.mark_items.ensures, rw (add-one) at c.mark_items-then-items-ne0.ensures)
 
 pub returns-else-items-ne0 : goal.returns-else-items-ne0
-unfolding timesBy howMany repeat
+unfolding times_by how_many repeat
 returns-else-items-ne0 c =
-    let a = c.args in let e : items (sheetOf a.s.now) a.kind a.q ≡ 0 = sym c.items.ensures ∙ c.if-items-ne0.false in
+    let a = c.args in let e : items (sheet_of a.s.now) a.kind a.q ≡ 0 = sym c.items.ensures ∙ c.if-items-ne0.false in
     ((refl, rw e (λ x l. refl)), (refl, rw e (λ x l. refl)))

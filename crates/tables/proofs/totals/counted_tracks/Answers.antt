@@ -2,7 +2,7 @@ use mathlib.Core.Path.{◌≡◌, refl, ap, ◌∙◌}
 use native.Mathlib.Omega.{arith}
 use native.Mathlib.Numerals.{add-one}
 use Rattle.profile.specs.Counting.{sum}
-use Rattle.profile.specs.Relations.{countedTracks}
+use Rattle.profile.specs.Relations.{counted_tracks}
 use borrow.Author.Rules.{rules}
 use Rattle.tables.proofs.totals.counted_tracks.Goals as goal
 
@@ -22,7 +22,7 @@ loop-o-preserved c = (
 )
 
 pub returns : goal.returns
-unfolding countedTracks
+unfolding counted_tracks
 returns c =
     let e : c.loop-o.o ≡ c.count-n.result = omega arith in
     λ tops complements. c.loop-o.invariant.2 tops complements ∙ ap (sum _) (e ∙ c.count-n.ensures)

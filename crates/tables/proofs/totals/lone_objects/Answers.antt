@@ -1,20 +1,20 @@
 use mathlib.Core.Path.{◌≡◌, refl, ap, ◌∙◌}
 use native.Mathlib.Omega.{arith}
 use native.Mathlib.Numerals.{add-one}
-use Rattle.profile.specs.Counting.{howMany}
-use Rattle.relations.specs.steps.Sizes.{loneObjects}
+use Rattle.profile.specs.Counting.{how_many}
+use Rattle.relations.specs.steps.Sizes.{lone_objects}
 use borrow.Author.Rules.{rules}
 use Rattle.tables.proofs.totals.lone_objects.Goals as goal
 
 pub loop-o-init : goal.loop-o-init
-unfolding howMany
+unfolding how_many
 loop-o-init c = (search rules, search rules, λ tops complements. refl)
 
 pub overflow_add-found : goal.overflow_add-found
 overflow_add-found c = omega (arith, c.one-found.ensures.1)
 
 pub loop-o-preserved : goal.loop-o-preserved
-unfolding howMany
+unfolding how_many
 loop-o-preserved c = (
   search rules,
   omega (arith, c.one-found.ensures.1),
@@ -22,7 +22,7 @@ loop-o-preserved c = (
 )
 
 pub returns : goal.returns
-unfolding loneObjects
+unfolding lone_objects
 returns c =
     let e : c.loop-o.o ≡ c.count-n.result = omega arith in
-    λ tops complements. c.loop-o.invariant.2 tops complements ∙ ap (howMany _) (e ∙ c.count-n.ensures)
+    λ tops complements. c.loop-o.invariant.2 tops complements ∙ ap (how_many _) (e ∙ c.count-n.ensures)

@@ -19,4 +19,4 @@ loop-left-preserved c =
 pub returns : goal.returns
 returns c =
     let inv = c.loop-left.invariant in let k = c.args.k in let e : k - c.loop-left.left ≡ k = omega arith in
-    c.part.ensures ∙ laws.field-at _ _ _ _ inv.0 inv.2 (rw e at inv.3) c.stretch_end.ensures
+    c.part.ensures ∙ laws.field_at _ _ _ _ inv.0 inv.2 (rw e at inv.3) c.stretch_end.ensures

@@ -9,4 +9,4 @@ pub loop-i-preserved : goal.loop-i-preserved
 loop-i-preserved c = laws.passed _ _ _ c.loop-i-test.true (sym c.is_such.ensures ∙ c.if-not-is_such.false) ∙ c.loop-i.invariant
 
 pub returns : goal.returns
-returns c = laws.at-end _ _ _ c.loop-i-test.false ∙ c.loop-i.invariant
+returns c = laws.at_end _ _ _ c.loop-i-test.false ∙ c.loop-i.invariant

@@ -12,13 +12,13 @@ returns-then-not-is_digit c =
     let inv = c.loop-i.invariant in simp (laws.stray _ _ _ c.loop-i-test.true inv.3 inv.4 c.args.most (sym c.is_digit.ensures ∙ c.if-not-is_digit.true) inv.1)
 
 pub overflow_sub-n : goal.overflow_sub-n
-overflow_sub-n c = let r = laws.digit-range _ (sym c.is_digit.ensures ∙ c.if-not-is_digit.false) in omega arith
+overflow_sub-n c = let r = laws.digit_range _ (sym c.is_digit.ensures ∙ c.if-not-is_digit.false) in omega arith
 
 pub overflow_cast-n : goal.overflow_cast-n
-overflow_cast-n c = let r = laws.digit-range _ (sym c.is_digit.ensures ∙ c.if-not-is_digit.false) in omega arith
+overflow_cast-n c = let r = laws.digit_range _ (sym c.is_digit.ensures ∙ c.if-not-is_digit.false) in omega arith
 
 pub overflow_add-n : goal.overflow_add-n
-overflow_add-n c = let r = laws.digit-range _ (sym c.is_digit.ensures ∙ c.if-not-is_digit.false) in omega arith
+overflow_add-n c = let r = laws.digit_range _ (sym c.is_digit.ensures ∙ c.if-not-is_digit.false) in omega arith
 
 pub returns-then-n-most : goal.returns-then-n-most
 returns-then-n-most c =

@@ -7,8 +7,8 @@ use lib.Seq.{take-add, take-append-le}
 use Rattle.text.proofs.reading.read_input.Goals as goal
 
 -- what a read gives stands behind what was read before
-read-more : (a n k : ℕ) (xs ys : List ℕ) → a ≤ length xs → n ≤ length ys → take (a + n) (put_mid a k xs ys) ≡ take a xs ++ take n ys
-read-more a n k xs ys within fits =
+read_more : (a n k : ℕ) (xs ys : List ℕ) → a ≤ length xs → n ≤ length ys → take (a + n) (put_mid a k xs ys) ≡ take a xs ++ take n ys
+read_more a n k xs ys within fits =
     let p = put_mid a k xs ys in
     let front : take a p ≡ take a xs = take-put_mid_below a k xs ys a (le_refl a) within in
     let back : take n (drop a p) ≡ take n ys = ap (take n) (drop_at (take a xs) (ys ++ post_of a k xs) a (length-take-le a xs within)) ∙ take-append-le n ys (post_of a k xs) fits in
@@ -17,5 +17,5 @@ read-more a n k xs ys within fits =
 pub loop-n-preserved : goal.loop-n-preserved
 loop-n-preserved g c =
     let at = c.loop-n in
-    let joined = read-more at.n c.in-Ok.more (length at.buffer - at.n) at.buffer c.read.new.buf at.invariant.1 c.in-Ok.ensures.bound.0 in
+    let joined = read_more at.n c.in-Ok.more (length at.buffer - at.n) at.buffer c.read.new.buf at.invariant.1 c.in-Ok.ensures.bound.0 in
     (search rules, search rules, subst (Consumes _ _) (sym joined) (Consumes-trans _ _ _ _ _ at.invariant.2 c.in-Ok.ensures.bytes.0))

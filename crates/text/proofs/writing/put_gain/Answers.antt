@@ -2,17 +2,17 @@
 use mathlib.Core.Path.{◌≡◌}
 use mir.Syntax.{w16}
 use mir.Val.{to_z, of_z}
-use Rattle.text.specs.Decimal.{gainText}
+use Rattle.text.specs.Decimal.{gain_text}
 use borrow.Author.Rules.{rules}
 use Rattle.text.proofs.writing.put_gain.Goals as goal
 
 pub returns-in-Silent : goal.returns-in-Silent
-unfolding gainText
+unfolding gain_text
 returns-in-Silent c =
     rw c.in-Silent.is c.put_text.ensures
 
 pub returns-in-Tenths : goal.returns-in-Tenths
-unfolding gainText
+unfolding gain_text
 returns-in-Tenths c =
     let p : to_z w16 (of_z w16 c.in-Tenths.z) ≡ c.in-Tenths.z = search rules in
     rw c.in-Tenths.is (rw p at c.put_signed.ensures)

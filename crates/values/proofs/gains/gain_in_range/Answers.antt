@@ -1,7 +1,7 @@
--- `gain_in_range` is `gainInRange`.
-use Rattle.values.specs.Gain.{gainInRange}
+-- `gain_in_range` is `gain_in_range`.
+use Rattle.values.specs.Gain.{gain_in_range}
 use Rattle.values.proofs.gains.gain_in_range.Goals as goal
 
 pub returns : goal.returns
-unfolding gainInRange
+unfolding gain_in_range
 returns c = simp (c.at_most.ensures, c.at_most-2.ensures)

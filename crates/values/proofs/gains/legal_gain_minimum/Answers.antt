@@ -1,13 +1,13 @@
--- `legal_gain_minimum` is `legalGainMinimum`.
+-- `legal_gain_minimum` is `legal_gain_minimum`.
 use borrow.Author.Rules.{rules}
-use Rattle.values.specs.Gain.{legalGainMinimum}
+use Rattle.values.specs.Gain.{legal_gain_minimum}
 use Rattle.values.proofs.Signs.{held}
 use Rattle.values.proofs.gains.legal_gain_minimum.Goals as goal
 
 pub returns-in-Silent : goal.returns-in-Silent
-unfolding legalGainMinimum
+unfolding legal_gain_minimum
 returns-in-Silent c = search rules
 
 pub returns-in-Tenths : goal.returns-in-Tenths
-unfolding legalGainMinimum
+unfolding legal_gain_minimum
 returns-in-Tenths c = simp (held c.in-Tenths.z c.in-Tenths.known_told-1-own.given.0.1, c.in-Tenths.is)

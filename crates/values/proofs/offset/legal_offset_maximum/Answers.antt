@@ -1,8 +1,8 @@
--- `legal_offset_maximum` is `legalOffsetMaximum`.
+-- `legal_offset_maximum` is `legal_offset_maximum`.
 use mir.Facts.{to_z-of_z}
-use Rattle.values.specs.Offset.{legalOffsetMaximum}
+use Rattle.values.specs.Offset.{legal_offset_maximum}
 use Rattle.values.proofs.offset.legal_offset_maximum.Goals as goal
 
 pub returns : goal.returns
-unfolding legalOffsetMaximum
+unfolding legal_offset_maximum
 returns c = simp (c.offset_in_range.ensures, to_z-of_z c.ranges.z)

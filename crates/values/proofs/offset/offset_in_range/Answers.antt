@@ -1,8 +1,8 @@
--- `offset_in_range` is `offsetInRange`.
+-- `offset_in_range` is `offset_in_range`.
 use borrow.Author.Rules.{rules}
-use Rattle.values.specs.Offset.{offsetInRange}
+use Rattle.values.specs.Offset.{offset_in_range}
 use Rattle.values.proofs.offset.offset_in_range.Goals as goal
 
 pub returns : goal.returns
-unfolding offsetInRange
+unfolding offset_in_range
 returns c = search rules

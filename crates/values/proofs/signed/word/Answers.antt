@@ -1,4 +1,4 @@
--- `word` is `wordOf`: by the number's sign.
+-- `word` is `word_of`: by the number's sign.
 use native.Mathlib.Omega.{arith}
 use Rattle.values.proofs.Signs.{below, above, small}
 use Rattle.values.proofs.signed.word.Goals as goal

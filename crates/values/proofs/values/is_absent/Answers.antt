@@ -1,8 +1,8 @@
--- `is_absent` is `isAbsent`.
+-- `is_absent` is `is_absent`.
 use borrow.Author.Rules.{rules}
-use Rattle.values.specs.Values.{isAbsent}
+use Rattle.values.specs.Values.{is_absent}
 use Rattle.values.proofs.values.is_absent.Goals as goal
 
 pub returns : goal.returns
-unfolding isAbsent
+unfolding is_absent
 returns c = search rules
