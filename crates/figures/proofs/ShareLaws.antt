@@ -64,7 +64,7 @@ module _ (s : Sheet) (langs : List ℕ) (place : Place) (e : verdict s langs ≡
   share_of : (i : ℕ) → i < length (figures s langs) → ShareOf s (figure_at (figures s langs) i)
   share_of i h =
       let w = picked_each (has_share s) (share_figure s) (count s objects) i (rw figures_picked at h) in
-      rw (figures_picked, w.1.1.1) (record { of_object = refl; inside = w.1.0; has_share = w.1.1.0; number = refl })
+      rw (figures_picked, w.1.1.1) (record { of_object = refl; inside = w.1.0; has_share_lem = w.1.1.0; number = refl })
 
   has_line : (o : ℕ) → o < count s objects → has_share s o ≡ true → (i : ℕ) × ((i < length (figures s langs)) × (record_at (figures s langs) i ≡ o))
   has_line o l h =

@@ -66,14 +66,14 @@ module _ (s : Sheet) (langs : List ℕ) (accepted : verdict s langs ≡ Accepted
         listing_done = done_listing st h;
         listing_written = done_writing st h;
         at_least_one = listing_least s a few st h;
-        at_most = le_trans (listing_most s a few st h) (most_counted s langs can_open);
+        at_most_lem = le_trans (listing_most s a few st h) (most_counted s langs can_open);
         tracks_exist = tracks_exist s a few st h;
         one_sounds = one_sounds s a few st h;
         channels_once = channels_once s a few st h;
         gain_legal = λ o l. values.gain_legal s a few st h o l;
         offset_legal = λ o l. values.offset_legal s a few st h o l;
-        gain_in_range = λ o l. values.gain_in_range_lem s a few st h o l;
-        offset_in_range = λ o l. values.offset_in_range_lem s a few st h o l;
+        gain_in_range_lem = λ o l. values.gain_in_range_lem s a few st h o l;
+        offset_in_range_lem = λ o l. values.offset_in_range_lem s a few st h o l;
         gain_at_start = λ o l. values.gain_at_start s a few st h o l;
         offset_at_start = λ o l. values.offset_at_start s a few st h o l;
         never_25 = λ c. never_refused s langs a few can_open st h c NotAccepted (omega arith);

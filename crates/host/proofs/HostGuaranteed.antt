@@ -92,7 +92,7 @@ module _ (s : Sheet) (langs : List ℕ) (accepted : verdict s langs ≡ Accepted
       record {
         number_given = λ bytes l. rw (done bytes l) refl;
         at_least_one = promises.at_least_one;
-        at_most = promises.at_most_lem;
+        at_most_lem = promises.at_most_lem;
         tracks_written = λ buffer l i m. rw (buffered buffer l) (track_at_lem (start_tracks s p) buffer (room buffer l) i (rw n m));
         tracks_exist = λ buffer l i m. rw (buffered buffer l, track_at_lem (start_tracks s p) buffer (room buffer l) i (rw n m)) (exist i (rw n m));
         later_stay = λ buffer l. rw (buffered buffer l, ← n) (rest_stays (start_tracks s p) buffer (room buffer l));
