@@ -36,7 +36,7 @@ unfolding after
 bench_listening s langs accepted at cs =
     subst (λ (st : State). Promises s langs (last_chosen s langs (calls_of cs)) st) (obeyed_run s langs (opened s langs).state cs) (listening s langs accepted at (calls_of cs)).promises
 
--- a line that is read in two parts is answered_part as if it were read at once
+-- a line that is read in two parts is answered as if it were read at once
 pub cut_anywhere : (s : Sheet) (langs : List ℕ) (st : State) (line : Buffer) (a b : List ℕ) (whole : Bool)
     → answered_part s langs st line (a ++ b) whole ≡ answered_part s langs (answered_part s langs st line a false).state (answered_part s langs st line a false).line b whole
 unfolding answered_part answered_line

@@ -1,4 +1,4 @@
--- `at_most` is `at_most`.
+-- The function `at_most` is the definition `at_most`.
 use borrow.Author.Rules.{rules}
 use Rattle.values.specs.Gain.{at_most}
 use Rattle.values.proofs.Signs.{held}

@@ -1,4 +1,4 @@
--- `gain_in_range` is `gain_in_range`.
+-- The function `gain_in_range` is the definition `gain_in_range`.
 use Rattle.values.specs.Gain.{gain_in_range}
 use Rattle.values.proofs.gains.gain_in_range.Goals as goal
 

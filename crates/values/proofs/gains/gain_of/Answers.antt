@@ -1,4 +1,4 @@
--- `gain_of` is `gain_of`.
+-- The function `gain_of` is the definition `gain_of`.
 use borrow.Author.Tests.{ne_eqb}
 use Rattle.values.specs.Gain.{gain_of}
 use Rattle.values.proofs.Signs.{kept}

@@ -1,4 +1,4 @@
--- `legal_gain` is `legal_gain`.
+-- The function `legal_gain` is the definition `legal_gain`.
 use borrow.Author.Rules.{rules}
 use Rattle.values.specs.Gain.{legal_gain}
 use Rattle.values.proofs.Signs.{held}

@@ -1,4 +1,4 @@
--- `legal_gain_maximum` is `legal_gain_maximum`.
+-- The function `legal_gain_maximum` is the definition `legal_gain_maximum`.
 use borrow.Author.Rules.{rules}
 use Rattle.values.specs.Gain.{legal_gain_maximum}
 use Rattle.values.proofs.Signs.{held}

@@ -1,4 +1,4 @@
--- `legal_gain_minimum` is `legal_gain_minimum`.
+-- The function `legal_gain_minimum` is the definition `legal_gain_minimum`.
 use borrow.Author.Rules.{rules}
 use Rattle.values.specs.Gain.{legal_gain_minimum}
 use Rattle.values.proofs.Signs.{held}

@@ -1,4 +1,4 @@
--- `legal_offset` is `legal_offset`.
+-- The function `legal_offset` is the definition `legal_offset`.
 use mir.Facts.{to_z-of_z}
 use Rattle.values.specs.Offset.{legal_offset}
 use Rattle.values.proofs.offset.legal_offset.Goals as goal

@@ -1,4 +1,4 @@
--- `legal_offset_maximum` is `legal_offset_maximum`.
+-- The function `legal_offset_maximum` is the definition `legal_offset_maximum`.
 use mir.Facts.{to_z-of_z}
 use Rattle.values.specs.Offset.{legal_offset_maximum}
 use Rattle.values.proofs.offset.legal_offset_maximum.Goals as goal

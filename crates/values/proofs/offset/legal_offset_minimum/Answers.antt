@@ -1,4 +1,4 @@
--- `legal_offset_minimum` is `legal_offset_minimum`.
+-- The function `legal_offset_minimum` is the definition `legal_offset_minimum`.
 use mir.Facts.{to_z-of_z}
 use Rattle.values.specs.Offset.{legal_offset_minimum}
 use Rattle.values.proofs.offset.legal_offset_minimum.Goals as goal

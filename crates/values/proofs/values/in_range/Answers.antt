@@ -1,4 +1,4 @@
--- `in_range` is `in_range`.
+-- The function `in_range` is the definition `in_range`.
 use Rattle.values.specs.Values.{in_range}
 use Rattle.values.proofs.Signs.{kept}
 use Rattle.values.proofs.values.in_range.Goals as goal

@@ -1,4 +1,4 @@
--- `is_absent` is `is_absent`.
+-- The function `is_absent` is the definition `is_absent`.
 use borrow.Author.Rules.{rules}
 use Rattle.values.specs.Values.{is_absent}
 use Rattle.values.proofs.values.is_absent.Goals as goal

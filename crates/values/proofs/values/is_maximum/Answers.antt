@@ -1,4 +1,4 @@
--- `is_maximum` is `is_maximum`.
+-- The function `is_maximum` is the definition `is_maximum`.
 use Rattle.values.specs.Values.{is_maximum}
 use Rattle.values.proofs.Signs.{kept}
 use Rattle.values.proofs.values.is_maximum.Goals as goal

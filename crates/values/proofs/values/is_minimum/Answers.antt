@@ -1,4 +1,4 @@
--- `is_minimum` is `is_minimum`.
+-- The function `is_minimum` is the definition `is_minimum`.
 use Rattle.values.specs.Values.{is_minimum}
 use Rattle.values.proofs.Signs.{kept}
 use Rattle.values.proofs.values.is_minimum.Goals as goal

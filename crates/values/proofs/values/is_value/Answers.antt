@@ -1,4 +1,4 @@
--- `is_value` is `is_value`.
+-- The function `is_value` is the definition `is_value`.
 use Rattle.values.specs.Values.{is_value}
 use Rattle.values.proofs.Signs.{kept}
 use Rattle.values.proofs.values.is_value.Goals as goal

@@ -1,4 +1,4 @@
--- `or_else` is `or_else`.
+-- The function `or_else` is the definition `or_else`.
 use mathlib.Core.Path.{sym, ◌∙◌}
 use Rattle.values.specs.Values.{or_else}
 use Rattle.values.proofs.values.or_else.Goals as goal
