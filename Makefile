@@ -1,6 +1,6 @@
 .PHONY: check ctest rusttest bench example listen
 
-# the gate: every crate proved from nothing, the must-fail edits, the programs, the tests in C and Rust
+# the gate: every crate proved, the must-fail edits, the programs, the tests in C and Rust
 check:
 	.ci/run
 
