@@ -1,5 +1,9 @@
 -- Counting over the numbers below n: what the relations and rules are said with. Assumes nothing.
-use Rattle.std.specs.Prelude.{ℕ, zero, suc, ◌+◌, max, Bool, true, false, cond, ◌&&◌, ◌||◌, List, [], ◌∷◌, ◌++◌}
+use Rattle.std.specs.Prelude.{ℕ, zero, suc, ◌+◌, ◌<◌, ◌≡◌, max, Bool, true, false, cond, ◌&&◌, ◌||◌, List, [], ◌∷◌, ◌++◌}
+
+-- whatever a test, as closures are, gives a number below n is p of that number
+abbrev pub ComputesBelow : ℕ → (ℕ → Bool → Type 0) → (ℕ → Bool) → Type 0
+ComputesBelow n gives p = (i : ℕ) (r : Bool) → i < n → gives i r → r ≡ p i
 
 -- some number below n has p
 unfoldable pub any : (ℕ → Bool) → ℕ → Bool

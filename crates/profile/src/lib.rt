@@ -2,6 +2,7 @@
 // checker's code shares. The checker itself is the crates above.
 #![tactic(auto)]
 
+pub mod counting;
 pub mod limits;
 pub mod places;
 

@@ -1,69 +1,48 @@
-// One loop over the entries of a list, with the test picked by an enum.
-ghost use Rattle.std.specs.Prelude.{◌≤◌, cond, ◌≡◌};
+// The entries of the list at a position of a record, by a test that the caller gives.
+ghost use Rattle.std.specs.Prelude.{ℕ, Bool, ◌≤◌, ◌≡◌};
+ghost use Rattle.profile.specs.Counting.{ComputesBelow, any, how_many};
 ghost use Rattle.profile.specs.Relations.{lists, times};
-ghost use Rattle.relations.specs.steps.Tests.{any_entry, entry_test, how_many_entries};
-ghost use Rattle.sheet.specs.Layout.{number};
+ghost use Rattle.sheet.specs.Layout.{entry, number};
 ghost use Rattle.sheet.specs.Words.{sheet_of};
 
-use crate::EntryTest;
-use crate::objects::{has_objects_pack, lacks};
-use crate::sets::has_set;
-use sheet::fields::{TRACK_ORDINAL, TRACK_PACK, TRACKS};
-use sheet::layout::{entry, field, number};
+use profile::counting::{any, how_many};
+use sheet::layout::{entry, number};
 
-// 1 for a test that holds, else 0.
-pub fn one(test: bool) -> u16
-    ensures { (result ≡ cond test 1 0) × (result ≤ 1) }
+// How many entries pass.
+pub fn how_many_entries<F: Fn(u16) -> bool>(s: &[u8], section: u8, k: u16, at: u8, test: F) -> u16
+    requires { F.IsAlwaysCallable test }
+    ensures counted { (p : ℕ → Bool) → ComputesBelow 65536 (F.post test) p → result ≡ how_many (λ i. p (entry (sheet_of s.now) section k at i)) (number (sheet_of s.now) section k at) }
+    ensures at_most { result ≤ number (sheet_of s.now) section k at }
 {
-    if test { 1 } else { 0 }
+    how_many(
+        number(s, section, k, at),
+        |i| test(entry(s, section, k, at, i)),
+    )
 }
 
-// Whether an entry passes the test.
-pub fn entry_test(s: &[u8], test: EntryTest, e: u16) -> bool
-    ensures { result ≡ entry_test (sheet_of s.now) test e }
+// Whether some entry passes.
+pub fn any_entry<F: Fn(u16) -> bool>(s: &[u8], section: u8, k: u16, at: u8, test: F) -> bool
+    requires { F.IsAlwaysCallable test }
+    ensures { (p : ℕ → Bool) → ComputesBelow 65536 (F.post test) p → result ≡ any (λ i. p (entry (sheet_of s.now) section k at i)) (number (sheet_of s.now) section k at) }
 {
-    match test {
-        EntryTest::Is(x) => e == x,
-        EntryTest::Lacks(section) => lacks(s, section, e),
-        EntryTest::NoObjectsPack => !has_objects_pack(s, e),
-        EntryTest::OtherPack(pack) => field(s, TRACKS, e, TRACK_PACK) != pack,
-        EntryTest::Ordinal(n) => field(s, TRACKS, e, TRACK_ORDINAL) == n,
-        EntryTest::OrdinalPast(n) => n <= field(s, TRACKS, e, TRACK_ORDINAL),
-        EntryTest::SetOf(o) => has_set(s, o, e),
-    }
-}
-
-// How many entries of the list at a position of a record pass the test.
-pub fn how_many_entries(s: &[u8], section: u8, k: u16, at: u8, test: EntryTest) -> u16
-    ensures { (result ≡ how_many_entries (sheet_of s.now) section k at test) × (result ≤ number (sheet_of s.now) section k at) }
-{
-    let n = number(s, section, k, at);
-    let mut found: u16 = 0;
-    let mut i: u16 = 0;
-    while i < n {
-        found += one(entry_test(s, test, entry(s, section, k, at, i)));
-        i += 1;
-    }
-    found
-}
-
-// Whether some entry passes the test.
-pub fn any_entry(s: &[u8], section: u8, k: u16, at: u8, test: EntryTest) -> bool
-    ensures { result ≡ any_entry (sheet_of s.now) section k at test }
-{
-    how_many_entries(s, section, k, at, test) != 0
+    any(
+        number(s, section, k, at),
+        |i| test(entry(s, section, k, at, i)),
+    )
 }
 
 // Whether the list has x.
+#[tactic(auto, unfolding(profile::specs::Relations::lists))]
 pub fn lists(s: &[u8], section: u8, k: u16, at: u8, x: u16) -> bool
     ensures { result ≡ lists (sheet_of s.now) section k at x }
 {
-    any_entry(s, section, k, at, EntryTest::Is(x))
+    any_entry(s, section, k, at, |e| e == x)
 }
 
 // How often the list names x.
+#[tactic(auto, unfolding(profile::specs::Relations::times))]
 pub fn times(s: &[u8], section: u8, k: u16, at: u8, x: u16) -> u16
     ensures { (result ≡ times (sheet_of s.now) section k at x) × (result ≤ number (sheet_of s.now) section k at) }
 {
-    how_many_entries(s, section, k, at, EntryTest::Is(x))
+    how_many_entries(s, section, k, at, |e| e == x)
 }

@@ -3,10 +3,11 @@ ghost use Rattle.std.specs.Prelude.{◌≤◌, ◌≡◌};
 ghost use Rattle.profile.specs.Relations.{leader_of, member, members};
 ghost use Rattle.sheet.specs.Words.{sheet_of};
 
-use crate::RecordTest;
-use crate::records::{complement, lowest_record};
+use crate::entries::lists;
+use crate::records::complement;
+use profile::counting::lowest;
 use sheet::fields::{COMPLEMENT_LIST, OBJECTS};
-use sheet::layout::{entry, number};
+use sheet::layout::{count, entry, number};
 
 // "A group is a leader [..] followed by those it lists." Member i of a leader's group.
 pub fn member(s: &[u8], l: u16, i: u16) -> u16
@@ -27,11 +28,15 @@ pub fn members(s: &[u8], l: u16) -> u32
 }
 
 // The leader of an object's group: the object that lists it, else itself.
+#[tactic(auto, unfolding(profile::specs::Relations::leader_of))]
 pub fn leader_of(s: &[u8], o: u16) -> u16
     ensures { result ≡ leader_of (sheet_of s.now) o }
 {
     if complement(s, o) {
-        lowest_record(s, OBJECTS, RecordTest::LeaderOf(o))
+        lowest(
+            count(s, OBJECTS),
+            |l| lists(s, OBJECTS, l, COMPLEMENT_LIST, o),
+        )
     } else {
         o
     }

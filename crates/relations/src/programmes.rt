@@ -3,24 +3,19 @@ ghost use Rattle.std.specs.Prelude.{◌≡◌};
 ghost use Rattle.profile.specs.Relations.{includes, named_set, names_set};
 ghost use Rattle.sheet.specs.Words.{sheet_of};
 
-use crate::EntryTest;
 use crate::entries::any_entry;
+use crate::sets::has_set;
 use sheet::fields::{CONTENT_LIST, CONTENT_OBJECT, CONTENTS, PROGRAMMES, SET_LIST};
-use sheet::layout::{entry, field, number};
+use sheet::layout::{entry, field};
 
-// "A programme includes the top objects of its contents": a loop of its own, which is faster than a test picked for each entry.
+// "A programme includes the top objects of its contents".
+#[tactic(auto, unfolding(profile::specs::Relations::includes))]
 pub fn includes(s: &[u8], p: u16, o: u16) -> bool
     ensures { result ≡ includes (sheet_of s.now) p o }
 {
-    let n = number(s, PROGRAMMES, p, CONTENT_LIST);
-    let mut found = false;
-    let mut i: u16 = 0;
-    while i < n {
-        let c = entry(s, PROGRAMMES, p, CONTENT_LIST, i);
-        found = found | (field(s, CONTENTS, c, CONTENT_OBJECT) == o);
-        i += 1;
-    }
-    found
+    any_entry(s, PROGRAMMES, p, CONTENT_LIST, |c| {
+        field(s, CONTENTS, c, CONTENT_OBJECT) == o
+    })
 }
 
 // The set at a position of the programme's set list.
@@ -31,8 +26,9 @@ pub fn named_set(s: &[u8], p: u16, i: u16) -> u16
 }
 
 // The programme names a set for the object.
+#[tactic(auto, unfolding(profile::specs::Relations::names_set))]
 pub fn names_set(s: &[u8], p: u16, o: u16) -> bool
     ensures { result ≡ names_set (sheet_of s.now) p o }
 {
-    any_entry(s, PROGRAMMES, p, SET_LIST, EntryTest::SetOf(o))
+    any_entry(s, PROGRAMMES, p, SET_LIST, |v| has_set(s, o, v))
 }

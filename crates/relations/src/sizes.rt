@@ -1,5 +1,5 @@
 // Sizes in tracks.
-ghost use Rattle.std.specs.Prelude.{max, ◌≡◌};
+ghost use Rattle.std.specs.Prelude.{◌≡◌};
 ghost use Rattle.profile.specs.Relations.{size};
 ghost use Rattle.relations.specs.steps.Sizes.{children_tracks, largest_member};
 ghost use Rattle.sheet.specs.Words.{sheet_of};
@@ -15,10 +15,8 @@ pub fn children_tracks(s: &[u8], o: u16) -> u32
 {
     let n = number(s, OBJECTS, o, CHILD_LIST);
     let mut total: u32 = 0;
-    let mut i: u16 = 0;
-    while i < n {
+    for i in 0..n {
         total += number(s, OBJECTS, entry(s, OBJECTS, o, CHILD_LIST, i), TRACK_LIST) as u32;
-        i += 1;
     }
     total
 }
@@ -34,23 +32,14 @@ pub fn size(s: &[u8], o: u16) -> u32
     }
 }
 
-// The larger of two.
-fn larger(a: u32, b: u32) -> u32
-    ensures { result ≡ max a b }
-{
-    if a < b { b } else { a }
-}
-
 // The size of the largest member of a leader's group.
 pub fn largest_member(s: &[u8], l: u16) -> u32
     ensures { result ≡ largest_member (sheet_of s.now) l }
 {
     let n = members(s, l);
     let mut most: u32 = 0;
-    let mut i: u32 = 0;
-    while i < n {
-        most = larger(most, size(s, member(s, l, i as u16)));
-        i += 1;
+    for i in 0..n {
+        most = most.max(size(s, member(s, l, i as u16)));
     }
     most
 }

@@ -1,8 +1,8 @@
--- An entry that is x. Assumes nothing.
+-- Some entry is x. Assumes nothing.
+use Rattle.std.proofs.Common.{rules, eqb}
 use Rattle.profile.specs.Relations.{lists}
-use Rattle.relations.specs.steps.Tests.{any_entry}
 use Rattle.relations.proofs.entries.lists.Goals as goal
 
 pub returns : goal.returns
-unfolding lists any_entry
-returns c = c.any_entry.ensures
+unfolding lists
+returns c = c.any_entry.ensures (λ e. eqb e c.args.x) (λ e r l q. search rules)

@@ -1,5 +1,5 @@
 -- The sum so far is that of the children passed. Assumes nothing.
-use Prim.Native.Nat.{◌*◌, ◌-◌, ◌≤◌}
+use Prim.Native.Nat.{◌*◌, ◌≤◌}
 use mathlib.Core.Path.{◌≡◌}
 use Rattle.profile.specs.Counting.{sum}
 use Rattle.sheet.specs.Layout.{number, entry}
@@ -8,7 +8,4 @@ use Rattle.sheet.specs.Words.{sheet_of}
 use Rattle.relations.proofs.sizes.children_tracks.Given as goal
 
 abbrev pub invariant-loop-i : goal.invariant-loop-i
-invariant-loop-i l = (l.i ≤ l.n) × (l.total ≤ 65535 * l.i) × (l.total ≡ sum (λ j. number (sheet_of l.s) objects (entry (sheet_of l.s) objects l.o child_list j) track_list) l.i)
-
-abbrev pub decreases-loop-i : goal.decreases-loop-i
-decreases-loop-i l = l.n - l.i
+invariant-loop-i l = (l.total ≤ 65535 * l.i) × (l.total ≡ sum (λ j. number (sheet_of l.s) objects (entry (sheet_of l.s) objects l.o child_list j) track_list) l.i)

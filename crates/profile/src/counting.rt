@@ -1,0 +1,54 @@
+// The counting definitions over a test that the caller gives: each function is the definition of the same name, of any test that a
+// closure computes. There is no branch for a number that passes, but in `lowest`, which ends there.
+ghost use Rattle.std.specs.Prelude.{ℕ, Bool, ◌≤◌, ◌≡◌};
+ghost use Rattle.profile.specs.Counting.{ComputesBelow, any, every, how_many, lowest};
+
+// Whether some number below n passes.
+pub fn any<F: Fn(u16) -> bool>(n: u16, test: F) -> bool
+    requires { F.IsAlwaysCallable test }
+    ensures { (p : ℕ → Bool) → ComputesBelow n (F.post test) p → result ≡ any p n }
+{
+    let mut found = false;
+    for i in 0..n {
+        found |= test(i);
+    }
+    found
+}
+
+// Whether every number below n passes.
+pub fn every<F: Fn(u16) -> bool>(n: u16, test: F) -> bool
+    requires { F.IsAlwaysCallable test }
+    ensures { (p : ℕ → Bool) → ComputesBelow n (F.post test) p → result ≡ every p n }
+{
+    let mut all = true;
+    for i in 0..n {
+        all &= test(i);
+    }
+    all
+}
+
+// How many numbers below n pass.
+pub fn how_many<F: Fn(u16) -> bool>(n: u16, test: F) -> u16
+    requires { F.IsAlwaysCallable test }
+    ensures counted { (p : ℕ → Bool) → ComputesBelow n (F.post test) p → result ≡ how_many p n }
+    ensures at_most { result ≤ n }
+{
+    let mut found = 0;
+    for i in 0..n {
+        found += u16::from(test(i));
+    }
+    found
+}
+
+// The lowest number below n that passes, or n.
+pub fn lowest<F: Fn(u16) -> bool>(n: u16, test: F) -> u16
+    requires { F.IsAlwaysCallable test }
+    ensures { (p : ℕ → Bool) → ComputesBelow n (F.post test) p → result ≡ lowest p n }
+{
+    for i in 0..n {
+        if test(i) {
+            return i;
+        }
+    }
+    n
+}
