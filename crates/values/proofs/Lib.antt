@@ -4,3 +4,4 @@ pub mod Order
 pub mod Zero
 pub mod Words
 pub mod Letters
+pub mod GainOrder

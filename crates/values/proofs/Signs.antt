@@ -1,32 +1,35 @@
 -- A signed 16-bit number and its bits: by its sign, for `word`, and whole, for what is handed on. Assumes nothing.
-use mathlib.Core.Path.{◌≡◌, refl, sym, ap, ◌∙◌}
-use mathlib.Core.Bool.{true, false, cond, true≢false}
+use mathlib.Core.Path.{◌≡◌, refl}
+use mathlib.Core.Bool.{Bool, true, false, cond}
 use Prim.Native.Nat.{ℕ, suc, ◌-◌, ◌<◌}
 use native.Mathlib.Omega.{arith}
 use borrow.Author.Tests.{ltb-true, ltb-false}
 use lib.Dec.{ltb}
 use lib.IntN.{ℤ, pos, negsuc}
-use lib.Signed.{lt_z, mag}
+use lib.Signed.{mag}
 use mir.Syntax.{w16}
 use mir.Val.{SFits, to_z, of_z}
-use mir.Facts.{to_z-of_z, to_z_pos}
+use mir.Facts.{to_z-of_z, to_z_pos, to_z-neg}
 use Rattle.values.specs.Signed.{signed_of, word_of}
 
--- a number below 0: `!z` is not negative, and 65535 less that is the word
-pub below : (z : ℤ) → SFits w16 z → lt_z (to_z w16 (of_z w16 z)) (pos 0) ≡ true → to_z w16 (65535 - of_z w16 z) ≡ pos (65535 - word_of z)
-unfolding word_of
-below (pos n) s t = let h : n < 0 = ltb-true n 0 (ap (λ (y : ℤ). lt_z y (pos 0)) (sym (to_z-of_z s)) ∙ t) in absurd (omega arith)
-below (negsuc n) s t =
-    let h : n < 32768 = s.sfits in
-    let e : 65535 - (65536 - suc n) ≡ n = omega arith in
-    let f : 65535 - (65535 - n) ≡ n = omega arith in
-    rw (e, f) (to_z_pos w16 h)
+-- the number of a word is that of its bits
+pub signed_bits : (w : ℕ) → w < 65536 → to_z w16 w ≡ signed_of w
+unfolding signed_of
+signed_bits w h = go (ltb w 32768) refl
+  where
+    go : (t : Bool) → ltb w 32768 ≡ t → to_z w16 w ≡ cond t (pos w) (negsuc (65535 - w))
+    go true e = to_z_pos w16 (ltb-true _ _ e)
+    go false e =
+        let k : ℕ = 65535 - w in
+        let f : 65536 - suc k ≡ w = omega arith in
+        let l : k < 32768 = omega (arith, ltb-false _ _ e) in
+        rw f at (to_z-neg w16 k l)
 
--- from 0 on: it is the word
-pub above : (z : ℤ) → SFits w16 z → lt_z (to_z w16 (of_z w16 z)) (pos 0) ≡ false → to_z w16 (of_z w16 z) ≡ pos (word_of z)
+-- the word of a number is its bits
+pub word_bits : (z : ℤ) → SFits w16 z → of_z w16 z ≡ word_of z
 unfolding word_of
-above (pos n) s t = to_z-of_z s
-above (negsuc n) s t = absurd (true≢false (ap (λ (y : ℤ). lt_z y (pos 0)) (sym (to_z-of_z s)) ∙ t))
+word_bits (pos n) s = refl
+word_bits (negsuc n) s = let h : n < 32768 = s.sfits in omega arith
 
 -- its word fits
 pub small : (z : ℤ) → SFits w16 z → word_of z < 65536

@@ -2,7 +2,6 @@
 ghost use Rattle.std.specs.Prelude.{◌≡◌};
 ghost use Rattle.values.specs.Gain.{
   gain_of,
-  at_most,
   gain_in_range,
   legal_gain,
   legal_gain_minimum,
@@ -23,24 +22,11 @@ pub fn gain_of(w: u16) -> Gain
     }
 }
 
-// "silence is below every number"
-pub fn at_most(a: Gain, b: Gain) -> bool
-    ensures { result ≡ at_most a b }
-{
-    match a {
-        Gain::Silent => true,
-        Gain::Tenths(x) => match b {
-            Gain::Silent => false,
-            Gain::Tenths(y) => x <= y,
-        },
-    }
-}
-
 // From `lo` to `hi`, both included.
 pub fn gain_in_range(lo: Gain, g: Gain, hi: Gain) -> bool
     ensures { result ≡ gain_in_range lo g hi }
 {
-    at_most(lo, g) & at_most(g, hi)
+    (lo <= g) & (g <= hi)
 }
 
 // "either silence (-32768) or a number of tenths of a dB from -600 to 210"
