@@ -30,6 +30,13 @@ pub enum Naming {
     SetSpans,
 }
 
+// How often contents and complement lists name each object, as far as the tables reach.
+#[derive(Clone, Copy)]
+pub struct ObjectTables<'a> {
+    pub tops: &'a [u16],
+    pub complements: &'a [u16],
+}
+
 // What is done with the place of a record that is named.
 #[derive(Clone, Copy)]
 pub enum Mark {
@@ -39,17 +46,6 @@ pub enum Mark {
     Store(u16),
     // this number is written there, where 0 stands
     First(u16),
-}
-
-// What a member of a group is tested for.
-#[derive(Clone, Copy)]
-pub enum MemberTest {
-    // this programme includes it
-    IncludedIn(u16),
-    // this programme names a set for it
-    SetIn(u16),
-    // it is flagged
-    Flagged,
 }
 
 // Which entries are counted.

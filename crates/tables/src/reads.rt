@@ -3,8 +3,9 @@ ghost use Rattle.std.specs.Prelude.{ℕ, ◌+◌, ◌<◌, ◌≤◌, eqb, get_o
 ghost use Rattle.profile.specs.Counting.{any};
 ghost use Rattle.profile.specs.Relations.{complement, includes, leader_of, lone, names_set, owner, top};
 ghost use Rattle.sheet.specs.Words.{sheet_of};
-ghost use Rattle.tables.specs.steps.Right.{Complemented, Included, Leaders, NamedSets, Owners, Tops, told};
+ghost use Rattle.tables.specs.steps.Right.{Complemented, Included, Leaders, NamedSets, ObjectsTabled, Owners, Tops, told};
 
+use crate::ObjectTables;
 use relations::groups::leader_of;
 use relations::objects::leader;
 use relations::programmes::{includes, names_set};
@@ -36,11 +37,13 @@ pub fn complement_by(s: &[u8], complements: &[u16], o: u16) -> bool
     }
 }
 
-// A top object in no group.
-pub fn lone_by(s: &[u8], tops: &[u16], complements: &[u16], o: u16) -> bool
-    ensures { Tops (sheet_of s.now) tops.now → Complemented (sheet_of s.now) complements.now → result ≡ lone (sheet_of s.now) o }
-{
-    top_by(s, tops, o) & !leader(s, o) & !complement_by(s, complements, o)
+impl<'a> ObjectTables<'a> {
+    // A top object in no group.
+    pub fn lone_by(&self, s: &[u8], o: u16) -> bool
+        ensures { ObjectsTabled (sheet_of s.now) self.now → result ≡ lone (sheet_of s.now) o }
+    {
+        top_by(s, self.tops, o) & !leader(s, o) & !complement_by(s, self.complements, o)
+    }
 }
 
 // What stands for a number: one more than it, or 0 for none.

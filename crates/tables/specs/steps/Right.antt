@@ -6,6 +6,7 @@ use Rattle.sheet.specs.Fields.{programmes, objects, set_list}
 use Rattle.profile.specs.Counting.{how_many}
 use Rattle.profile.specs.Relations.{lists, includes, has_set, namings}
 use Rattle.tables.specs.declared.Naming.TheVariants.{ContentObjects, Complements, ContentLists, SetSpans}
+use Rattle.tables.specs.declared.ObjectTables.{ObjectTables}
 use Rattle.tables.specs.declared.Mark.TheVariants.{Count}
 use Rattle.tables.specs.steps.Marks.{Standing, marked, repeat, named_by, first_by}
 
@@ -52,3 +53,7 @@ NamedSets s p = Standing (λ v. cond (lists s programmes p set_list v) 1 0)
 -- 1 for the objects that a programme includes
 abbrev pub Included : Sheet → ℕ → List ℕ → Type 0
 Included s p = Standing (λ o. cond (includes s p o) 1 0)
+
+-- the tables of the objects are
+abbrev pub ObjectsTabled : Sheet → ObjectTables → Type 0
+ObjectsTabled s t = Tops s t.tops.now × Complemented s t.complements.now

@@ -1,22 +1,22 @@
-use mathlib.Core.Path.{◌≡◌, refl, ap, ◌∙◌}
-use native.Mathlib.Omega.{arith}
-use native.Mathlib.Numerals.{add-one}
-use Rattle.profile.specs.Counting.{how_many}
+-- The leader is member 0, complement i the one after. Assumes nothing.
+use Rattle.std.proofs.Common.{◌≡◌, ◌<◌, Bool, true, false, cond, refl, sym, arith}
+use mir.Val.{bool_byte}
+use Rattle.profile.specs.Relations.{member, members}
+use Rattle.profile.proofs.SumLaws.{how_many_shift}
+use Rattle.sheet.specs.Fields.{objects, complement_list}
+use Rattle.sheet.specs.Layout.{number}
+use Rattle.sheet.specs.Words.{sheet_of}
 use Rattle.tables.specs.steps.Members.{how_many_members}
-use borrow.Author.Rules.{rules}
 use Rattle.tables.proofs.members.members_passing.Goals as goal
 
-pub loop-i-init : goal.loop-i-init
-unfolding how_many
-loop-i-init c = (search rules, search rules, λ right. refl)
-
-pub overflow_add-found : goal.overflow_add-found
-overflow_add-found c = omega (arith, c.one.ensures.1, c.members-n.ensures.1)
-
-pub loop-i-preserved : goal.loop-i-preserved
-unfolding how_many
-loop-i-preserved c = (search rules, omega (arith, c.one.ensures.1), λ right. rw (add-one, c.loop-i.invariant.2 right, c.one.ensures.0, c.member_passes.ensures right, c.member.ensures))
+-- a test as a number
+byte_cond : (b : Bool) → bool_byte b ≡ cond b 1 0
+byte_cond true = refl
+byte_cond false = refl
 
 pub returns : goal.returns
-unfolding how_many_members
-returns c = let e : c.loop-i.i ≡ c.members-n.result = omega arith in λ right. c.loop-i.invariant.2 right ∙ ap (how_many _) (e ∙ c.members-n.ensures.0)
+unfolding how_many_members members member
+returns g c = λ p h.
+    let fits : c.args.l < 65536 = omega arith in
+    rw (c.from.ensures, c.from-2.ensures, byte_cond c.test.result, h c.args.l c.test.result fits c.test.ensures, c.how_many_entries.ensures.counted p h)
+    (sym (how_many_shift (λ i. p (member (sheet_of c.args.s.now) c.args.l i)) (number (sheet_of c.args.s.now) objects c.args.l complement_list)))
