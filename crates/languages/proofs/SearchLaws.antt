@@ -1,70 +1,73 @@
--- A list that rises, and where a word of it can be. Assumes nothing.
-use Prim.Native.Nat.{ℕ, ◌+◌, ◌-◌, ◌<◌, ◌≤◌}
-use mathlib.Core.Path.{◌≡◌, refl, sym, ap, ◌∙◌}
-use mathlib.Core.Bool.{true, false, cond}
-use mathlib.Core.Logic.{⊎_elim}
-use mathlib.Core.List.{List}
-use native.Mathlib.Omega.{arith}
-use native.Mathlib.Nat.{eq-or-lt_of_le}
-use lib.Dec.{eqb, leb}
-use lib.ListN.{length, get_or}
-use borrow.Author.Tests.{eqb-false, ne_eqb, leb-false, leb-true}
-use Rattle.profile.specs.Counting.{any}
+-- A list that rises is found in by halves: its words are the numbers of its pairs of bytes. Assumes nothing.
+use Rattle.std.proofs.Common.{ℕ, zero, suc, eqb, ltb, ◌+◌, ◌/◌, ◌<◌, ◌≤◌, ◌≡◌, refl, sym, ap, ◌∙◌, true, false, true≢false, List, [], ◌∷◌, length, get_or, arith}
+use Rattle.std.specs.Simd.{first_chunks}
+use Rattle.std.specs.Int.{from_be_bytes, w16}
+use Rattle.std.specs.Ordering.{nat_cmp, is_eq, is_lt}
+use Rattle.std.specs.declared.cmp.Ordering.TheVariants.{Equal, Greater}
+use Rattle.std.specs.declared.result.Result.{Result}
+use Rattle.std.specs.declared.result.Result.TheVariants.{Ok, Err}
+use Rattle.std.specs.Result.{is_ok}
+use Rattle.std.specs.List.Sorted.{IsBinarySearchResult, IsSearchInRange, IsSortedBy}
+use Rattle.std.specs.Cmp.{nat_cmp_is}
+use Rattle.std.proofs.lemmas.Cmp.{nat_cmp_total}
+use Rattle.std.proofs.lemmas.Map.Lookups.{exact_unsigned}
+use Rattle.std.proofs.lemmas.List.Sorted.{searchable_from_sorted}
+use borrow.Author.Tests.{eq-eqb, ne_eqb, ltb-true, ltb-false}
+use Rattle.sheet.specs.Words.{words}
+use Rattle.sheet.proofs.WordLaws.{how_many_lem}
 use Rattle.profile.specs.Languages.{is_listed, is_rising}
 use Rattle.profile.proofs.RisingLaws.{rising_later}
 use Rattle.profile.proofs.SumLaws.{any_one, any_nowhere}
 
--- the places that have the word are among so many from one on
-abbrev pub Among : List ℕ → ℕ → ℕ → ℕ → Type 0
-Among langs w base size = (k : ℕ) → k < length langs → get_or langs k 0 ≡ w → (base ≤ k) × (k < base + size)
+-- the number of two bytes
+abbrev key : List ℕ → ℕ
+key = from_be_bytes w16
 
-module _ (langs : List ℕ) (rises : is_rising langs ≡ true) where
-  -- at most the word at a place: its place is not before that
-  pub among_upper : (w base size half : ℕ) → base + half < length langs → get_or langs (base + half) 0 ≤ w → half ≤ size
-      → Among langs w base size → Among langs w (base + half) (size - half)
-  among_upper w base size half l h f among k m e =
-      (elim (leb (base + half) k) as (λ b. leb (base + half) k ≡ b → (base + half ≤ k) × (k < base + half + (size - half))) [
-        | true ↦ λ q. (leb-true _ _ q, omega (arith, (among k m e).1))
-        | false ↦ λ q. absurd (omega (arith, e, rising_later langs rises k (base + half) (leb-false _ _ q) l))
-      ]) refl
+-- the pair at a place is the word there
+pair_word : (n : ℕ) (bytes : List ℕ) (k : ℕ) (d : List ℕ) → n + n ≤ length bytes → k < n → key (get_or (first_chunks 2 n bytes) k d) ≡ get_or (words bytes) k 0
+unfolding words
+pair_word zero bytes k d l h = absurd (omega arith)
+pair_word (suc n) (high ∷ low ∷ bytes) zero d l h = omega arith
+pair_word (suc n) (high ∷ low ∷ bytes) (suc k) d l h = pair_word n bytes k d (omega arith) (omega arith)
+pair_word (suc n) (high ∷ []) k d l h = absurd (omega arith)
+pair_word (suc n) [] k d l h = absurd (omega arith)
 
-  -- above it: its place is before that
-  pub among_lower : (w base size half : ℕ) → base + half < length langs → w < get_or langs (base + half) 0 → half ≤ size - half
-      → Among langs w base size → Among langs w base (size - half)
-  among_lower w base size half l h f among k m e =
-      (elim (leb (base + half) k) as (λ b. leb (base + half) k ≡ b → (base ≤ k) × (k < base + (size - half))) [
-        | true ↦ λ q. absurd (⊎_elim (λ z. let y : base + half ≡ k = z in omega (arith, e, ap (λ i. get_or langs i 0) y)) (λ z. omega (arith, e, rising_later langs rises (base + half) k z m)) (eq-or-lt_of_le (leb-true _ _ q)))
-        | false ↦ λ q. ((among k m e).0, omega (arith, leb-false _ _ q))
-      ]) refl
+pairs_long : (n : ℕ) (bytes : List ℕ) → length (first_chunks 2 n bytes) ≡ n
+pairs_long zero bytes = refl
+pairs_long (suc n) bytes = ap suc (pairs_long n _)
 
-  -- a turn of the search: half of the places are left
-  pub among_half : (w base size half : ℕ) → 1 ≤ half → half + half ≤ size → base + size ≤ length langs → Among langs w base size
-      → (cond (leb (get_or langs (base + half) 0) w) (base + half) base + (size - half) ≤ length langs)
-      × Among langs w (cond (leb (get_or langs (base + half) 0) w) (base + half) base) (size - half)
-  among_half w base size half h f l among =
-      (elim (leb (get_or langs (base + half) 0) w) as (λ b. leb (get_or langs (base + half) 0) w ≡ b → (cond b (base + half) base + (size - half) ≤ length langs) × Among langs w (cond b (base + half) base) (size - half)) [
-        | true ↦ λ q. (omega arith, among_upper w base size half (omega arith) (leb-true _ _ q) (omega arith) among)
-        | false ↦ λ q. (omega arith, among_lower w base size half (omega arith) (leb-false _ _ q) (omega arith) among)
-      ]) refl
+-- two numbers that don't compare as equal
+differ : (v w : ℕ) → is_eq (nat_cmp v w) ≡ false → eqb v w ≡ false
+differ v w e = ne_eqb v w (λ q. let z : v ≡ w = q in true≢false (ap is_eq (nat_cmp_is w w Equal refl) ∙ rw z at e))
 
--- all places at first
-pub among_all : (langs : List ℕ) (w : ℕ) → Among langs w 0 (length langs)
-among_all langs w k m e = (omega arith, omega arith)
+module _ (bytes : List ℕ) (rises : is_rising (words bytes) ≡ true) (w : ℕ) where
+  abbrev n : ℕ
+  n = length bytes / 2
 
--- no list, no word
-pub nothing_listed : (langs : List ℕ) (w : ℕ) → length langs ≡ 0 → is_listed langs w ≡ false
-unfolding is_listed any
-nothing_listed langs w e = rw e refl
+  abbrev pairs : List (List ℕ)
+  pairs = first_chunks 2 n bytes
 
--- one place is left: the word is listed exactly if it stands there
-pub listed_there : (langs : List ℕ) (w base : ℕ) → base < length langs → Among langs w base 1 → eqb (get_or langs base 0) w ≡ is_listed langs w
-unfolding is_listed
-listed_there langs w base l among =
-    (elim (eqb (get_or langs base 0) w) as (λ b. eqb (get_or langs base 0) w ≡ b → eqb (get_or langs base 0) w ≡ any (λ i. eqb (get_or langs i 0) w) (length langs)) [
-      | true ↦ λ q. q ∙ sym (any_one (λ i. eqb (get_or langs i 0) w) (length langs) base l q)
-      | false ↦ λ q. q ∙ sym (any_nowhere (λ i. eqb (get_or langs i 0) w) (length langs) (λ k m. ne_eqb (get_or langs k 0) w (λ z.
-          let e : get_or langs k 0 ≡ w = z in
-          let a = among k m e in
-          let y : k ≡ base = omega (arith, a.0, a.1) in
-          eqb-false (get_or langs base 0) w q (rw y at e))))
-    ]) refl
+  at : (k : ℕ) (d : List ℕ) → k < n → key (get_or pairs k d) ≡ get_or (words bytes) k 0
+  at k d h = pair_word n bytes k d (omega arith) h
+
+  sorted : IsSortedBy (λ x y. is_lt (nat_cmp (key x) (key y))) pairs
+  sorted k d l h =
+      let inside : k + 1 < n = rw (pairs_long n bytes) at h in
+      let up = rising_later (words bytes) rises k (k + 1) (omega arith) (omega (arith, how_many_lem bytes, inside)) in
+      rw (at k d (omega (arith, inside)), at (k + 1) d inside, ← nat_cmp_is (get_or (words bytes) (k + 1) 0) (get_or (words bytes) k 0) Greater up) refl
+
+  -- what the search finds is listed, and what it doesn't find is not
+  pub listed_by_search : (r : Result ℕ ℕ) → IsSearchInRange r n → IsBinarySearchResult (λ y. nat_cmp (key y) w) pairs r → is_ok r ≡ is_listed (words bytes) w
+  unfolding is_listed
+  listed_by_search (Ok i) inside found =
+      let here : get_or (words bytes) i 0 ≡ w = sym (at i [] inside) ∙ exact_unsigned (key (get_or pairs i [])) w (found []) in
+      sym (any_one (λ i. eqb (get_or (words bytes) i 0) w) (length (words bytes)) i (omega (arith, how_many_lem bytes, inside)) (eq-eqb _ _ here))
+  listed_by_search (Err i) inside found =
+      let parts = found (searchable_from_sorted nat_cmp_total key pairs w sorted) in
+      sym (any_nowhere (λ i. eqb (get_or (words bytes) i 0) w) (length (words bytes)) (λ k h.
+      let l : k < n = omega (arith, how_many_lem bytes, h) in
+      rw (← at k [] l) (differ (key (get_or pairs k [])) w
+      ((elim (ltb k i) as (λ b. ltb k i ≡ b → is_eq (nat_cmp (key (get_or pairs k [])) w) ≡ false) [
+        | true ↦ λ q. ap is_eq (parts.0 k [] (omega arith) (ltb-true _ _ q))
+        | false ↦ λ q. ap is_eq (parts.1 k [] (ltb-false _ _ q) (omega (arith, pairs_long n bytes, l)))
+      ]) refl))))

@@ -6,7 +6,7 @@ ghost use Rattle.sheet.specs.Words.{words};
 
 use crate::rising::rises;
 use crate::table::{LANGUAGE_WORDS, fill};
-use sheet::words::{word, word_count};
+use sheet::words::word_count;
 use std::marker::Model;
 use values::language::three_letters;
 
@@ -23,13 +23,6 @@ impl<'a> Model for Languages<'a> {
     ghost view = { λ l. words l.bytes.now };
 
     ghost invariant = { λ l. (is_rising (words l.bytes.now) ≡ true) × Tabled (words l.bytes.now) l.table.now };
-}
-
-// One of two indices.
-fn picked(test: bool, a: usize, b: usize) -> usize
-    ensures { result ≡ cond test a b }
-{
-    if test { a } else { b }
 }
 
 // "from qaa to qtz (second letter a to t)".
@@ -84,31 +77,21 @@ impl<'a> Languages<'a> {
         }
     }
 
-    // Whether the list has the word. Half of the words that it can be among are left at each turn.
+    // Whether the list has the word.
     fn is_listed(&self, w: u16) -> bool
         ensures { result ≡ is_listed self.now w }
     {
-        let langs = self.bytes;
-        let n = word_count(langs);
-        if n == 0 {
-            return false;
-        }
-        let mut base: usize = 0;
-        let mut size = n;
-        while 1 < size {
-            let half = size / 2;
-            let middle = base + half;
-            base = picked(word(langs, middle) <= w, middle, base);
-            size -= half;
-        }
-        word(langs, base) == w
+        let (codes, _) = self.bytes.as_chunks::<2>();
+        codes
+            .binary_search_by_key(&w, |code| u16::from_be_bytes(*code))
+            .is_ok()
     }
 
     // "a code of three letters is good if listed, or from qaa to qtz".
     pub fn good(&self, w: u16) -> bool
         ensures { result ≡ good_language self.now w }
     {
-        let i = w as usize;
+        let i = usize::from(w);
         if i < self.table.len() {
             return (self.table[i] == 1) | (three_letters(w) & is_reserved(w));
         }

@@ -5,21 +5,14 @@ ghost use Rattle.languages.specs.steps.Falls.{falls_at};
 ghost use Rattle.profile.specs.Languages.{is_rising};
 ghost use Rattle.sheet.specs.Words.{words};
 
-// 1 for a test that holds, else 0.
-fn bit(test: bool) -> u8
-    ensures { result ≡ cond test 1 0 }
-{
-    if test { 1 } else { 0 }
-}
-
 // 1 where a word begins at byte j and the next is at most it.
 fn fall_bit(langs: &[u8], j: usize) -> u8
     requires { j + 3 < length langs.now }
     ensures { result ≡ cond (falls_at langs.now j) 1 0 }
 {
-    let below = bit(langs[j + 2] < langs[j]);
-    let level = bit(langs[j + 2] == langs[j]) & bit(langs[j + 3] <= langs[j + 1]);
-    bit(j % 2 == 0) & (below | level)
+    let below = u8::from(langs[j + 2] < langs[j]);
+    let level = u8::from(langs[j + 2] == langs[j]) & u8::from(langs[j + 3] <= langs[j + 1]);
+    u8::from(j % 2 == 0) & (below | level)
 }
 
 // "strictly rising": no word is at most the one before it.
@@ -31,11 +24,9 @@ pub fn rises(langs: &[u8]) -> bool
         return true;
     }
     let last = m - 3;
-    let mut found: u8 = 0;
-    let mut j: usize = 0;
-    while j < last {
-        found = found | fall_bit(langs, j);
-        j += 1;
+    let mut found = 0;
+    for j in 0..last {
+        found |= fall_bit(langs, j);
     }
     found == 0
 }

@@ -14,7 +14,7 @@ pub const LANGUAGE_WORDS: usize = 27483;
 fn mark_code(w: u16, table: &mut [u8; LANGUAGE_WORDS])
     ensures { table.new ≡ cond (three_letters w && ltb w (length table.old)) (set table.old w 1) table.old }
 {
-    let i = w as usize;
+    let i = usize::from(w);
     if three_letters(w) & (i < LANGUAGE_WORDS) {
         table[i] = 1;
     }
@@ -25,10 +25,7 @@ pub fn fill(langs: &[u8], table: &mut [u8; LANGUAGE_WORDS])
     ensures { Tabled (words langs.now) table.new }
 {
     *table = [0; LANGUAGE_WORDS];
-    let n = word_count(langs);
-    let mut i: usize = 0;
-    while i < n {
+    for i in 0..word_count(langs) {
         mark_code(word(langs, i), table);
-        i += 1;
     }
 }

@@ -10,7 +10,7 @@ use Rattle.languages.proofs.TableLaws.{tabled_first, tabled_more}
 use Rattle.languages.proofs.table.fill.Goals as goal
 
 pub loop-i-init : goal.loop-i-init
-loop-i-init c = (omega arith, refl, tabled_first (words c.args.langs.now) 27483)
+loop-i-init c = (refl, tabled_first (words c.args.langs.now) 27483)
 
 pub loop-i-preserved : goal.loop-i-preserved
 unfolding sheet_of word
@@ -18,12 +18,12 @@ loop-i-preserved c =
     let l = c.loop-i in let langs = words c.args.langs.now in
     let v : c.word.result ≡ get_or langs l.i 0 = c.word.ensures in
     let e : c.mark_code.new.table ≡ cond (three_letters (get_or langs l.i 0) && ltb (get_or langs l.i 0) (length l.table)) (set l.table (get_or langs l.i 0) 1) l.table = rw v at c.mark_code.ensures in
-    (omega (arith, c.loop-i-test.true), c.mark_code.array_long, rw e (tabled_more langs l.i l.table l.invariant.2))
+    (c.mark_code.array_long, rw e (tabled_more langs l.i l.table l.invariant.1))
 
 pub returns : goal.returns
 unfolding is_listed sheet_of word_count
 returns c =
     let l = c.loop-i in let langs = words c.args.langs.now in
-    let n : c.word_count-n.result ≡ length langs = c.word_count-n.ensures in
-    let e : l.i ≡ length langs = omega (arith, n, c.loop-i-test.false, l.invariant.0) in
-    rw e at l.invariant.2
+    let n : c.word_count-i-end.result ≡ length langs = c.word_count-i-end.ensures in
+    let e : l.i ≡ length langs = omega (arith, n) in
+    rw e at l.invariant.1
