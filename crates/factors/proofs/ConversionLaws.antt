@@ -10,9 +10,10 @@ use lib.Signed.{lt_z}
 use Rattle.std.proofs.lemmas.Bool.{false_from_ne_true}
 use Rattle.std.specs.List.{position_or_len}
 use Rattle.std.proofs.lemmas.List.Sums.{position_or_len_is}
+use Rattle.std.specs.Prelude.{Ok, Err}
 use Rattle.values.specs.declared.Gain.TheVariants.{Tenths}
 use Rattle.values.specs.Gain.{at_most, legal_gain}
-use Rattle.factors.specs.declared.Conversion.TheVariants.{Gives, FactorTooHigh}
+use Rattle.factors.specs.declared.Refusal.TheVariants.{FactorTooHigh}
 use Rattle.factors.specs.Table.{entries}
 use Rattle.factors.specs.Decibels.{tenth_at}
 use Rattle.factors.specs.Conversion.{most_factor, least_tenth, factor_gain, conversion}
@@ -21,11 +22,11 @@ use Rattle.factors.proofs.TenthLaws.{not_lower}
 use Rattle.factors.proofs.DecibelLaws.{place_of, entry_below, not_below, least_tenth_lem}
 
 -- the answers by the factor
-pub answered : (f : ℕ) → f ≤ most_factor → conversion f ≡ Gives (factor_gain f)
+pub answered : (f : ℕ) → f ≤ most_factor → conversion f ≡ Ok (factor_gain f)
 unfolding conversion
 answered f h = rw (le-leb f most_factor h) refl
 
-pub refused : (f : ℕ) → most_factor < f → conversion f ≡ FactorTooHigh
+pub refused : (f : ℕ) → most_factor < f → conversion f ≡ Err FactorTooHigh
 unfolding conversion
 refused f h = rw (lt-leb f most_factor h) refl
 

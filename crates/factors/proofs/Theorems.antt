@@ -8,9 +8,10 @@ use native.Mathlib.Omega.{arith}
 use lib.IntN.{ℤ, pos, negsuc}
 use lib.ListN.{length}
 use lib.Signed.{lt_z}
+use Rattle.std.specs.Prelude.{Ok, Err}
 use Rattle.values.specs.declared.Gain.TheVariants.{Silent, Tenths}
 use Rattle.values.specs.Gain.{at_most, legal_gain}
-use Rattle.factors.specs.declared.Conversion.TheVariants.{Gives, FactorTooHigh}
+use Rattle.factors.specs.declared.Refusal.TheVariants.{FactorTooHigh}
 use Rattle.factors.specs.Table.{entries}
 use Rattle.factors.specs.Decibels.{keeps_rule}
 use Rattle.factors.specs.Conversion.{most_factor, least_tenth, factor_gain, conversion}
@@ -41,21 +42,21 @@ entries_rise_by_tenths d e t u h =
     rw (← p.1.1, ← q.1.1, entry_at_lem p.0, entry_at_lem q.0) (entries_rise p.0 q.0 l (rw all_there q.1.0))
 
 -- "the least tenth of a dB that is not below it", for each factor from 1 to 11,220,184
-pub factors_give_the_least_tenth : (f : ℕ) → 1 ≤ f → f ≤ most_factor → (conversion f ≡ Gives (Tenths (least_tenth f))) × LeastTenth f (least_tenth f)
-factors_give_the_least_tenth f h m = (answered f m ∙ ap Gives (tenths f h), least_tenth_lem f m)
+pub factors_give_the_least_tenth : (f : ℕ) → 1 ≤ f → f ≤ most_factor → (conversion f ≡ Ok (Tenths (least_tenth f))) × LeastTenth f (least_tenth f)
+factors_give_the_least_tenth f h m = (answered f m ∙ ap Ok (tenths f h), least_tenth_lem f m)
 
 -- no other tenth is that
 pub the_least_tenth_is_one : (f : ℕ) (d e : ℤ) → LeastTenth f d → LeastTenth f e → d ≡ e
 the_least_tenth_is_one = least_once
 
 -- "0 is silence"
-pub nought_is_silence : conversion 0 ≡ Gives Silent
+pub nought_is_silence : conversion 0 ≡ Ok Silent
 unfolding conversion factor_gain
 nought_is_silence = refl
 
 -- "1 to 1,000 give -600"
-pub low_factors_give_the_floor : (f : ℕ) → 1 ≤ f → f ≤ 1000 → conversion f ≡ Gives (Tenths (negsuc 599))
-low_factors_give_the_floor f h l = answered f (omega (arith, l)) ∙ ap Gives (tenths f h ∙ ap Tenths (lowest_tenth f l))
+pub low_factors_give_the_floor : (f : ℕ) → 1 ≤ f → f ≤ 1000 → conversion f ≡ Ok (Tenths (negsuc 599))
+low_factors_give_the_floor f h l = answered f (omega (arith, l)) ∙ ap Ok (tenths f h ∙ ap Tenths (lowest_tenth f l))
 
 -- "1,000,000 gives 0, 1,000,001 gives 1": these, and others, computed
 pub cases_have_their_answers : map (λ (c : Case). conversion c.factor) cases ≡ map (λ (c : Case). c.answer) cases
@@ -67,10 +68,10 @@ unfolding entry_of entries
 the_last_entry = refl
 
 -- "34, the factor is above 11,220,184": then it is refused, and all others are answered a legal gain
-pub high_factors_are_refused : (f : ℕ) → most_factor < f → conversion f ≡ FactorTooHigh
+pub high_factors_are_refused : (f : ℕ) → most_factor < f → conversion f ≡ Err FactorTooHigh
 high_factors_are_refused = refused
 
-pub others_give_a_legal_gain : (f : ℕ) → f ≤ most_factor → (conversion f ≡ Gives (factor_gain f)) × (legal_gain (factor_gain f) ≡ true)
+pub others_give_a_legal_gain : (f : ℕ) → f ≤ most_factor → (conversion f ≡ Ok (factor_gain f)) × (legal_gain (factor_gain f) ≡ true)
 others_give_a_legal_gain f h = (answered f h, gain_legal f h)
 
 -- a higher factor gives no lower gain

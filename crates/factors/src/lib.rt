@@ -5,14 +5,8 @@
 pub mod convert;
 pub mod table;
 
-use values::Gain;
-
-// The number of the refusal: "34, the factor is above 11,220,184".
-pub const FACTOR_TOO_HIGH: u32 = 34;
-
-// What a factor is answered: the gain that it gives, or refusal 34.
+// Why a factor has no gain, with the refusal's number: "34, the factor is above 11,220,184".
 #[derive(Clone, Copy)]
-pub enum Conversion {
-    Gives(Gain),
-    FactorTooHigh,
+pub enum Refusal {
+    FactorTooHigh = 34,
 }

@@ -1,13 +1,10 @@
 // "a fixed table of 811 entries, for each tenth d from -600 to 210 the largest n where n to the power 200, times 10 to the power 600, is at
 // most 10 to the power (1800 + d)".
-ghost use Rattle.std.specs.Prelude.{◌<◌, ◌≡◌, get_or};
-ghost use Rattle.factors.specs.Table.{entries};
-
 // How many entries there are.
 pub const ENTRIES: usize = 811;
 
 // Those of -600, -599 and so on to 210.
-const LARGEST: [u32; ENTRIES] = [
+pub(crate) const LARGEST: [u32; ENTRIES] = [
     1000, 1011, 1023, 1035, 1047, 1059, 1071, 1083, 1096, 1109, 1122, 1135, 1148, 1161, 1174, 1188,
     1202, 1216, 1230, 1244, 1258, 1273, 1288, 1303, 1318, 1333, 1348, 1364, 1380, 1396, 1412, 1428,
     1445, 1462, 1479, 1496, 1513, 1531, 1548, 1566, 1584, 1603, 1621, 1640, 1659, 1678, 1698, 1717,
@@ -75,11 +72,3 @@ const LARGEST: [u32; ENTRIES] = [
     9332543, 9440608, 9549925, 9660508, 9772372, 9885530, 10000000, 10115794, 10232929, 10351421,
     10471285, 10592537, 10715193, 10839269, 10964781, 11091748, 11220184,
 ];
-
-// The entry at a place of the table: that of the tenth -600 is at 0.
-pub(crate) fn entry(place: usize) -> u32
-    requires { place < 811 }
-    ensures { result ≡ get_or entries place 0 }
-{
-    LARGEST[place]
-}

@@ -1,19 +1,20 @@
 -- The gain of a factor as a number. Document 02, L3: a converter gives "the least tenth of a dB that is not below" a factor in millionths, "Errors:
 -- 34, the factor is above 11,220,184". As in a sheet, silence is -32768; and as in the check's answer, a refusal is 1,000,000 times its
 -- number. Assumes nothing.
-use Rattle.std.specs.Prelude.{ℕ, ◌*◌, ◌≡◌, refl, List, [], ◌∷◌, map, ℤ, pos, negsuc}
+use Rattle.std.specs.Prelude.{ℕ, ◌*◌, ◌≡◌, refl, [], ◌∷◌, map, ℤ, pos, negsuc, Result, Ok, Err}
+use Rattle.values.specs.declared.Gain.{Gain}
 use Rattle.values.specs.declared.Gain.TheVariants.{Silent, Tenths}
-use Rattle.factors.specs.declared.Conversion.{Conversion}
-use Rattle.factors.specs.declared.Conversion.TheVariants.{Gives, FactorTooHigh}
+use Rattle.factors.specs.declared.Refusal.{Refusal}
+use Rattle.factors.specs.declared.Refusal.TheVariants.{FactorTooHigh}
 use Rattle.factors.specs.Table.{entries}
 use Rattle.factors.specs.Decibels.{tenth_at}
 use Rattle.factors.specs.Conversion.{factor_too_high, least_tenth, factor_gain, conversion}
 
 -- -32768 for silence, the tenths, 34,000,000 for refusal 34
-unfoldable pub conversion_code : Conversion → ℤ
-conversion_code (Gives Silent) = negsuc 32767
-conversion_code (Gives (Tenths z)) = z
-conversion_code FactorTooHigh = pos (1000000 * factor_too_high)
+unfoldable pub conversion_code : Result Gain Refusal → ℤ
+conversion_code (Ok Silent) = negsuc 32767
+conversion_code (Ok (Tenths z)) = z
+conversion_code (Err FactorTooHigh) = pos (1000000 * factor_too_high)
 
 -- some factors, computed
 pub conversion_codes :

@@ -3,26 +3,25 @@ ghost use Rattle.std.specs.Prelude.{◌≡◌};
 ghost use Rattle.factors.specs.Conversion.{conversion};
 ghost use Rattle.host.specs.HostGain.{conversion_code};
 
+use factors::Refusal;
 use factors::convert::gain_of_factor as converted;
-use factors::{Conversion, FACTOR_TOO_HIGH};
 use values::Gain;
 
 // The refusal as a number of the check's kind.
-const REFUSED: i32 = 1000000 * FACTOR_TOO_HIGH as i32;
+const REFUSED: i32 = 1000000 * Refusal::FactorTooHigh as i32;
 
 // -32768, as in a sheet.
 const SILENCE: i32 = -32768;
 
 // The number of an answer.
-fn conversion_code(conversion: Conversion) -> i32
+#[tactic(auto, unfolding(crate::specs::HostGain::conversion_code))]
+fn conversion_code(conversion: Result<Gain, Refusal>) -> i32
     ensures { result ≡ conversion_code conversion }
 {
     match conversion {
-        Conversion::Gives(gain) => match gain {
-            Gain::Silent => SILENCE,
-            Gain::Tenths(z) => z as i32,
-        },
-        Conversion::FactorTooHigh => REFUSED,
+        Ok(Gain::Silent) => SILENCE,
+        Ok(Gain::Tenths(z)) => i32::from(z),
+        Err(Refusal::FactorTooHigh) => REFUSED,
     }
 }
 
