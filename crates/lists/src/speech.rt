@@ -3,8 +3,8 @@ ghost use Rattle.std.specs.Prelude.{false, ◌≡◌};
 ghost use Rattle.lists.specs.steps.Speech.{content_broken, programme_broken, programme_lists_broken, speech_broken};
 ghost use Rattle.sheet.specs.Words.{sheet_of};
 
-use crate::entries::{any_lacking, any_no_language, any_twice, beyond, labels_rise};
-use crate::words::{ends_before, number_at, record_at, word_at};
+use crate::entries::Span;
+use crate::words::{ends_before, record_at, span_at, word_at};
 use languages::list::Languages;
 use profile::limits::{LABELS_LIMIT, PROGRAMME_CONTENTS_LIMIT, PROGRAMME_SETS_LIMIT, exceeds};
 use sheet::fields::{
@@ -12,33 +12,51 @@ use sheet::fields::{
     OBJECTS, PROGRAMME_LABELS, PROGRAMME_LANGUAGE, PROGRAMME_LOUDNESS, PROGRAMMES, REFERENCES,
     SET_LIST, VALUE_SETS,
 };
-use sheet::layout::{count, offset};
+use sheet::layout::count;
 use values::language::loudness;
 
 // A list of so many labels is compared by pairs; a longer one is left to the search.
 const LONGEST: u16 = 16;
 
-// The language and the loudness of a content without labels.
-fn unlabelled_breaks(s: &[u8], langs: &Languages, lang: u16, first: u16, loud: u16) -> bool
-    ensures { result ≡ speech_broken (sheet_of s.now) langs.now lang first 0 loud }
-{
-    beyond(count(s, REFERENCES), first, 0) | (!langs.good(lang) | !loudness(loud))
+// The language, the labels and the loudness of a programme or content.
+#[derive(Clone, Copy)]
+struct Speech {
+    language: u16,
+    labels: Span,
+    loudness: u16,
 }
 
-// The language, the labels and the loudness of a programme or content.
-fn labelled_breaks(s: &[u8], langs: &Languages, lang: u16, first: u16, n: u16, loud: u16) -> bool
-    ensures { result ≡ speech_broken (sheet_of s.now) langs.now lang first n loud }
-{
-    let base = offset(s, REFERENCES);
-    if labels_rise(s, langs, base, first, n) {
-        return beyond(count(s, REFERENCES), first, n)
-            | (!langs.good(lang) | !loudness(loud))
-            | exceeds(s, LABELS_LIMIT, n as u64);
+impl Speech {
+    // Whether they break a rule, where there are no labels.
+    fn breaks_without_labels(self, s: &[u8], langs: &Languages) -> bool
+        ensures { result ≡ speech_broken (sheet_of s.now) langs.now self.language self.labels.first 0 self.loudness }
+    {
+        let labels = Span {
+            first: self.labels.first,
+            count: 0,
+        };
+        labels.is_beyond(count(s, REFERENCES))
+            | (!langs.good(self.language) | !loudness(self.loudness))
     }
-    beyond(count(s, REFERENCES), first, n)
-        | (!langs.good(lang) | any_no_language(s, langs, base, first, n) | !loudness(loud))
-        | exceeds(s, LABELS_LIMIT, n as u64)
-        | any_twice(s, base, first, n)
+
+    // Whether they break a rule.
+    fn breaks(self, s: &[u8], langs: &Languages) -> bool
+        ensures { result ≡ speech_broken (sheet_of s.now) langs.now self.language self.labels.first self.labels.count self.loudness }
+    {
+        let n = u64::from(self.labels.count);
+        let entries = self.labels.entries(s);
+        if entries.labels_rise(s, langs) {
+            return self.labels.is_beyond(count(s, REFERENCES))
+                | (!langs.good(self.language) | !loudness(self.loudness))
+                | exceeds(s, LABELS_LIMIT, n);
+        }
+        self.labels.is_beyond(count(s, REFERENCES))
+            | (!langs.good(self.language)
+                | entries.any_no_language(s, langs)
+                | !loudness(self.loudness))
+            | exceeds(s, LABELS_LIMIT, n)
+            | entries.any_twice(s)
+    }
 }
 
 // Whether a content may break one of rules 4, 5, 6, 8 and 9.
@@ -49,34 +67,34 @@ pub fn content_breaks(s: &[u8], langs: &Languages, k: u16) -> bool
     if ends_before(s, CONTENTS, at) {
         return true;
     }
-    let n = number_at(s, at, CONTENT_LABELS);
-    if LONGEST < n {
+    let speech = Speech {
+        language: word_at(s, at, CONTENT_LANGUAGE),
+        labels: span_at(s, at, CONTENT_LABELS),
+        loudness: word_at(s, at, CONTENT_LOUDNESS),
+    };
+    if LONGEST < speech.labels.count {
         return true;
     }
     if count(s, OBJECTS) <= word_at(s, at, CONTENT_OBJECT) {
         return true;
     }
-    let lang = word_at(s, at, CONTENT_LANGUAGE);
-    let first = word_at(s, at, CONTENT_LABELS);
-    let loud = word_at(s, at, CONTENT_LOUDNESS);
-    if n == 0 {
-        return unlabelled_breaks(s, langs, lang, first, loud);
+    if speech.labels.count == 0 {
+        return speech.breaks_without_labels(s, langs);
     }
-    labelled_breaks(s, langs, lang, first, n, loud)
+    speech.breaks(s, langs)
 }
 
 // The content list and the set list of a programme.
-fn programme_lists_break(s: &[u8], first: u16, n: u16, from: u16, sets: u16) -> bool
-    ensures { result ≡ programme_lists_broken (sheet_of s.now) first n from sets }
+fn programme_lists_break(s: &[u8], contents: Span, sets: Span) -> bool
+    ensures { result ≡ programme_lists_broken (sheet_of s.now) contents.first contents.count sets.first sets.count }
 {
-    let base = offset(s, REFERENCES);
     let many = count(s, REFERENCES);
-    beyond(many, first, n)
-        | beyond(many, from, sets)
-        | ((n < 1) | exceeds(s, PROGRAMME_CONTENTS_LIMIT, n as u64))
-        | exceeds(s, PROGRAMME_SETS_LIMIT, sets as u64)
-        | any_lacking(s, base, first, n, count(s, CONTENTS))
-        | any_lacking(s, base, from, sets, count(s, VALUE_SETS))
+    contents.is_beyond(many)
+        | sets.is_beyond(many)
+        | ((contents.count < 1) | exceeds(s, PROGRAMME_CONTENTS_LIMIT, u64::from(contents.count)))
+        | exceeds(s, PROGRAMME_SETS_LIMIT, u64::from(sets.count))
+        | contents.entries(s).any_lacking(s, count(s, CONTENTS))
+        | sets.entries(s).any_lacking(s, count(s, VALUE_SETS))
 }
 
 // Whether a programme may break one of rules 4, 5, 6, 8 and 9.
@@ -87,22 +105,14 @@ pub fn programme_breaks(s: &[u8], langs: &Languages, k: u16) -> bool
     if ends_before(s, PROGRAMMES, at) {
         return true;
     }
-    let n = number_at(s, at, PROGRAMME_LABELS);
-    if LONGEST < n {
+    let speech = Speech {
+        language: word_at(s, at, PROGRAMME_LANGUAGE),
+        labels: span_at(s, at, PROGRAMME_LABELS),
+        loudness: word_at(s, at, PROGRAMME_LOUDNESS),
+    };
+    if LONGEST < speech.labels.count {
         return true;
     }
-    labelled_breaks(
-        s,
-        langs,
-        word_at(s, at, PROGRAMME_LANGUAGE),
-        word_at(s, at, PROGRAMME_LABELS),
-        n,
-        word_at(s, at, PROGRAMME_LOUDNESS),
-    ) | programme_lists_break(
-        s,
-        word_at(s, at, CONTENT_LIST),
-        number_at(s, at, CONTENT_LIST),
-        word_at(s, at, SET_LIST),
-        number_at(s, at, SET_LIST),
-    )
+    speech.breaks(s, langs)
+        | programme_lists_break(s, span_at(s, at, CONTENT_LIST), span_at(s, at, SET_LIST))
 }
