@@ -9,17 +9,15 @@ use native.Mathlib.Nat.{add-zero, eq-or-lt_of_le}
 use native.Mathlib.Numerals.{add-one}
 use borrow.Author.Tests.{eq-eqb, ne_eqb, lt-ltb, le-ltb, ltb-true, ltb-false, leb-true, leb-false}
 use lib.Dec.{eqb, leb, ltb}
-use lib.ListN.{get_or}
+use lib.ListN.{length, get_or}
 use Rattle.sheet.specs.Words.{Sheet}
 use Rattle.sheet.specs.Layout.{entry}
 use Rattle.profile.specs.Counting.{how_many, sum}
 use Rattle.profile.proofs.SumLaws.{sum_eq, sum_zero, sum_swap, sum_at, how_many_sum, how_many_eq}
 use Rattle.tables.specs.declared.Naming.{Naming}
 use Rattle.tables.specs.declared.Naming.TheVariants.{ContentObjects, Children, Complements, ContentLists, Included, SetLists, SetSpans}
-use Rattle.tables.specs.declared.Mark.{Mark}
-use Rattle.tables.specs.declared.Mark.TheVariants.{Count}
 use Rattle.tables.specs.steps.Namings.{namers, items, item}
-use Rattle.tables.specs.steps.Marks.{Filled, MarkedTimes, marked, repeat, times_by, named_by}
+use Rattle.tables.specs.steps.Marks.{Filled, MarkedTimes, counted_once, repeat, times_by, named_by}
 use Rattle.tables.specs.steps.Coverage.{run_begin, named_at, run_end, Reaching, cover}
 use Rattle.tables.proofs.MarkLaws.{repeat_add}
 use Rattle.tables.proofs.TableLaws.{run_times}
@@ -103,32 +101,41 @@ cover_edges a b y n h = how_many_split (λ q. leb (a q) y && ltb y (b q)) (λ q.
         ]) refl
 
 -- a count that goes on twice or more
-pub count_twice : (n c : ℕ) → repeat (marked Count) (suc (suc n)) c ≡ 2
+pub count_twice : (n c : ℕ) → repeat counted_once (suc (suc n)) c ≡ 2
 unfolding repeat
 count_twice zero c =
-    (elim (eqb c 0) as (λ b. eqb c 0 ≡ b → marked Count (marked Count c) ≡ 2) [
+    (elim (eqb c 0) as (λ b. eqb c 0 ≡ b → counted_once (counted_once c) ≡ 2) [
       | true ↦ λ e. rw e
       | false ↦ λ e. rw e
     ]) refl
 count_twice (suc n) c = rw (count_twice n c)
 
 -- one index more
-pub indices_more : (mark : Mark) (t₀ t t' : List ℕ) (g c : ℕ → ℕ) (y w k : ℕ) → w ≡ g y → k ≡ c y → MarkedTimes mark (λ x. sum (λ j. cond (eqb (g j) x) (c j) 0) y) t₀ t
-    → Filled (λ z. cond (eqb w z) (repeat (marked mark) k (get_or t z 0)) (get_or t z 0)) t t' → MarkedTimes mark (λ x. sum (λ j. cond (eqb (g j) x) (c j) 0) (y + 1)) t₀ t'
+pub indices_more : (f : ℕ → ℕ) (t₀ t t' : List ℕ) (g c : ℕ → ℕ) (y w k : ℕ) → w ≡ g y → k ≡ c y → MarkedTimes f (λ x. sum (λ j. cond (eqb (g j) x) (c j) 0) y) t₀ t
+    → Filled (λ z. cond (eqb w z) (repeat f k (get_or t z 0)) (get_or t z 0)) t t' → MarkedTimes f (λ x. sum (λ j. cond (eqb (g j) x) (c j) 0) (y + 1)) t₀ t'
 unfolding sum repeat
-indices_more mark t₀ t t' g c y w k ew ek before now = (
+indices_more f t₀ t t' g c y w k ew ek before now = (
   now.0 ∙ before.0,
   λ x l.
       now.1 x l
-      ∙ ap₂ (λ (v n : ℕ). cond (eqb v x) (repeat (marked mark) n (get_or t x 0)) (get_or t x 0)) ew ek
-      ∙ ap (λ (d : ℕ). cond (eqb (g y) x) (repeat (marked mark) (c y) d) d) (before.1 x (rw now.0 at l))
+      ∙ ap₂ (λ (v n : ℕ). cond (eqb v x) (repeat f n (get_or t x 0)) (get_or t x 0)) ew ek
+      ∙ ap (λ (d : ℕ). cond (eqb (g y) x) (repeat f (c y) d) d) (before.1 x (rw now.0 at l))
       ∙ step (eqb (g y) x) (sum (λ j. cond (eqb (g j) x) (c j) 0) y) (get_or t₀ x 0)
-      ∙ ap (λ (n : ℕ). repeat (marked mark) (sum (λ j. cond (eqb (g j) x) (c j) 0) n) (get_or t₀ x 0)) (sym (add-one y)),
+      ∙ ap (λ (n : ℕ). repeat f (sum (λ j. cond (eqb (g j) x) (c j) 0) n) (get_or t₀ x 0)) (sym (add-one y)),
 )
   where
-    step : (b : Bool) (n d : ℕ) → cond b (repeat (marked mark) (c y) (repeat (marked mark) n d)) (repeat (marked mark) n d) ≡ repeat (marked mark) (n + cond b (c y) 0) d
-    step true n d = sym (repeat_add (marked mark) n (c y) d)
-    step false n d = ap (λ (k : ℕ). repeat (marked mark) k d) (sym (add-zero n))
+    step : (b : Bool) (n d : ℕ) → cond b (repeat f (c y) (repeat f n d)) (repeat f n d) ≡ repeat f (n + cond b (c y) 0) d
+    step true n d = sym (repeat_add f n (c y) d)
+    step false n d = ap (λ (k : ℕ). repeat f k d) (sym (add-zero n))
+
+-- where each place has q at most, and one is added at a place, each has one more at most
+pub added_most : (t t' : List ℕ) (w q : ℕ) → Filled (λ z. cond (eqb w z) (get_or t z 0 + 1) (get_or t z 0)) t t' → ((x : ℕ) → x < length t → get_or t x 0 ≤ q)
+    → (x : ℕ) → x < length t' → get_or t' x 0 ≤ q + 1
+added_most t t' w q now most x l =
+    (elim (eqb w x) as (λ b. get_or t' x 0 ≡ cond b (get_or t x 0 + 1) (get_or t x 0) → get_or t' x 0 ≤ q + 1) [
+      | true ↦ λ e. omega (arith, e, most x (rw now.0 at l))
+      | false ↦ λ e. omega (arith, e, most x (rw now.0 at l))
+    ]) (now.1 x l)
 
 -- one edge more
 pub edges_more : (e : ℕ → ℕ) (t₀ t t' : List ℕ) (q w : ℕ) → w ≡ e q → Filled (λ y. how_many (λ j. eqb (e j) y) q) t₀ t

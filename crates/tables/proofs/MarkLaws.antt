@@ -14,10 +14,8 @@ use Rattle.sheet.specs.Words.{Sheet}
 use Rattle.profile.specs.Counting.{how_many, sum}
 use Rattle.profile.proofs.CountingLaws.{any_how_many}
 use Rattle.tables.specs.declared.Naming.{Naming}
-use Rattle.tables.specs.declared.Mark.{Mark}
-use Rattle.tables.specs.declared.Mark.TheVariants.{Store, First}
 use Rattle.tables.specs.steps.Namings.{items, item}
-use Rattle.tables.specs.steps.Marks.{Standing, MarkedTimes, marked, repeat, times_by, named_before, names_by, first_from}
+use Rattle.tables.specs.steps.Marks.{Standing, MarkedTimes, first_stored, repeat, times_by, named_before, names_by, first_from}
 
 -- so many times, and so many again
 pub repeat_add : (f : ℕ → ℕ) (a b c : ℕ) → repeat f (a + b) c ≡ repeat f b (repeat f a c)
@@ -37,7 +35,7 @@ repeat_more f p n c =
     ]) refl
 
 -- a number stored so many times
-pub repeat_store : (v n c : ℕ) → repeat (marked (Store v)) n c ≡ cond (eqb n 0) c v
+pub repeat_store : (v n c : ℕ) → repeat (λ (c : ℕ). v) n c ≡ cond (eqb n 0) c v
 unfolding repeat
 repeat_store v zero c = refl
 repeat_store v (suc n) c = rw (ne_eqb (suc n) 0 (λ q. let z : suc n ≡ 0 = q in omega arith))
@@ -81,22 +79,22 @@ module _ (f : ℕ → ℕ) (t₀ t t' : List ℕ) (long : length t' ≡ length t
       ∙ repeat_more f (λ j. eqb (g j) x) i (get_or t₀ x 0)
 
 -- one record more
-pub namers_more : (mark : Mark) (s : Sheet) (kind : Naming) (t₀ t t' : List ℕ) (q : ℕ) → MarkedTimes mark (named_before s kind q) t₀ t → MarkedTimes mark (times_by s kind q) t t'
-    → MarkedTimes mark (named_before s kind (q + 1)) t₀ t'
+pub namers_more : (f : ℕ → ℕ) (s : Sheet) (kind : Naming) (t₀ t t' : List ℕ) (q : ℕ) → MarkedTimes f (named_before s kind q) t₀ t → MarkedTimes f (times_by s kind q) t t'
+    → MarkedTimes f (named_before s kind (q + 1)) t₀ t'
 unfolding sum
-namers_more mark s kind t₀ t t' q before now = (
+namers_more f s kind t₀ t t' q before now = (
   now.0 ∙ before.0,
   λ x l.
       now.1 x l
-      ∙ ap (repeat (marked mark) (times_by s kind q x)) (before.1 x (rw now.0 at l))
-      ∙ sym (repeat_add (marked mark) (named_before s kind q x) (times_by s kind q x) (get_or t₀ x 0))
-      ∙ ap (λ (n : ℕ). repeat (marked mark) (named_before s kind n x) (get_or t₀ x 0)) (sym (add-one q)),
+      ∙ ap (repeat f (times_by s kind q x)) (before.1 x (rw now.0 at l))
+      ∙ sym (repeat_add f (named_before s kind q x) (times_by s kind q x) (get_or t₀ x 0))
+      ∙ ap (λ (n : ℕ). repeat f (named_before s kind n x) (get_or t₀ x 0)) (sym (add-one q)),
 )
 
 -- the records from q on, and the one before them
 pub first_more : (s : Sheet) (kind : Naming) (t₀ t t' : List ℕ) (q n : ℕ) → length t' ≡ length t
     → Standing (λ x. first_from (λ j. names_by s kind j x) (get_or t₀ x 0) (suc q) n) t
-    → Standing (λ x. repeat (marked (Store (suc q))) (times_by s kind q x) (get_or t x 0)) t'
+    → Standing (λ x. repeat (λ (c : ℕ). (suc q)) (times_by s kind q x) (get_or t x 0)) t'
     → Standing (λ x. first_from (λ j. names_by s kind j x) (get_or t₀ x 0) q (suc n)) t'
 unfolding first_from names_by times_by
 first_more s kind t₀ t t' q n long before now x l =
@@ -134,7 +132,7 @@ written_again v c =
     ]) refl
 
 -- so many times
-repeat_first : (v n c : ℕ) → repeat (marked (First (suc v))) n c ≡ cond (eqb n 0) c (cond (eqb c 0) (suc v) c)
+repeat_first : (v n c : ℕ) → repeat (first_stored (suc v)) n c ≡ cond (eqb n 0) c (cond (eqb c 0) (suc v) c)
 unfolding repeat
 repeat_first v zero c = refl
 repeat_first v (suc zero) c = refl
@@ -143,7 +141,7 @@ repeat_first v (suc (suc n)) c =
 
 -- one record more, which leaves what an earlier one wrote
 pub first_next : (s : Sheet) (kind : Naming) (t t' : List ℕ) (q : ℕ) → length t' ≡ length t → Standing (λ x. first_from (λ j. names_by s kind j x) 0 0 q) t
-    → Standing (λ x. repeat (marked (First (suc q))) (times_by s kind q x) (get_or t x 0)) t' → Standing (λ x. first_from (λ j. names_by s kind j x) 0 0 (q + 1)) t'
+    → Standing (λ x. repeat (first_stored (suc q)) (times_by s kind q x) (get_or t x 0)) t' → Standing (λ x. first_from (λ j. names_by s kind j x) 0 0 (q + 1)) t'
 unfolding names_by times_by
 first_next s kind t t' q long before now x l =
     now x l

@@ -9,6 +9,9 @@ use borrow.Author.Tests.{eq-eqb, ne_eqb, lt-ltb, le-ltb, le-leb, ltb-true, ltb-f
 use mathlib.Core.List.{List}
 use lib.Dec.{eqb, leb, ltb}
 use lib.ListN.{length, get_or}
+use Rattle.std.specs.Prelude.{Some, None, drop, slice_range}
+use Rattle.std.proofs.lemmas.List.{get_or-take, get_or-drop}
+use Rattle.std.proofs.lemmas.Option.{cond_some}
 use Rattle.sheet.specs.Words.{Sheet}
 use Rattle.sheet.specs.Layout.{count, field, first, number, entry}
 use Rattle.sheet.specs.Fields.{programmes, contents, objects, content_list, set_list, content_object, complement_list, set_span}
@@ -17,8 +20,7 @@ use Rattle.profile.specs.Relations.{lists, times, top, complement, leader_of, in
 use Rattle.profile.proofs.CountingLaws.{any_how_many, any_none, found, nothing, lowest_le}
 use Rattle.profile.proofs.SumLaws.{sum_eq, sum_swap, how_many_sum, any_nowhere}
 use Rattle.tables.specs.declared.Naming.TheVariants.{ContentObjects, Children, Complements, ContentLists, Included, SetLists, SetSpans}
-use Rattle.tables.specs.declared.Mark.TheVariants.{Count, Store}
-use Rattle.tables.specs.steps.Marks.{marked, repeat, times_by, named_by, names_by, first_from, first_by}
+use Rattle.tables.specs.steps.Marks.{Standing, counted_once, repeat, times_by, named_by, names_by, first_from, first_by}
 use Rattle.tables.specs.steps.Right.{counted, told, NamedSets}
 use Rattle.tables.proofs.MarkLaws.{repeat_add, repeat_store}
 
@@ -26,7 +28,7 @@ use Rattle.tables.proofs.MarkLaws.{repeat_add, repeat_store}
 counted_two : (n : ℕ) → counted (suc (suc n)) ≡ 2
 unfolding counted repeat
 counted_two zero = refl
-counted_two (suc n) = ap (marked Count) (unfold counted repeat in counted_two n)
+counted_two (suc n) = ap counted_once (unfold counted repeat in counted_two n)
 
 pub counted_zero : (n : ℕ) → eqb (counted n) 0 ≡ eqb n 0
 unfolding counted repeat
@@ -64,6 +66,14 @@ pub sum_below : (f : ℕ → ℕ) (m n : ℕ) → m ≤ n → sum f m ≤ sum f 
 unfolding sum
 sum_below f m zero l = let e : m ≡ 0 = omega arith in rw e (omega arith)
 sum_below f m (suc n) l = ⊎_elim (λ q. rw q (omega arith)) (λ k. omega (arith, sum_below f m n (omega arith))) (eq-or-lt_of_le l)
+
+-- a place of a part of a table
+pub part_place : (t u : List ℕ) (from to : ℕ) → u ≡ slice_range t from to → (k : ℕ) → k < to - from → get_or u k 0 ≡ get_or t (from + k) 0
+part_place t u from to e k l = ap (λ (v : List ℕ). get_or v k 0) e ∙ get_or-take (to - from) (drop from t) k 0 l ∙ get_or-drop from t k 0
+
+-- what is read at a place of a table that has g at each
+pub standing_read : (g : ℕ → ℕ) (t : List ℕ) (x n : ℕ) → Standing g t → cond (ltb x (length t)) (Some (get_or t x 0)) None ≡ Some n → n ≡ g x
+standing_read g t x n right e = let has = cond_some (ltb x (length t)) (get_or t x 0) n e in sym has.1 ∙ right x (ltb-true x (length t) has.0)
 
 -- a run names each of its numbers once
 pub run_times : (f v n : ℕ) → how_many (λ i. eqb (f + i) v) n ≡ cond (leb f v && ltb v (f + n)) 1 0
@@ -190,11 +200,11 @@ module _ (s : Sheet) where
       ∙ ap not (sym (counted_zero (named_by s ContentObjects o)))
 
   -- contents and child lists
-  pub namings_added : (o : ℕ) → repeat (marked Count) (named_by s Children o) (repeat (marked Count) (named_by s ContentObjects o) 0) ≡ counted (namings s o)
+  pub namings_added : (o : ℕ) → repeat counted_once (named_by s Children o) (repeat counted_once (named_by s ContentObjects o) 0) ≡ counted (namings s o)
   unfolding counted namings
   namings_added o =
-      sym (repeat_add (marked Count) (named_by s ContentObjects o) (named_by s Children o) 0)
-      ∙ ap (λ (n : ℕ). repeat (marked Count) n 0) (ap₂ (λ (a b : ℕ). a + b) (content_namings o) (unfold named_by times_by times in refl))
+      sym (repeat_add counted_once (named_by s ContentObjects o) (named_by s Children o) 0)
+      ∙ ap (λ (n : ℕ). repeat counted_once n 0) (ap₂ (λ (a b : ℕ). a + b) (content_namings o) (unfold named_by times_by times in refl))
 
   -- complement lists
   pub complement_counted : (o : ℕ) → complement s o ≡ not (eqb (counted (named_by s Complements o)) 0)
@@ -240,7 +250,7 @@ module _ (s : Sheet) where
       ∙ ap not (sym (counted_zero (named_by s ContentLists c)))
 
   -- what a programme includes
-  pub included_marked : (p o : ℕ) → repeat (marked (Store 1)) (times_by s Included p o) 0 ≡ cond (includes s p o) 1 0
+  pub included_marked : (p o : ℕ) → repeat (λ (c : ℕ). 1) (times_by s Included p o) 0 ≡ cond (includes s p o) 1 0
   unfolding times_by includes
   included_marked p o =
       repeat_store 1 (times_by s Included p o) 0
@@ -248,7 +258,7 @@ module _ (s : Sheet) where
       ∙ ap (λ (b : Bool). cond b 1 0) (sym (any_how_many (λ i. eqb (field s contents (entry s programmes p content_list i) content_object) o) (number s programmes p content_list)))
 
   -- the value sets that a programme names
-  pub set_marked : (p v : ℕ) → repeat (marked (Store 1)) (times_by s SetLists p v) 0 ≡ cond (lists s programmes p set_list v) 1 0
+  pub set_marked : (p v : ℕ) → repeat (λ (c : ℕ). 1) (times_by s SetLists p v) 0 ≡ cond (lists s programmes p set_list v) 1 0
   unfolding times_by lists
   set_marked p v =
       repeat_store 1 (times_by s SetLists p v) 0

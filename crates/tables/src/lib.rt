@@ -11,7 +11,7 @@ pub mod passes;
 pub mod reads;
 pub mod totals;
 
-// What names a record of another section, or of its own.
+// What names a record of another section, or of its own: the relations that definitions and contracts name, and no steps.
 #[derive(Clone, Copy)]
 pub enum Naming {
     // a content names its object
@@ -35,24 +35,4 @@ pub enum Naming {
 pub struct ObjectTables<'a> {
     pub tops: &'a [u16],
     pub complements: &'a [u16],
-}
-
-// What is done with the place of a record that is named.
-#[derive(Clone, Copy)]
-pub enum Mark {
-    // it is counted: 0, 1, and 2 for twice or more
-    Count,
-    // this number is written there
-    Store(u16),
-    // this number is written there, where 0 stands
-    First(u16),
-}
-
-// Which entries are counted.
-#[derive(Clone, Copy)]
-pub enum CountedEntries {
-    // those of all lists of a section's records
-    Lists(u8),
-    // those by which records name others in one way
-    Namings(Naming),
 }

@@ -1,14 +1,14 @@
 // Passes that mark a table. A record past the table's end is passed over.
-ghost use Rattle.std.specs.Prelude.{◌+◌, eqb, get_or, length, cond, ◌≡◌};
+ghost use Rattle.std.specs.Prelude.{ℕ, ◌+◌, ◌<◌, eqb, get_or, length, cond, ◌≡◌};
 ghost use Rattle.profile.specs.Counting.{how_many};
 ghost use Rattle.profile.specs.Relations.{times};
 ghost use Rattle.sheet.specs.Words.{sheet_of, word};
-ghost use Rattle.tables.specs.steps.Marks.{Filled, MarkedTimes, NamingsCounted, Standing, first_by, marked, times_by};
+ghost use Rattle.tables.specs.steps.Marks.{Filled, MarkedTimes, NamingsCounted, NumbersBelow, Standing, counted_once, first_by, times_by};
 ghost use Rattle.tables.specs.steps.Right.{Included, NamedSets};
 ghost use Rattle.tables.specs.declared.Naming.TheVariants.{ContentObjects, Included as IncludedObjects};
 
+use crate::Naming;
 use crate::namings::{items, namers};
-use crate::{Mark, Naming};
 use sheet::fields::{
     CHILD_LIST, COMPLEMENT_LIST, CONTENT_LIST, CONTENT_OBJECT, CONTENTS, OBJECTS, PROGRAMMES,
     REFERENCES, SET_LIST, SET_SPAN,
@@ -16,78 +16,86 @@ use sheet::fields::{
 use sheet::layout::{field, number, offset};
 use sheet::words::word;
 
-// What a place has after a mark.
-pub fn after(mark: Mark, c: u16) -> u16
-    ensures { result ≡ marked mark c }
+// What a count goes to: 0, 1, and 2 for twice or more.
+pub fn counted_once(c: u16) -> u16
+    ensures { result ≡ counted_once c }
 {
-    match mark {
-        Mark::Count => if c == 0 { 1 } else { 2 },
-        Mark::Store(v) => v,
-        Mark::First(v) => if c == 0 { v } else { c },
-    }
+    if c == 0 { 1 } else { 2 }
 }
 
-// Marks one place.
-pub fn mark_at(table: &mut [u16], x: u32, mark: Mark)
-    ensures { Filled (λ z. cond (eqb x z) (marked mark (get_or table.old z 0)) (get_or table.old z 0)) table.old table.new }
+// What stands at a place becomes what the mark makes of it.
+pub fn mark_at<F: Fn(u16) -> u16>(table: &mut [u16], x: u32, mark: F)
+    requires { x < length table.old → F.pre mark (get_or table.old x 0) }
+    ensures { (f : ℕ → ℕ) → NumbersBelow 65536 (F.post mark) f → Filled (λ z. cond (eqb x z) (f (get_or table.old z 0)) (get_or table.old z 0)) table.old table.new }
 {
     let i = x as usize;
+    // a slice's `get_mut` says nothing of its elements
     if i < table.len() {
-        table[i] = after(mark, table[i]);
+        table[i] = mark(table[i]);
     }
 }
 
 // Marks n places from one on.
-fn mark_span(from: u16, n: u16, mark: Mark, table: &mut [u16])
-    ensures { MarkedTimes mark (λ x. how_many (λ j. eqb (from + j) x) n) table.old table.new }
+fn mark_span<F: Fn(u16) -> u16>(from: u16, n: u16, mark: F, table: &mut [u16])
+    requires { F.IsAlwaysCallable mark }
+    ensures { (f : ℕ → ℕ) → NumbersBelow 65536 (F.post mark) f → MarkedTimes f (λ x. how_many (λ j. eqb (from + j) x) n) table.old table.new }
 {
-    let mut i: u16 = 0;
-    while i < n {
-        mark_at(table, from as u32 + i as u32, mark);
-        i += 1;
+    for i in 0..n {
+        mark_at(table, from as u32 + i as u32, &mark);
     }
 }
 
 // Marks the entries of a list: n entries of section 6, whose offset is `base`, from `first` on.
-pub fn mark_list(s: &[u8], base: u16, first: u16, n: u16, mark: Mark, table: &mut [u16])
-    ensures { MarkedTimes mark (λ x. how_many (λ j. eqb (word (sheet_of s.now) (base + (first + j))) x) n) table.old table.new }
+pub fn mark_list<F: Fn(u16) -> u16>(
+    s: &[u8],
+    base: u16,
+    first: u16,
+    n: u16,
+    mark: F,
+    table: &mut [u16],
+)
+    requires { F.IsAlwaysCallable mark }
+    ensures { (f : ℕ → ℕ) → NumbersBelow 65536 (F.post mark) f → MarkedTimes f (λ x. how_many (λ j. eqb (word (sheet_of s.now) (base + (first + j))) x) n) table.old table.new }
 {
-    let mut i: u16 = 0;
-    while i < n {
-        mark_at(
-            table,
-            word(s, base as usize + (first as usize + i as usize)) as u32,
-            mark,
-        );
-        i += 1;
+    for i in 0..n {
+        let e = word(s, base as usize + (first as usize + i as usize));
+        mark_at(table, e as u32, &mark);
     }
 }
 
 // Marks the object that a content names.
-pub fn mark_object(s: &[u8], q: u16, mark: Mark, table: &mut [u16])
-    ensures { MarkedTimes mark (times_by (sheet_of s.now) ContentObjects q) table.old table.new }
+pub fn mark_object<F: Fn(u16) -> u16>(s: &[u8], q: u16, mark: F, table: &mut [u16])
+    requires { F.IsAlwaysCallable mark }
+    ensures { (f : ℕ → ℕ) → NumbersBelow 65536 (F.post mark) f → MarkedTimes f (times_by (sheet_of s.now) ContentObjects q) table.old table.new }
 {
     mark_at(table, field(s, CONTENTS, q, CONTENT_OBJECT) as u32, mark);
 }
 
 // Marks the objects that a programme includes.
-pub fn mark_objects(s: &[u8], p: u16, mark: Mark, table: &mut [u16])
-    ensures { MarkedTimes mark (times_by (sheet_of s.now) IncludedObjects p) table.old table.new }
+pub fn mark_objects<F: Fn(u16) -> u16>(s: &[u8], p: u16, mark: F, table: &mut [u16])
+    requires { F.IsAlwaysCallable mark }
+    ensures { (f : ℕ → ℕ) → NumbersBelow 65536 (F.post mark) f → MarkedTimes f (times_by (sheet_of s.now) IncludedObjects p) table.old table.new }
 {
     let base = offset(s, REFERENCES) as usize;
     let first = field(s, PROGRAMMES, p, CONTENT_LIST) as usize;
     let n = number(s, PROGRAMMES, p, CONTENT_LIST);
-    let mut i: u16 = 0;
-    while i < n {
+    for i in 0..n {
         let c = word(s, base + (first + i as usize));
-        mark_at(table, field(s, CONTENTS, c, CONTENT_OBJECT) as u32, mark);
-        i += 1;
+        mark_at(table, field(s, CONTENTS, c, CONTENT_OBJECT) as u32, &mark);
     }
 }
 
 // Marks the entries of the list at a position of a record.
-fn mark_entries(s: &[u8], section: u8, q: u16, at: u8, mark: Mark, table: &mut [u16])
-    ensures { MarkedTimes mark (times (sheet_of s.now) section q at) table.old table.new }
+fn mark_entries<F: Fn(u16) -> u16>(
+    s: &[u8],
+    section: u8,
+    q: u16,
+    at: u8,
+    mark: F,
+    table: &mut [u16],
+)
+    requires { F.IsAlwaysCallable mark }
+    ensures { (f : ℕ → ℕ) → NumbersBelow 65536 (F.post mark) f → MarkedTimes f (times (sheet_of s.now) section q at) table.old table.new }
 {
     mark_list(
         s,
@@ -100,8 +108,9 @@ fn mark_entries(s: &[u8], section: u8, q: u16, at: u8, mark: Mark, table: &mut [
 }
 
 // Marks all that a record names.
-pub fn mark_items(s: &[u8], kind: Naming, q: u16, mark: Mark, table: &mut [u16])
-    ensures { MarkedTimes mark (times_by (sheet_of s.now) kind q) table.old table.new }
+pub fn mark_items<F: Fn(u16) -> u16>(s: &[u8], kind: Naming, q: u16, mark: F, table: &mut [u16])
+    requires { F.IsAlwaysCallable mark }
+    ensures { (f : ℕ → ℕ) → NumbersBelow 65536 (F.post mark) f → MarkedTimes f (times_by (sheet_of s.now) kind q) table.old table.new }
 {
     match kind {
         Naming::ContentObjects => mark_object(s, q, mark, table),
@@ -120,8 +129,9 @@ pub fn mark_items(s: &[u8], kind: Naming, q: u16, mark: Mark, table: &mut [u16])
 }
 
 // The same, with nothing to do for a record that names none, as most.
-pub fn mark_some(s: &[u8], kind: Naming, q: u16, mark: Mark, table: &mut [u16])
-    ensures { MarkedTimes mark (times_by (sheet_of s.now) kind q) table.old table.new }
+pub fn mark_some<F: Fn(u16) -> u16>(s: &[u8], kind: Naming, q: u16, mark: F, table: &mut [u16])
+    requires { F.IsAlwaysCallable mark }
+    ensures { (f : ℕ → ℕ) → NumbersBelow 65536 (F.post mark) f → MarkedTimes f (times_by (sheet_of s.now) kind q) table.old table.new }
 {
     if items(s, kind, q) != 0 {
         mark_items(s, kind, q, mark, table);
@@ -133,10 +143,8 @@ pub fn count_namings(s: &[u8], kind: Naming, table: &mut [u16])
     ensures { NamingsCounted (sheet_of s.now) kind table.old table.new }
 {
     let n = namers(s, kind);
-    let mut q: u16 = 0;
-    while q < n {
-        mark_items(s, kind, q, Mark::Count, table);
-        q += 1;
+    for q in 0..n {
+        mark_items(s, kind, q, counted_once, table);
     }
 }
 
@@ -144,10 +152,8 @@ pub fn count_namings(s: &[u8], kind: Naming, table: &mut [u16])
 pub fn first_namers(s: &[u8], kind: Naming, table: &mut [u16])
     ensures { Filled (λ x. first_by (sheet_of s.now) kind x (get_or table.old x 0)) table.old table.new }
 {
-    let mut q: u16 = namers(s, kind);
-    while 0 < q {
-        mark_some(s, kind, q - 1, Mark::Store(q), table);
-        q -= 1;
+    for q in (0..namers(s, kind)).rev() {
+        mark_some(s, kind, q, |_| q + 1, table);
     }
 }
 
@@ -155,11 +161,7 @@ pub fn first_namers(s: &[u8], kind: Naming, table: &mut [u16])
 pub fn clear(table: &mut [u16])
     ensures { Filled (λ x. 0) table.old table.new }
 {
-    let mut i: usize = 0;
-    while i < table.len() {
-        table[i] = 0;
-        i += 1;
-    }
+    table.fill(0);
 }
 
 // Writes 1 for the objects that a programme includes, and 0 for the others.
@@ -167,12 +169,12 @@ pub fn mark_included(s: &[u8], p: u16, table: &mut [u16])
     ensures { (length table.new ≡ length table.old) × Included (sheet_of s.now) p table.new }
 {
     clear(table);
-    mark_objects(s, p, Mark::Store(1), table);
+    mark_objects(s, p, |_| 1, table);
 }
 
 // Writes 1 for the value sets that a programme names, into a table of noughts.
 pub fn mark_named_sets(s: &[u8], p: u16, table: &mut [u16])
     ensures { (length table.new ≡ length table.old) × (Standing (λ x. 0) table.old → NamedSets (sheet_of s.now) p table.new) }
 {
-    mark_items(s, Naming::SetLists, p, Mark::Store(1), table);
+    mark_items(s, Naming::SetLists, p, |_| 1, table);
 }

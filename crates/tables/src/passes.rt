@@ -1,14 +1,13 @@
 // Passes over all records of a section that count what they name, some in several tables at once.
-ghost use Rattle.std.specs.Prelude.{suc, ◌<◌};
+ghost use Rattle.std.specs.Prelude.{suc, ◌<◌, ◌≡◌};
 ghost use Rattle.sheet.specs.Words.{sheet_of};
-ghost use Rattle.tables.specs.steps.Marks.{MarkedTimes, NamingsCounted, times_by};
+ghost use Rattle.tables.specs.steps.Marks.{MarkedTimes, NamingsCounted, counted_once, first_stored, times_by};
 ghost use Rattle.tables.specs.steps.Passes.{ListsCounted, TopsCounted};
-ghost use Rattle.tables.specs.declared.Mark.TheVariants.{Count, First};
 ghost use Rattle.tables.specs.declared.Naming.TheVariants.{ContentLists};
 
-use crate::marks::{mark_items, mark_list, mark_object, mark_some};
+use crate::Naming;
+use crate::marks::{counted_once, mark_items, mark_list, mark_object, mark_some};
 use crate::namings::items;
-use crate::{Mark, Naming};
 use sheet::fields::{CONTENT_LIST, CONTENTS, OBJECTS, PROGRAMMES, REFERENCES};
 use sheet::layout::{count, field, number, offset};
 
@@ -17,11 +16,9 @@ pub fn count_tops(s: &[u8], tops: &mut [u16], named: &mut [u16])
     ensures { TopsCounted (sheet_of s.now) tops.old named.old tops.new named.new }
 {
     let n = count(s, CONTENTS);
-    let mut q: u16 = 0;
-    while q < n {
-        mark_object(s, q, Mark::Count, tops);
-        mark_object(s, q, Mark::Count, named);
-        q += 1;
+    for q in 0..n {
+        mark_object(s, q, counted_once, tops);
+        mark_object(s, q, counted_once, named);
     }
 }
 
@@ -31,28 +28,33 @@ pub fn count_contents(s: &[u8], listed: &mut [u16])
 {
     let base = offset(s, REFERENCES);
     let n = count(s, PROGRAMMES);
-    let mut q: u16 = 0;
-    while q < n {
+    for q in 0..n {
         mark_list(
             s,
             base,
             field(s, PROGRAMMES, q, CONTENT_LIST),
             number(s, PROGRAMMES, q, CONTENT_LIST),
-            Mark::Count,
+            counted_once,
             listed,
         );
-        q += 1;
     }
+}
+
+// A number where 0 stands, else what stands there.
+fn first_stored(v: u16, c: u16) -> u16
+    ensures { result ≡ first_stored v c }
+{
+    if c == 0 { v } else { c }
 }
 
 // Counts the records that a record names, mostly none, and keeps its own number, one more, where it is the first to name one.
 fn mark_both(s: &[u8], kind: Naming, q: u16, counts: &mut [u16], firsts: &mut [u16])
     requires { q < 65535 }
-    ensures { MarkedTimes Count (times_by (sheet_of s.now) kind q) counts.old counts.new × MarkedTimes (First (suc q)) (times_by (sheet_of s.now) kind q) firsts.old firsts.new }
+    ensures { MarkedTimes counted_once (times_by (sheet_of s.now) kind q) counts.old counts.new × MarkedTimes (first_stored (suc q)) (times_by (sheet_of s.now) kind q) firsts.old firsts.new }
 {
     if items(s, kind, q) != 0 {
-        mark_items(s, kind, q, Mark::Count, counts);
-        mark_items(s, kind, q, Mark::First(q + 1), firsts);
+        mark_items(s, kind, q, counted_once, counts);
+        mark_items(s, kind, q, |c| first_stored(q + 1, c), firsts);
     }
 }
 
@@ -68,11 +70,9 @@ pub fn count_lists(
     ensures { ListsCounted (sheet_of s.now) named.old complements.old spanned.old owners.old named.new complements.new spanned.new owners.new }
 {
     let n = count(s, OBJECTS);
-    let mut q: u16 = 0;
-    while q < n {
-        mark_some(s, Naming::Children, q, Mark::Count, named);
-        mark_some(s, Naming::Complements, q, Mark::Count, complements);
+    for q in 0..n {
+        mark_some(s, Naming::Children, q, counted_once, named);
+        mark_some(s, Naming::Complements, q, counted_once, complements);
         mark_both(s, Naming::SetSpans, q, spanned, owners);
-        q += 1;
     }
 }

@@ -1,5 +1,5 @@
 // Relations read from a table, or found by their own search where the table ends before: with an empty table, always.
-ghost use Rattle.std.specs.Prelude.{ℕ, ◌+◌, ◌<◌, ◌≤◌, eqb, get_or, length, not, true, ◌≡◌};
+ghost use Rattle.std.specs.Prelude.{ℕ, ◌<◌, Some, None, cond, eqb, ltb, get_or, length, not, true, ◌≡◌};
 ghost use Rattle.profile.specs.Counting.{any};
 ghost use Rattle.profile.specs.Relations.{complement, includes, leader_of, lone, names_set, owner, top};
 ghost use Rattle.sheet.specs.Words.{sheet_of};
@@ -13,15 +13,20 @@ use relations::records::{complement, owner, top};
 use sheet::fields::{OBJECTS, SET_SPAN};
 use sheet::layout::{count, field, number};
 
+// What stands at a place that the table has.
+pub fn look(table: &[u16], x: u16) -> Option<u16>
+    ensures { result ≡ cond (ltb x (length table.now)) (Some (get_or table.now x 0)) None }
+{
+    table.get(x as usize).copied()
+}
+
 // "A top object is one that a content names."
 pub fn top_by(s: &[u8], tops: &[u16], o: u16) -> bool
     ensures { Tops (sheet_of s.now) tops.now → result ≡ top (sheet_of s.now) o }
 {
-    let i = o as usize;
-    if i < tops.len() {
-        tops[i] != 0
-    } else {
-        top(s, o)
+    match look(tops, o) {
+        Some(count) => count != 0,
+        None => top(s, o),
     }
 }
 
@@ -29,11 +34,9 @@ pub fn top_by(s: &[u8], tops: &[u16], o: u16) -> bool
 pub fn complement_by(s: &[u8], complements: &[u16], o: u16) -> bool
     ensures { Complemented (sheet_of s.now) complements.now → result ≡ complement (sheet_of s.now) o }
 {
-    let i = o as usize;
-    if i < complements.len() {
-        complements[i] != 0
-    } else {
-        complement(s, o)
+    match look(complements, o) {
+        Some(n) => n != 0,
+        None => complement(s, o),
     }
 }
 
@@ -50,18 +53,16 @@ impl<'a> ObjectTables<'a> {
 fn told(d: u16, c: u16) -> u16
     ensures { result ≡ told d c }
 {
-    if c == 0 { d } else { c - 1 }
+    c.checked_sub(1).unwrap_or(d)
 }
 
 // The leader of an object's group.
 pub fn leader_by(s: &[u8], leaders: &[u16], o: u16) -> u16
     ensures { Leaders (sheet_of s.now) leaders.now → result ≡ leader_of (sheet_of s.now) o }
 {
-    let i = o as usize;
-    if i < leaders.len() {
-        told(o, leaders[i])
-    } else {
-        leader_of(s, o)
+    match look(leaders, o) {
+        Some(c) => told(o, c),
+        None => leader_of(s, o),
     }
 }
 
@@ -69,11 +70,9 @@ pub fn leader_by(s: &[u8], leaders: &[u16], o: u16) -> u16
 pub fn owner_by(s: &[u8], owners: &[u16], v: u16) -> u16
     ensures { Owners (sheet_of s.now) owners.now → result ≡ owner (sheet_of s.now) v }
 {
-    let i = v as usize;
-    if i < owners.len() {
-        told(count(s, OBJECTS), owners[i])
-    } else {
-        owner(s, v)
+    match look(owners, v) {
+        Some(c) => told(count(s, OBJECTS), c),
+        None => owner(s, v),
     }
 }
 
@@ -81,24 +80,19 @@ pub fn owner_by(s: &[u8], owners: &[u16], v: u16) -> u16
 pub fn included_by(s: &[u8], p: u16, marks: &[u16], o: u16) -> bool
     ensures { Included (sheet_of s.now) p marks.now → result ≡ includes (sheet_of s.now) p o }
 {
-    let i = o as usize;
-    if i < marks.len() {
-        marks[i] != 0
-    } else {
-        includes(s, p, o)
+    match look(marks, o) {
+        Some(m) => m != 0,
+        None => includes(s, p, o),
     }
 }
 
-// Whether one of n places from one on is marked.
-fn any_marked(table: &[u16], from: usize, n: usize) -> bool
-    requires { from + n ≤ length table.now }
-    ensures { result ≡ any (λ k. not (eqb (get_or table.now (from + k) 0) 0)) n }
+// Whether some place is marked.
+fn any_marked(places: &[u16]) -> bool
+    ensures { result ≡ any (λ k. not (eqb (get_or places.now k 0) 0)) (length places.now) }
 {
     let mut found = false;
-    let mut k: usize = 0;
-    while k < n {
-        found = found | (table[from + k] != 0);
-        k += 1;
+    for m in places {
+        found |= *m != 0;
     }
     found
 }
@@ -109,10 +103,9 @@ pub fn names_set_by(s: &[u8], p: u16, sets: &[u16], o: u16) -> bool
 {
     let from = field(s, OBJECTS, o, SET_SPAN) as usize;
     let n = number(s, OBJECTS, o, SET_SPAN) as usize;
-    if from + n <= sets.len() {
-        any_marked(sets, from, n)
-    } else {
-        names_set(s, p, o)
+    match sets.get(from..from + n) {
+        Some(span) => any_marked(span),
+        None => names_set(s, p, o),
     }
 }
 
@@ -120,14 +113,12 @@ pub fn names_set_by(s: &[u8], p: u16, sets: &[u16], o: u16) -> bool
 pub fn all_once(table: &[u16], n: u16) -> bool
     ensures { result ≡ true → (x : ℕ) → x < n → (x < length table.now) × (get_or table.now x 0 ≡ 1) }
 {
-    if table.len() < n as usize {
+    let Some(places) = table.get(..n as usize) else {
         return false;
-    }
+    };
     let mut once = true;
-    let mut i: u16 = 0;
-    while i < n {
-        once = once & (table[i as usize] == 1);
-        i += 1;
+    for c in places {
+        once &= *c == 1;
     }
     once
 }

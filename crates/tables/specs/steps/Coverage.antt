@@ -1,6 +1,6 @@
 -- Each way to name as runs of indices, one run for each record that names: the indices of section 6 that its list has, or the value sets
 -- of its span. How many runs cover an index. Assumes nothing.
-use Rattle.std.specs.Prelude.{ℕ, ◌+◌, ◌<◌, ◌≤◌, Bool, cond, ◌&&◌, List, eqb, leb, ltb}
+use Rattle.std.specs.Prelude.{ℕ, ◌+◌, ◌<◌, ◌≤◌, ◌&&◌, List, eqb, leb, ltb}
 use Rattle.sheet.specs.Words.{Sheet}
 use Rattle.sheet.specs.Layout.{field, first, reference}
 use Rattle.sheet.specs.Fields.{programmes, contents, objects, content_list, set_list, content_object, child_list, complement_list, set_span}
@@ -34,13 +34,9 @@ named_at s SetSpans y = y
 unfoldable pub run_end : Sheet → Naming → ℕ → ℕ
 run_end s kind q = run_begin s kind q + items s kind q
 
--- one edge of the run
-abbrev pub edge : Sheet → Naming → Bool → ℕ → ℕ
-edge s kind last q = cond last (run_end s kind q) (run_begin s kind q)
-
--- the table has for each index how many runs have it as that edge
-abbrev pub Tallied : Sheet → Naming → Bool → List ℕ → Type 0
-Tallied s kind last t = Standing (λ y. how_many (λ q. eqb (edge s kind last q) y) (namers s kind)) t
+-- the table has for each index how many of n records have it as the edge f
+abbrev pub Tallied : (ℕ → ℕ) → ℕ → List ℕ → Type 0
+Tallied f n t = Standing (λ y. how_many (λ q. eqb (f q) y) n) t
 
 -- all runs end at m or before
 abbrev pub Reaching : Sheet → Naming → ℕ → Type 0

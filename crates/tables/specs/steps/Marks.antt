@@ -3,19 +3,23 @@ use Rattle.std.specs.Prelude.{ℕ, zero, suc, ◌<◌, ◌≡◌, Bool, cond, Li
 use Rattle.sheet.specs.Words.{Sheet}
 use Rattle.profile.specs.Counting.{any, how_many, sum}
 use Rattle.tables.specs.declared.Naming.{Naming}
-use Rattle.tables.specs.declared.Mark.{Mark}
-use Rattle.tables.specs.declared.Mark.TheVariants.{Count, Store, First}
 use Rattle.tables.specs.steps.Namings.{namers, items, item}
 
 -- the table has g at each index
 abbrev pub Standing : (ℕ → ℕ) → List ℕ → Type 0
 Standing g t = (x : ℕ) → x < length t → get_or t x 0 ≡ g x
 
--- what a place has after a mark: a count goes 0, 1, 2, 2 and so on
-abbrev pub marked : Mark → ℕ → ℕ
-marked Count c = cond (eqb c 0) 1 2
-marked (Store v) c = v
-marked (First v) c = cond (eqb c 0) v c
+-- whatever a closure gives a number below n is f of that number
+abbrev pub NumbersBelow : ℕ → (ℕ → ℕ → Type 0) → (ℕ → ℕ) → Type 0
+NumbersBelow n gives f = (i r : ℕ) → i < n → gives i r → r ≡ f i
+
+-- what a count goes to: 0, 1, 2, 2 and so on
+abbrev pub counted_once : ℕ → ℕ
+counted_once c = cond (eqb c 0) 1 2
+
+-- a number where 0 stands, else what stands there
+abbrev pub first_stored : ℕ → ℕ → ℕ
+first_stored v c = cond (eqb c 0) v c
 
 -- f, so many times
 unfoldable pub repeat : (ℕ → ℕ) → ℕ → ℕ → ℕ
@@ -26,13 +30,13 @@ repeat f (suc n) c = f (repeat f n c)
 abbrev pub Filled : (ℕ → ℕ) → List ℕ → List ℕ → Type 0
 Filled g t t' = (length t' ≡ length t) × Standing g t'
 
--- what x has in the table after marks, as many as n says of it
-abbrev pub after_marks : Mark → (ℕ → ℕ) → List ℕ → ℕ → ℕ
-after_marks mark n t x = repeat (marked mark) (n x) (get_or t x 0)
+-- what x has in the table after f, as many times as n says of it
+abbrev pub after_marks : (ℕ → ℕ) → (ℕ → ℕ) → List ℕ → ℕ → ℕ
+after_marks f n t x = repeat f (n x) (get_or t x 0)
 
--- each place was marked so many times
-abbrev pub MarkedTimes : Mark → (ℕ → ℕ) → List ℕ → List ℕ → Type 0
-MarkedTimes mark n t t' = Filled (after_marks mark n t) t t'
+-- f was done at each place so many times
+abbrev pub MarkedTimes : (ℕ → ℕ) → (ℕ → ℕ) → List ℕ → List ℕ → Type 0
+MarkedTimes f n t t' = Filled (after_marks f n t) t t'
 
 -- how often record q names x
 unfoldable pub times_by : Sheet → Naming → ℕ → ℕ → ℕ
@@ -61,4 +65,4 @@ first_by s kind x d = first_from (λ q. names_by s kind q x) d 0 (namers s kind)
 
 -- each naming was counted
 abbrev pub NamingsCounted : Sheet → Naming → List ℕ → List ℕ → Type 0
-NamingsCounted s kind = MarkedTimes Count (named_by s kind)
+NamingsCounted s kind = MarkedTimes counted_once (named_by s kind)

@@ -7,12 +7,11 @@ use Rattle.profile.specs.Counting.{how_many}
 use Rattle.profile.specs.Relations.{lists, includes, has_set, namings}
 use Rattle.tables.specs.declared.Naming.TheVariants.{ContentObjects, Complements, ContentLists, SetSpans}
 use Rattle.tables.specs.declared.ObjectTables.{ObjectTables}
-use Rattle.tables.specs.declared.Mark.TheVariants.{Count}
-use Rattle.tables.specs.steps.Marks.{Standing, marked, repeat, named_by, first_by}
+use Rattle.tables.specs.steps.Marks.{Standing, counted_once, repeat, named_by, first_by}
 
 -- a number as a place has it: 0, 1, or 2 for two or more
 unfoldable pub counted : ℕ → ℕ
-counted n = repeat (marked Count) n 0
+counted n = repeat counted_once n 0
 
 -- what stands for a number: one more than it, or 0 for none
 unfoldable pub told : ℕ → ℕ → ℕ

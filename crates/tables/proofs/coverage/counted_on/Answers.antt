@@ -1,19 +1,16 @@
 -- Not at all, once, and more often. Assumes nothing.
-use Prim.Native.Nat.{ℕ, suc, ◌-◌}
-use mathlib.Core.Path.{◌≡◌, refl, sym, ap, ◌∙◌}
-use native.Mathlib.Omega.{arith}
-use Rattle.tables.specs.declared.Mark.TheVariants.{Count}
-use Rattle.tables.specs.steps.Marks.{marked, repeat}
+use Rattle.std.proofs.Common.{ℕ, suc, ◌-◌, ◌≡◌, refl, sym, ap, ◌∙◌, arith}
+use Rattle.tables.specs.steps.Marks.{counted_once, repeat}
 use Rattle.tables.proofs.CoverLaws.{count_twice}
 use Rattle.tables.proofs.coverage.counted_on.Goals as goal
 
-pub returns-then-times-eq0 : goal.returns-then-times-eq0
+pub returns-in-0 : goal.returns-in-0
 unfolding repeat
-returns-then-times-eq0 c = let e : c.args.times ≡ 0 = omega (arith, c.if-times-eq0.true) in rw e refl
+returns-in-0 c = rw c.in-0.is refl
 
-pub returns-then-times-eq1 : goal.returns-then-times-eq1
+pub returns-in-1 : goal.returns-in-1
 unfolding repeat
-returns-then-times-eq1 c = let e : c.args.times ≡ 1 = omega (arith, c.if-times-eq1.true) in rw e c.after.ensures
+returns-in-1 c = rw c.in-1.is c.counted_once.ensures
 
-pub returns-else-times-eq1 : goal.returns-else-times-eq1
-returns-else-times-eq1 c = let e : c.args.times ≡ suc (suc (c.args.times - 2)) = omega (arith, c.if-times-eq0.false, c.if-times-eq1.false) in sym (ap (λ (n : ℕ). repeat (marked Count) n c.args.c) e ∙ count_twice (c.args.times - 2) c.args.c)
+pub returns-in_default : goal.returns-in_default
+returns-in_default c = let e : c.args.times ≡ suc (suc (c.args.times - 2)) = omega arith in sym (ap (λ (n : ℕ). repeat counted_once n c.args.c) e ∙ count_twice (c.args.times - 2) c.args.c)

@@ -1,32 +1,21 @@
-use Prim.Native.Nat.{◌<◌}
-use mathlib.Core.Path.{◌≡◌, refl}
-use native.Mathlib.Omega.{arith}
-use lib.Dec.{eqb}
-use Rattle.sheet.specs.Words.{sheet_of}
+use Rattle.std.proofs.Common.{rules, ℕ, ◌+◌, ◌≡◌, refl, arith}
 use Rattle.profile.specs.Counting.{how_many}
-use Rattle.tables.specs.steps.Namings.{namers}
-use Rattle.tables.specs.steps.Coverage.{edge}
-use Rattle.profile.proofs.CountingLaws.{how_many_le}
-use Rattle.tables.proofs.CoverLaws.{edges_more}
-use borrow.Author.Rules.{rules}
+use Rattle.tables.proofs.CoverLaws.{edges_more, added_most}
 use Rattle.tables.proofs.coverage.tally.Goals as goal
 
 pub loop-q-init : goal.loop-q-init
 unfolding how_many
-loop-q-init c = (search rules, (refl, c.requires))
+loop-q-init g c = (λ x l. omega (arith, c.requires.noughts x l), λ f h. (refl, c.requires.noughts))
 
-pub add_at-requires : goal.add_at-requires
-add_at-requires c = λ m.
-    let a = c.args in let l = c.loop-q in let f : c.namers-n.result < 65536 = search rules in
-    omega (arith, l.invariant.1.1 c.edge.result m, how_many_le (λ j. eqb (edge (sheet_of a.s.now) a.kind a.last j) c.edge.result) l.q, c.loop-q-test.true)
+pub mark_at-requires : goal.mark_at-requires
+mark_at-requires g c = λ m κs p e r. omega (arith, c.loop-q.invariant.0 c.edge.result m, c.loop-q-test.true)
 
 pub loop-q-preserved : goal.loop-q-preserved
-loop-q-preserved c =
-    let a = c.args in let l = c.loop-q in let edge' = c.edge in let added = c.add_at in (search rules, edges_more (λ j. edge (sheet_of a.s.now) a.kind a.last j) a.table.now l.table added.new.table l.q edge'.result edge'.ensures l.invariant.1 added.ensures)
-
-pub shape_of-table : goal.shape_of-table
-shape_of-table c = c.loop-q.invariant.1.0
+loop-q-preserved g c =
+    let l = c.loop-q in let added = c.mark_at.ensures (λ (n : ℕ). n + 1) (λ i r b p. search rules) in (
+      added_most l.table c.mark_at.new.table c.edge.result l.q added l.invariant.0,
+      λ f h. edges_more f c.args.table.now l.table c.mark_at.new.table l.q c.edge.result (h l.q c.edge.result c.loop-q-test.true c.edge.ensures) (l.invariant.1 f h) added,
+    )
 
 pub returns : goal.returns
-returns c =
-    let a = c.args in let e : c.loop-q.q ≡ namers (sheet_of a.s.now) a.kind = omega (arith, c.namers-n.ensures, c.loop-q-test.false) in rw e at c.loop-q.invariant.1
+returns g c = λ f h. let e : c.loop-q.q ≡ c.args.n = omega arith in rw e at c.loop-q.invariant.1 f h

@@ -5,4 +5,4 @@ use Rattle.tables.proofs.marks.mark_entries.Goals as goal
 
 pub returns : goal.returns
 unfolding times entry reference
-returns c = (c.mark_list.ensures.0, rw (c.offset.ensures, c.field.ensures, c.number.ensures) at c.mark_list.ensures.1)
+returns g c = λ f h. let e = c.mark_list.ensures f h in (e.0, rw (c.offset.ensures, c.field.ensures, c.number.ensures) at e.1)

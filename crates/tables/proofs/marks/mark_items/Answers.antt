@@ -5,28 +5,28 @@ use Rattle.tables.proofs.marks.mark_items.Goals as goal
 
 pub returns-in-ContentObjects : goal.returns-in-ContentObjects
 unfolding times_by
-returns-in-ContentObjects c = rw c.in-ContentObjects.is c.mark_object.ensures
+returns-in-ContentObjects g c = λ f h. rw c.in-ContentObjects.is (c.mark_object.ensures f h)
 
 pub returns-in-Children : goal.returns-in-Children
 unfolding times_by times
-returns-in-Children c = rw c.in-Children.is c.mark_entries.ensures
+returns-in-Children g c = λ f h. rw c.in-Children.is (c.mark_entries.ensures f h)
 
 pub returns-in-Complements : goal.returns-in-Complements
 unfolding times_by times
-returns-in-Complements c = rw c.in-Complements.is c.mark_entries-in-Complements.ensures
+returns-in-Complements g c = λ f h. rw c.in-Complements.is (c.mark_entries-in-Complements.ensures f h)
 
 pub returns-in-ContentLists : goal.returns-in-ContentLists
 unfolding times_by times
-returns-in-ContentLists c = rw c.in-ContentLists.is c.mark_entries-in-ContentLists.ensures
+returns-in-ContentLists g c = λ f h. rw c.in-ContentLists.is (c.mark_entries-in-ContentLists.ensures f h)
 
 pub returns-in-Included : goal.returns-in-Included
 unfolding times_by
-returns-in-Included c = rw c.in-Included.is c.mark_objects.ensures
+returns-in-Included g c = λ f h. rw c.in-Included.is (c.mark_objects.ensures f h)
 
 pub returns-in-SetLists : goal.returns-in-SetLists
 unfolding times_by times
-returns-in-SetLists c = rw c.in-SetLists.is c.mark_entries-in-SetLists.ensures
+returns-in-SetLists g c = λ f h. rw c.in-SetLists.is (c.mark_entries-in-SetLists.ensures f h)
 
 pub returns-in-SetSpans : goal.returns-in-SetSpans
 unfolding times_by
-returns-in-SetSpans c = rw c.in-SetSpans.is (c.mark_span.ensures.0, rw (c.field.ensures, c.number.ensures) at c.mark_span.ensures.1)
+returns-in-SetSpans g c = λ f h. let e = c.mark_span.ensures f h in rw c.in-SetSpans.is (e.0, rw (c.field.ensures, c.number.ensures) at e.1)

@@ -1,29 +1,25 @@
-use mathlib.Core.Path.{◌≡◌, refl, ◌∙◌}
-use native.Mathlib.Omega.{arith}
+use Rattle.std.proofs.Common.{◌≡◌, refl, ◌∙◌, arith}
 use Rattle.sheet.specs.Words.{sheet_of}
 use Rattle.sheet.specs.Layout.{entry, reference}
 use Rattle.profile.specs.Counting.{how_many}
 use Rattle.tables.specs.steps.Namings.{items, item}
-use Rattle.tables.specs.steps.Marks.{marked, repeat, times_by}
+use Rattle.tables.specs.steps.Marks.{repeat, times_by}
 use Rattle.tables.proofs.MarkLaws.{items_more}
-use borrow.Author.Rules.{rules}
 use Rattle.tables.specs.declared.Naming.TheVariants.{Included}
 use Rattle.tables.proofs.marks.mark_objects.Goals as goal
 
 pub loop-i-init : goal.loop-i-init
 unfolding how_many repeat
-loop-i-init c = (search rules, (refl, λ x l. refl))
+loop-i-init g c = λ f h. (refl, λ x l. refl)
 
 pub loop-i-preserved : goal.loop-i-preserved
 unfolding entry reference
-loop-i-preserved c =
-    let l = c.loop-i in let a = c.args in let at = c.mark_at in let object = c.field in let named : object.result ≡ item (sheet_of a.s.now) Included a.p l.i = object.ensures ∙ rw (c.word-c.ensures, c.offset-base.ensures, c.field-first.ensures) refl in
-    (search rules, (at.ensures.0 ∙ l.invariant.1.0, items_more (marked a.mark) a.table.now l.table at.new.table at.ensures.0 (item (sheet_of a.s.now) Included a.p) l.i object.result named l.invariant.1.1 at.ensures.1))
-
-pub shape_of-table : goal.shape_of-table
-shape_of-table c = c.loop-i.invariant.1.0
+loop-i-preserved g c = λ f h.
+    let l = c.loop-i in let a = c.args in let at = c.mark_at.ensures f h in let before = l.invariant f h in
+    let named : c.field.result ≡ item (sheet_of a.s.now) Included a.p l.i = c.field.ensures ∙ rw (c.word-c.ensures, c.offset-base.ensures, c.field-first.ensures) refl in
+    (at.0 ∙ before.0, items_more f a.table.now l.table c.mark_at.new.table at.0 (item (sheet_of a.s.now) Included a.p) l.i c.field.result named before.1 at.1)
 
 pub returns : goal.returns
 unfolding times_by
-returns c =
-    let a = c.args in let e : c.loop-i.i ≡ items (sheet_of a.s.now) Included a.p = omega (arith, c.number-n.ensures, c.loop-i-test.false) in rw e at c.loop-i.invariant.1
+returns g c = λ f h.
+    let e : c.loop-i.i ≡ items (sheet_of c.args.s.now) Included c.args.p = omega (arith, c.number-n.ensures) in rw e at c.loop-i.invariant f h

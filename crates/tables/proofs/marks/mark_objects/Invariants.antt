@@ -1,15 +1,11 @@
 -- The items passed are marked. Assumes nothing.
-use Prim.Native.Nat.{◌-◌, ◌≤◌}
-use lib.Dec.{eqb}
+use Rattle.std.proofs.Common.{ℕ, eqb}
 use Rattle.sheet.specs.Words.{sheet_of}
 use Rattle.profile.specs.Counting.{how_many}
 use Rattle.tables.specs.steps.Namings.{item}
-use Rattle.tables.specs.steps.Marks.{MarkedTimes}
+use Rattle.tables.specs.steps.Marks.{MarkedTimes, NumbersBelow}
 use Rattle.tables.specs.declared.Naming.TheVariants.{Included}
 use Rattle.tables.proofs.marks.mark_objects.Given as goal
 
 abbrev pub invariant-loop-i : goal.invariant-loop-i
-invariant-loop-i l = (l.i ≤ l.n) × MarkedTimes l.mark (λ x. how_many (λ j. eqb (item (sheet_of l.s) Included l.p j) x) l.i) l.initial.table l.table
-
-abbrev pub decreases-loop-i : goal.decreases-loop-i
-decreases-loop-i l = l.n - l.i
+invariant-loop-i g l = (f : ℕ → ℕ) → NumbersBelow 65536 (goal.F-post g l.mark) f → MarkedTimes f (λ x. how_many (λ j. eqb (item (sheet_of l.s) Included l.p j) x) l.i) l.initial.table l.table

@@ -1,21 +1,18 @@
-use borrow.Author.Rules.{rules}
+use Rattle.std.proofs.Common.{ℕ, ◌≡◌, ◌∙◌, get_or, sym, ap, arith}
+use native.Mathlib.Nat.{zero-add}
 use borrow.Author.Count.{below_none, below_more}
-use mathlib.Core.Path.{◌≡◌, sym}
-use mathlib.Core.Bool.{true≢false}
-use native.Mathlib.Omega.{arith}
-use lib.ListN.{get_or}
 use borrow.Author.Tests.{eqb-true}
 use Rattle.profile.proofs.BoolLaws.{and_both}
+use Rattle.tables.proofs.TableLaws.{part_place}
 use Rattle.tables.proofs.reads.all_once.Goals as goal
 
-pub returns-then-table-n : goal.returns-then-table-n
-returns-then-table-n c = λ e. absurd (true≢false (sym e))
+pub loop-c-init : goal.loop-c-init
+loop-c-init c = λ e. below_none _
 
-pub loop-i-init : goal.loop-i-init
-loop-i-init c = (search rules, λ e. below_none _)
-
-pub loop-i-preserved : goal.loop-i-preserved
-loop-i-preserved c = (search rules, λ e. let p = and_both c.loop-i.once _ e in below_more (λ x. get_or c.args.table.now x 0 ≡ 1) c.loop-i.i (c.loop-i.invariant.1 p.0) (eqb-true _ 1 p.1))
+pub loop-c-preserved : goal.loop-c-preserved
+loop-c-preserved c = λ e. let p = and_both c.loop-c.once _ e in below_more (λ x. get_or c.in-Some.places.now x 0 ≡ 1) c.loop-c.c-index (c.loop-c.invariant p.0) (eqb-true _ 1 p.1)
 
 pub returns : goal.returns
-returns c = λ e x l. let h : c.loop-i.i ≡ c.args.n = omega arith in (omega (arith, l, c.if-table-n.false), c.loop-i.invariant.1 e x (omega (arith, l, h)))
+returns c = λ e x l.
+    let part = c.in-Some.ensures.lookup.0 in
+    (omega (arith, l, part.1), sym (part_place c.args.table.now c.in-Some.places.now 0 c.args.n part.2 x (omega (arith, l)) ∙ ap (λ (k : ℕ). get_or c.args.table.now k 0) (zero-add x)) ∙ c.loop-c.invariant e x (omega (arith, l, part.3, c.loop-c-test.false)))

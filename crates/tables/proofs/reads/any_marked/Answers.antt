@@ -1,17 +1,15 @@
-use mathlib.Core.Path.{◌≡◌, refl, ap, ◌∙◌}
-use native.Mathlib.Omega.{arith}
+use Rattle.std.proofs.Common.{◌≡◌, refl, ap, ◌∙◌, length, arith}
 use native.Mathlib.Numerals.{add-one}
 use Rattle.profile.specs.Counting.{any}
-use borrow.Author.Rules.{rules}
 use Rattle.tables.proofs.reads.any_marked.Goals as goal
 
-pub loop-k-init : goal.loop-k-init
+pub loop-m-init : goal.loop-m-init
 unfolding any
-loop-k-init c = (search rules, refl)
+loop-m-init c = refl
 
-pub loop-k-preserved : goal.loop-k-preserved
+pub loop-m-preserved : goal.loop-m-preserved
 unfolding any
-loop-k-preserved c = (search rules, rw (add-one, c.loop-k.invariant.1))
+loop-m-preserved c = rw (add-one, c.loop-m.invariant) refl
 
 pub returns : goal.returns
-returns c = let e : c.loop-k.k ≡ c.args.n = omega arith in c.loop-k.invariant.1 ∙ ap (any _) e
+returns c = let e : c.loop-m.m-index ≡ length c.args.places.now = omega arith in c.loop-m.invariant ∙ ap (any _) e

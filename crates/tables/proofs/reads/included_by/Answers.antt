@@ -1,13 +1,10 @@
 -- By the table's entry, or by search. Assumes nothing.
-use Prim.Native.Nat.{ℕ}
-use mathlib.Core.Path.{ap, ◌∙◌}
-use mathlib.Core.Bool.{not}
-use lib.Dec.{eqb}
-use Rattle.tables.proofs.TableLaws.{flag}
+use Rattle.std.proofs.Common.{ℕ, not, eqb, sym, ap, ◌∙◌}
+use Rattle.tables.proofs.TableLaws.{flag, standing_read}
 use Rattle.tables.proofs.reads.included_by.Goals as goal
 
-pub returns-then-i-marks : goal.returns-then-i-marks
-returns-then-i-marks c = λ right. ap (λ (n : ℕ). not (eqb n 0)) (right c.args.o c.if-i-marks.true) ∙ flag _
+pub returns-in-Some : goal.returns-in-Some
+returns-in-Some c = λ right. ap (λ (n : ℕ). not (eqb n 0)) (standing_read _ c.args.marks.now c.args.o c.in-Some.m right (sym c.look.ensures ∙ c.in-Some.is)) ∙ flag _
 
-pub returns-else-i-marks : goal.returns-else-i-marks
-returns-else-i-marks c = λ right. c.includes.ensures
+pub returns-in-None : goal.returns-in-None
+returns-in-None c = λ right. c.includes.ensures

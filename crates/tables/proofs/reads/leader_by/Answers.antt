@@ -1,11 +1,11 @@
 -- By the table's entry, or by search. Assumes nothing.
-use mathlib.Core.Path.{ap, ◌∙◌}
+use Rattle.std.proofs.Common.{sym, ap, ◌∙◌}
 use Rattle.tables.specs.steps.Right.{told}
-use Rattle.tables.proofs.TableLaws.{leader_told}
+use Rattle.tables.proofs.TableLaws.{standing_read, leader_told}
 use Rattle.tables.proofs.reads.leader_by.Goals as goal
 
-pub returns-then-i-leaders : goal.returns-then-i-leaders
-returns-then-i-leaders c = λ right. c.told.ensures ∙ ap (told c.args.o) (right c.args.o c.if-i-leaders.true) ∙ leader_told _ _
+pub returns-in-Some : goal.returns-in-Some
+returns-in-Some c = λ right. c.told.ensures ∙ ap (told c.args.o) (standing_read _ c.args.leaders.now c.args.o c.in-Some.c right (sym c.look.ensures ∙ c.in-Some.is)) ∙ leader_told _ _
 
-pub returns-else-i-leaders : goal.returns-else-i-leaders
-returns-else-i-leaders c = λ right. c.leader_of.ensures
+pub returns-in-None : goal.returns-in-None
+returns-in-None c = λ right. c.leader_of.ensures

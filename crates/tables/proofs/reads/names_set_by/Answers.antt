@@ -1,21 +1,20 @@
 -- By the marks of the object's span, or by search. Assumes nothing.
-use Prim.Native.Nat.{ℕ, ◌+◌}
-use mathlib.Core.Path.{ap₂, ◌∙◌}
-use mathlib.Core.Bool.{not}
-use native.Mathlib.Omega.{arith}
-use lib.Dec.{eqb}
-use lib.ListN.{get_or}
+use Rattle.std.proofs.Common.{ℕ, ◌+◌, ◌≡◌, not, eqb, get_or, length, ap, ap₂, ◌∙◌, arith}
 use Rattle.profile.specs.Counting.{any}
 use Rattle.sheet.specs.Words.{sheet_of}
-use Rattle.tables.proofs.TableLaws.{names_marked}
+use Rattle.tables.proofs.TableLaws.{any_below, part_place, names_marked}
 use Rattle.tables.proofs.reads.names_set_by.Goals as goal
 
-pub any_marked-requires : goal.any_marked-requires
-any_marked-requires c = c.if-from-n.true
+pub returns-in-Some : goal.returns-in-Some
+returns-in-Some c = λ right.
+    let a = c.args in let sets = a.sets.now in let span = c.in-Some.span.now in let from = c.field-from in let n = c.number-n in let part = c.in-Some.ensures.lookup.0 in
+    let long : length span ≡ n.result = omega (arith, part.3) in
+    let place = part_place sets span from.result (from.result + n.result) part.2 in
+    c.any_marked.ensures
+    ∙ ap (any (λ k. not (eqb (get_or span k 0) 0))) long
+    ∙ any_below (λ k. not (eqb (get_or span k 0) 0)) (λ k. not (eqb (get_or sets (from.result + k) 0) 0)) n.result (λ k l. ap (λ (m : ℕ). not (eqb m 0)) (place k (omega (arith, l))))
+    ∙ ap₂ (λ (f m : ℕ). any (λ k. not (eqb (get_or sets (f + k) 0) 0)) m) from.ensures n.ensures
+    ∙ names_marked (sheet_of a.s.now) a.p a.o sets right (omega (arith, part.1, from.ensures, n.ensures))
 
-pub returns-then-from-n : goal.returns-then-from-n
-returns-then-from-n c =
-    let a = c.args in let field = c.field-from in let number = c.number-n in λ right. c.any_marked.ensures ∙ ap₂ (λ (f n : ℕ). any (λ k. not (eqb (get_or a.sets.now (f + k) 0) 0)) n) field.ensures number.ensures ∙ names_marked (sheet_of a.s.now) a.p a.o a.sets.now right (omega (arith, c.if-from-n.true, field.ensures, number.ensures))
-
-pub returns-else-from-n : goal.returns-else-from-n
-returns-else-from-n c = λ right. c.names_set.ensures
+pub returns-in-None : goal.returns-in-None
+returns-in-None c = λ right. c.names_set.ensures

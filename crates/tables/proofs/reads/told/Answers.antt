@@ -1,12 +1,14 @@
 -- By what stands there. Assumes nothing.
-use borrow.Author.Tests.{eq-eqb, ne_eqb}
+use Rattle.std.proofs.Common.{ℕ, ◌-◌, ◌≤◌, ◌≡◌, ◌∙◌, refl, arith, Option, Some, None}
+use Rattle.std.specs.Option.{SomeIff, unwrap_or}
+use borrow.Author.Tests.{ne_eqb}
 use Rattle.tables.specs.steps.Right.{told}
 use Rattle.tables.proofs.reads.told.Goals as goal
 
-pub returns-then-c-eq0 : goal.returns-then-c-eq0
+told_by : (o : Option ℕ) (d c : ℕ) → SomeIff o (1 ≤ c) (c - 1) → unwrap_or o d ≡ told d c
 unfolding told
-returns-then-c-eq0 c = simp (eq-eqb _ _ c.if-c-eq0.true)
+told_by None d c e = let z : c ≡ 0 = omega (arith, e) in rw z refl
+told_by (Some v) d c e = rw (ne_eqb c 0 (λ q. omega (arith, q, e.0))) e.1
 
-pub returns-else-c-eq0 : goal.returns-else-c-eq0
-unfolding told
-returns-else-c-eq0 c = simp (ne_eqb _ _ c.if-c-eq0.false)
+pub returns : goal.returns
+returns c = c.unwrap_or.ensures ∙ told_by c.checked_sub.result c.args.d c.args.c c.checked_sub.ensures
