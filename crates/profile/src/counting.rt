@@ -1,6 +1,6 @@
 // The counting definitions over a test that the caller gives: each function is the definition of the same name, of any test that a
-// closure computes. There is no branch for a number that passes, but in `lowest`, which ends there.
-ghost use Rattle.std.specs.Prelude.{ℕ, Bool, ◌≤◌, ◌≡◌};
+// closure computes. There is no branch for a number that passes, but in `lowest` and `all`, which end early.
+ghost use Rattle.std.specs.Prelude.{ℕ, Bool, true, ◌<◌, ◌≤◌, ◌≡◌};
 ghost use Rattle.profile.specs.Counting.{ComputesBelow, any, every, how_many, lowest};
 
 // Whether some number below n passes.
@@ -51,4 +51,19 @@ pub fn lowest<F: Fn(u16) -> bool>(n: u16, test: F) -> u16
         }
     }
     n
+}
+
+// Whether every number below n passes, ending at the first that doesn't. Where the test itself shows no more than that a number is good
+// if it passes, `each` is what is known.
+pub fn all<F: Fn(u16) -> bool>(n: u16, test: F) -> bool
+    requires { F.IsAlwaysCallable test }
+    ensures computed { (p : ℕ → Bool) → ComputesBelow n (F.post test) p → result ≡ every p n }
+    ensures each { result ≡ true → (i : ℕ) → i < n → F.post test i true }
+{
+    for i in 0..n {
+        if !test(i) {
+            return false;
+        }
+    }
+    true
 }

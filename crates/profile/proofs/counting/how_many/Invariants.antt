@@ -1,5 +1,5 @@
 -- So far it is the definition. Assumes nothing.
-use Rattle.std.proofs.Common.{ℕ, Bool, ◌≡◌, ◌<◌, ◌≤◌}
+use Rattle.std.proofs.Common.{ℕ, Bool, ◌≡◌, ◌≤◌}
 use Rattle.profile.specs.Counting.{ComputesBelow, how_many}
 use Rattle.profile.proofs.counting.how_many.Given as goal
 

@@ -1,4 +1,4 @@
-use Rattle.std.proofs.Common.{rules, sym, arith}
+use Rattle.std.proofs.Common.{sym, arith}
 use borrow.Author.Count.{below_none, below_more}
 use Rattle.profile.proofs.CountingLaws.{lowest_at, lowest_none}
 use Rattle.profile.proofs.counting.lowest.Goals as goal
