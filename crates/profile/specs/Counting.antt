@@ -1,9 +1,13 @@
 -- Counting over the numbers below n: what the relations and rules are said with. Assumes nothing.
 use Rattle.std.specs.Prelude.{ℕ, zero, suc, ◌+◌, ◌<◌, ◌≡◌, max, Bool, true, false, cond, ◌&&◌, ◌||◌, List, [], ◌∷◌, ◌++◌}
 
--- whatever a test, as closures are, gives a number below n is p of that number
-abbrev pub ComputesBelow : ℕ → (ℕ → Bool → Type 0) → (ℕ → Bool) → Type 0
-ComputesBelow n gives p = (i : ℕ) (r : Bool) → i < n → gives i r → r ≡ p i
+-- what a closure gives a number below n is f of that number
+abbrev pub ComputesBelow : {Y : Type 0} → ℕ → (ℕ → Y → Type 0) → (ℕ → Y) → Type 0
+ComputesBelow n gives f = (i : ℕ) (r : _) → i < n → gives i r → r ≡ f i
+
+-- what a closure gives two numbers below n is f of them
+abbrev pub ComputesPairsBelow : {Y : Type 0} → ℕ → (ℕ → ℕ → Y → Type 0) → (ℕ → ℕ → Y) → Type 0
+ComputesPairsBelow n gives f = (i j : ℕ) (r : _) → i < n → j < n → gives i j r → r ≡ f i j
 
 -- some number below n has p
 unfoldable pub any : (ℕ → Bool) → ℕ → Bool

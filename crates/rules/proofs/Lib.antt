@@ -1,3 +1,2 @@
-mod GroupTestLaws
 mod SeenLaws
 mod DifferLaws

@@ -3,13 +3,12 @@ ghost use Rattle.std.specs.Prelude.{◌≡◌};
 ghost use Rattle.profile.specs.Rules.{outside, rule10, rule7, rule8};
 ghost use Rattle.sheet.specs.Words.{sheet_of};
 
+use profile::counting::how_many;
 use profile::limits::{
     CHANNELS_LIMIT, CHILDREN_LIMIT, COMPLEMENTS_LIMIT, CONTENTS_LIMIT, LABELS_LIMIT, OBJECTS_LIMIT,
     PACKS_LIMIT, PROGRAMME_CONTENTS_LIMIT, PROGRAMME_SETS_LIMIT, PROGRAMMES_LIMIT, SPAN_LIMIT,
     TRACKS_LIMIT, exceeds,
 };
-use relations::RecordTest;
-use relations::records::how_many_records;
 use sheet::fields::{
     CHILD_LIST, COMPLEMENT_LIST, CONTENT_LABELS, CONTENT_LIST, CONTENTS, OBJECTS, PACK_CHANNELS,
     PACK_KIND, PACKS, PROGRAMME_LABELS, PROGRAMMES, SET_LIST, SET_SPAN, TRACKS,
@@ -33,7 +32,7 @@ pub fn rule7(s: &[u8], section: u8, k: u16) -> bool
         4 => exceeds(
             s,
             PACKS_LIMIT,
-            how_many_records(s, PACKS, RecordTest::ObjectsPack) as u64,
+            u64::from(how_many(count(s, PACKS), |k| field(s, PACKS, k, PACK_KIND) == 3)),
         ),
         5 => outside(s, TRACKS_LIMIT, count(s, TRACKS)),
         _ => false,

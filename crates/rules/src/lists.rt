@@ -6,7 +6,6 @@ ghost use Rattle.runs.specs.steps.Runs.{LacksRight, RepeatRight};
 ghost use Rattle.sheet.specs.Words.{sheet_of};
 
 use crate::repeats::repeats_by;
-use relations::EntryTest;
 use relations::entries::any_entry;
 use relations::objects::{has_pack, lacks, pack_of};
 use runs::reads::look_up;
@@ -50,7 +49,7 @@ fn list_lacks_by(s: &[u8], next: &[u16], target: u8, section: u8, k: u16, at: u8
     if looked.known {
         looked.found
     } else {
-        any_entry(s, section, k, at, EntryTest::Lacks(target))
+        any_entry(s, section, k, at, |e| lacks(s, target, e))
     }
 }
 

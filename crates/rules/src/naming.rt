@@ -3,24 +3,39 @@ ghost use Rattle.std.specs.Prelude.{eqb, ◌≡◌};
 ghost use Rattle.profile.specs.Counting.{any, how_many};
 ghost use Rattle.profile.specs.Relations.{has_set, lists, namings};
 ghost use Rattle.profile.specs.Rules.{rule11, rule12};
+ghost use Rattle.rules.specs.steps.Loops.{total_times};
 ghost use Rattle.runs.specs.steps.Runs.{RepeatRight};
 ghost use Rattle.sheet.specs.Fields.{content_list, contents, objects, programmes, value_sets};
 ghost use Rattle.sheet.specs.Layout.{count};
 ghost use Rattle.sheet.specs.Words.{sheet_of};
 ghost use Rattle.tables.specs.steps.Right.{Listed, Named, Spanned};
 
-use crate::loops::total_times;
 use crate::repeats::repeats_by;
-use relations::RecordTest;
-use relations::records::{any_record, how_many_records};
-use sheet::fields::{CHILD_LIST, CONTENT_LIST, CONTENTS, OBJECTS, PROGRAMMES};
+use profile::counting::{any, how_many};
+use relations::entries::{lists, times};
+use relations::sets::has_set;
+use sheet::fields::{CHILD_LIST, CONTENT_LIST, CONTENT_OBJECT, CONTENTS, OBJECTS, PROGRAMMES};
+use sheet::layout::{count, field};
+
+// How often all lists at a position of the objects name x.
+pub fn total_times(s: &[u8], at: u8, x: u16) -> u32
+    ensures { result ≡ total_times (sheet_of s.now) at x }
+{
+    let mut total = 0;
+    for q in 0..count(s, OBJECTS) {
+        total += u32::from(times(s, OBJECTS, q, at, x));
+    }
+    total
+}
 
 // How often contents and child lists name an object.
 fn namings(s: &[u8], o: u16) -> u64
     ensures { result ≡ namings (sheet_of s.now) o }
 {
-    how_many_records(s, CONTENTS, RecordTest::Names(o)) as u64
-        + total_times(s, CHILD_LIST, o) as u64
+    let tops = how_many(count(s, CONTENTS), |c| {
+        field(s, CONTENTS, c, CONTENT_OBJECT) == o
+    });
+    u64::from(tops) + u64::from(total_times(s, CHILD_LIST, o))
 }
 
 // Whether contents and child lists name an object exactly once.
@@ -43,7 +58,7 @@ fn spanned_once(s: &[u8], spanned: &[u16], v: u16) -> bool
     if i < spanned.len() {
         spanned[i] == 1
     } else {
-        how_many_records(s, OBJECTS, RecordTest::OwnerOf(v)) == 1
+        how_many(count(s, OBJECTS), |o| has_set(s, o, v)) == 1
     }
 }
 
@@ -55,7 +70,9 @@ fn is_listed(s: &[u8], listed: &[u16], c: u16) -> bool
     if i < listed.len() {
         listed[i] != 0
     } else {
-        any_record(s, PROGRAMMES, RecordTest::HasContent(c))
+        any(count(s, PROGRAMMES), |p| {
+            lists(s, PROGRAMMES, p, CONTENT_LIST, c)
+        })
     }
 }
 

@@ -1,36 +1,26 @@
 // Lists with two entries alike: short lists by their pairs, long ones by a table of what was seen.
-ghost use Rattle.std.specs.Prelude.{suc, ◌<◌, eqb, get_or, length, cond, not, ◌≡◌};
-ghost use Rattle.profile.specs.Relations.{channels};
+ghost use Rattle.std.specs.Prelude.{ℕ, suc, ◌<◌, eqb, get_or, length, cond, not, ◌≡◌};
+ghost use Rattle.profile.specs.Counting.{ComputesBelow};
+ghost use Rattle.profile.specs.Relations.{channels, owner};
 ghost use Rattle.profile.specs.Rules.{repeats};
 ghost use Rattle.runs.specs.steps.Runs.{RepeatRight};
-ghost use Rattle.rules.specs.steps.Loops.{bad_channel, key_of, key_right, keys_alike, sets_differ_in_group};
+ghost use Rattle.rules.specs.steps.Loops.{bad_channel, differ_in_one_group, keys_alike, sets_differ_in_group, tracks_with};
 ghost use Rattle.sheet.specs.Words.{sheet_of};
 ghost use Rattle.sheet.specs.Fields.{objects, programmes, set_list, track_list};
 ghost use Rattle.sheet.specs.Layout.{number};
 ghost use Rattle.tables.specs.steps.Marks.{Standing};
 ghost use Rattle.tables.specs.steps.Right.{Leaders, Owners, told};
-ghost use Rattle.rules.specs.declared.Key.TheVariants.{Owner};
 
-use crate::loops::{bad_channel, sets_differ, two_entries};
-use crate::{Key, PairTest};
-use relations::EntryTest;
-use relations::entries::any_entry;
+use crate::differences::sets_differ;
+use crate::references::two_references;
+use profile::counting::any;
+use relations::entries::{any_entry, how_many_entries};
+use relations::objects::channels;
 use relations::programmes::named_set;
 use runs::reads::look_up;
 use sheet::fields::{OBJECTS, PROGRAMMES, SET_LIST, TRACK_LIST, TRACK_ORDINAL, TRACKS};
 use sheet::layout::{entry, field, number};
 use tables::reads::{leader_by, owner_by};
-
-// What is compared of an entry.
-fn key_of(s: &[u8], owners: &[u16], key: Key, e: u16) -> u16
-    ensures { key_right (sheet_of s.now) key owners.now → result ≡ key_of (sheet_of s.now) key e }
-{
-    match key {
-        Key::Entry => e,
-        Key::Owner => owner_by(s, owners, e),
-        Key::Ordinal => field(s, TRACKS, e, TRACK_ORDINAL),
-    }
-}
 
 // Marks a number as seen, and tells whether it was before.
 fn see(seen: &mut [u16], x: u16) -> bool
@@ -43,19 +33,18 @@ fn see(seen: &mut [u16], x: u16) -> bool
     before
 }
 
-// Whether two entries of the list at a position of a record have the same key.
-pub fn keys_alike(s: &[u8], owners: &[u16], section: u8, k: u16, at: u8, key: Key) -> bool
-    ensures { key_right (sheet_of s.now) key owners.now → result ≡ keys_alike (sheet_of s.now) section k at key }
+// Whether two entries of the list at a position of a record have the same key. It stays apart, so that its table is not in
+// the frames of its callers.
+#[inline(never)]
+fn keys_alike<F: Fn(u16) -> u16>(s: &[u8], section: u8, k: u16, at: u8, key: F) -> bool
+    requires { F.IsAlwaysCallable key }
+    ensures { (f : ℕ → ℕ) → ComputesBelow 65536 (F.post key) f → result ≡ keys_alike (sheet_of s.now) section k at f }
 {
-    let n = number(s, section, k, at);
     let mut seen: [u16; 65536] = [0; 65536];
-    let mut j: u16 = 0;
-    while j < n {
-        let x = key_of(s, owners, key, entry(s, section, k, at, j));
-        if see(&mut seen, x) {
+    for j in 0..number(s, section, k, at) {
+        if see(&mut seen, key(entry(s, section, k, at, j))) {
             return true;
         }
-        j += 1;
     }
     false
 }
@@ -67,12 +56,11 @@ const SHORT: u16 = 48;
 pub fn repeats(s: &[u8], section: u8, k: u16, at: u8) -> bool
     ensures { result ≡ repeats (sheet_of s.now) section k at }
 {
-    let none: [u16; 1] = [0];
     let n = number(s, section, k, at);
     if n <= SHORT {
-        two_entries(s, &none, &none, field(s, section, k, at), n, PairTest::Same)
+        two_references(s, field(s, section, k, at), n, |x, y| x == y)
     } else {
-        keys_alike(s, &none, section, k, at, Key::Entry)
+        keys_alike(s, section, k, at, |e| e)
     }
 }
 
@@ -90,34 +78,47 @@ pub fn repeats_by(s: &[u8], next: &[u16], section: u8, k: u16, at: u8) -> bool
 
 // A programme names two sets of one object.
 pub fn one_owner(s: &[u8], owners: &[u16], p: u16) -> bool
-    ensures { Owners (sheet_of s.now) owners.now → result ≡ keys_alike (sheet_of s.now) programmes p set_list Owner }
+    ensures { Owners (sheet_of s.now) owners.now → result ≡ keys_alike (sheet_of s.now) programmes p set_list (owner (sheet_of s.now)) }
 {
     let n = number(s, PROGRAMMES, p, SET_LIST);
     if n <= SHORT {
-        two_entries(
-            s,
-            owners,
-            owners,
-            field(s, PROGRAMMES, p, SET_LIST),
-            n,
-            PairTest::OneOwner,
-        )
+        two_references(s, field(s, PROGRAMMES, p, SET_LIST), n, |x, y| {
+            owner_by(s, owners, x) == owner_by(s, owners, y)
+        })
     } else {
-        keys_alike(s, owners, PROGRAMMES, p, SET_LIST, Key::Owner)
+        keys_alike(s, PROGRAMMES, p, SET_LIST, |v| owner_by(s, owners, v))
     }
+}
+
+// How many of the object's tracks have an ordinal.
+fn tracks_with(s: &[u8], o: u16, ordinal: u16) -> u16
+    ensures { result ≡ tracks_with (sheet_of s.now) o ordinal }
+{
+    how_many_entries(s, OBJECTS, o, TRACK_LIST, |t| {
+        field(s, TRACKS, t, TRACK_ORDINAL) == ordinal
+    })
+}
+
+// Whether some channel is not the ordinal of exactly one of the object's tracks.
+fn bad_channel(s: &[u8], o: u16) -> bool
+    ensures { result ≡ bad_channel (sheet_of s.now) o }
+{
+    any(channels(s, o), |c| tracks_with(s, o, c) != 1)
 }
 
 // Whether some channel of n is not the ordinal of exactly one of the object's n tracks.
 pub fn bad_ordinals(s: &[u8], o: u16) -> bool
     ensures { number (sheet_of s.now) objects o track_list ≡ channels (sheet_of s.now) o → result ≡ bad_channel (sheet_of s.now) o }
 {
-    let none: [u16; 1] = [0];
     let n = number(s, OBJECTS, o, TRACK_LIST);
     if n <= SHORT {
         return bad_channel(s, o);
     }
-    any_entry(s, OBJECTS, o, TRACK_LIST, EntryTest::OrdinalPast(n))
-        | keys_alike(s, &none, OBJECTS, o, TRACK_LIST, Key::Ordinal)
+    any_entry(s, OBJECTS, o, TRACK_LIST, |t| {
+        n <= field(s, TRACKS, t, TRACK_ORDINAL)
+    }) | keys_alike(s, OBJECTS, o, TRACK_LIST, |t| {
+        field(s, TRACKS, t, TRACK_ORDINAL)
+    })
 }
 
 // The first place of a group among those passed; where there is none, this one, which is kept.
@@ -135,18 +136,27 @@ fn first_of(first: &mut [u16], l: u16, j: u16) -> u16
     }
 }
 
+// Whether two sets are of one group, and differ.
+fn differ_in_one_group(s: &[u8], owners: &[u16], leaders: &[u16], u: u16, v: u16) -> bool
+    ensures { Owners (sheet_of s.now) owners.now → Leaders (sheet_of s.now) leaders.now → result ≡ differ_in_one_group (sheet_of s.now) u v }
+{
+    if leader_by(s, leaders, owner_by(s, owners, u))
+        == leader_by(s, leaders, owner_by(s, owners, v))
+    {
+        sets_differ(s, u, v)
+    } else {
+        false
+    }
+}
+
 // Whether the sets that a programme names differ within a group, pair by pair.
 fn group_pairs_differ(s: &[u8], owners: &[u16], leaders: &[u16], p: u16) -> bool
     ensures { Owners (sheet_of s.now) owners.now → Leaders (sheet_of s.now) leaders.now → result ≡ sets_differ_in_group (sheet_of s.now) p }
 {
-    two_entries(
-        s,
-        owners,
-        leaders,
-        field(s, PROGRAMMES, p, SET_LIST),
-        number(s, PROGRAMMES, p, SET_LIST),
-        PairTest::DifferInGroup,
-    )
+    let n = number(s, PROGRAMMES, p, SET_LIST);
+    two_references(s, field(s, PROGRAMMES, p, SET_LIST), n, |u, v| {
+        differ_in_one_group(s, owners, leaders, u, v)
+    })
 }
 
 // The same for a long list: each is compared with the first of its group. No sheet has more than 2,046 objects; a larger number would
@@ -156,8 +166,7 @@ fn differ_from_first(s: &[u8], owners: &[u16], leaders: &[u16], p: u16) -> bool
 {
     let n = number(s, PROGRAMMES, p, SET_LIST);
     let mut first: [u16; 2048] = [0; 2048];
-    let mut j: u16 = 0;
-    while j < n {
+    for j in 0..n {
         let v = named_set(s, p, j);
         let l = leader_by(s, leaders, owner_by(s, owners, v));
         if 2048 <= l {
@@ -167,7 +176,6 @@ fn differ_from_first(s: &[u8], owners: &[u16], leaders: &[u16], p: u16) -> bool
         if sets_differ(s, named_set(s, p, i), v) {
             return true;
         }
-        j += 1;
     }
     false
 }

@@ -1,27 +1,45 @@
 // Rule 22: the sets that a programme names.
 ghost use Rattle.std.specs.Prelude.{◌≡◌};
 ghost use Rattle.profile.specs.Rules.{rule22};
+ghost use Rattle.rules.specs.steps.Loops.{partly_set};
 ghost use Rattle.sheet.specs.Words.{sheet_of};
-ghost use Rattle.tables.specs.steps.Right.{Included, Leaders, Owners};
+ghost use Rattle.tables.specs.steps.Right.{Included, Leaders, NamedSets, Owners};
 
-use crate::loops::{any_group, any_tabled};
+use crate::references::any_reference;
 use crate::repeats::{differ_in_group, one_owner};
-use crate::{GroupTest, TabledTest};
-use sheet::fields::{PROGRAMMES, SET_LIST};
-use sheet::layout::{field, number};
+use profile::counting::any;
+use relations::groups::members;
+use relations::objects::leader;
+use sheet::fields::{OBJECTS, PROGRAMMES, SET_LIST};
+use sheet::layout::{count, field, number};
 use tables::marks::mark_named_sets;
+use tables::members::members_passing;
+use tables::reads::{included_by, names_set_by, owner_by};
+
+// The programme includes the whole group of a leader, and names sets for some of it, but not all.
+fn partly_set(s: &[u8], p: u16, marks: &[u16], sets: &[u16], l: u16) -> bool
+    ensures { Included (sheet_of s.now) p marks.now → NamedSets (sheet_of s.now) p sets.now → result ≡ partly_set (sheet_of s.now) p l }
+{
+    if !leader(s, l) {
+        return false;
+    }
+    let all = members(s, l);
+    if members_passing(s, l, |o| included_by(s, p, marks, o)) == all {
+        let m = members_passing(s, l, |o| names_set_by(s, p, sets, o));
+        (m != 0) & (m != all)
+    } else {
+        false
+    }
+}
 
 pub fn rule22(s: &[u8], owners: &[u16], leaders: &[u16], marks: &[u16], section: u8, p: u16) -> bool
     ensures { Owners (sheet_of s.now) owners.now → Leaders (sheet_of s.now) leaders.now → Included (sheet_of s.now) p marks.now → result ≡ rule22 (sheet_of s.now) section p }
 {
-    if any_tabled(
-        s,
-        owners,
-        marks,
-        field(s, PROGRAMMES, p, SET_LIST),
-        number(s, PROGRAMMES, p, SET_LIST),
-        TabledTest::NotIncluded(p),
-    ) {
+    let first = field(s, PROGRAMMES, p, SET_LIST);
+    let n = number(s, PROGRAMMES, p, SET_LIST);
+    if any_reference(s, first, n, |v| {
+        !included_by(s, p, marks, owner_by(s, owners, v))
+    }) {
         return true;
     }
     if one_owner(s, owners, p) {
@@ -29,5 +47,6 @@ pub fn rule22(s: &[u8], owners: &[u16], leaders: &[u16], marks: &[u16], section:
     }
     let mut sets: [u16; 4680] = [0; 4680];
     mark_named_sets(s, p, &mut sets);
-    any_group(s, p, marks, &sets, GroupTest::PartlySet) | differ_in_group(s, owners, leaders, p)
+    any(count(s, OBJECTS), |l| partly_set(s, p, marks, &sets, l))
+        | differ_in_group(s, owners, leaders, p)
 }

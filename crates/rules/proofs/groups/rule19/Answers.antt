@@ -1,9 +1,11 @@
 -- A complement that passes the test. Assumes nothing.
-use Rattle.profile.specs.Rules.{rule19}
-use Rattle.rules.specs.steps.Loops.{any_tabled}
+use Rattle.std.proofs.Common.{rules}
+use Rattle.profile.specs.Rules.{bad_complement, rule19}
 use Rattle.sheet.specs.Layout.{entry}
+use Rattle.sheet.specs.Words.{sheet_of}
 use Rattle.rules.proofs.groups.rule19.Goals as goal
 
 pub returns : goal.returns
-unfolding rule19 any_tabled entry
-returns c = λ tops complements. rw (c.field.ensures, c.number.ensures) at (c.any_tabled.ensures (tops, complements))
+unfolding rule19 entry
+returns c = λ right.
+    rw (c.field-first.ensures, c.number-n.ensures) at (c.any_reference.ensures (bad_complement (sheet_of c.args.s.now)) (λ e r l q. search rules))

@@ -1,9 +1,11 @@
--- A complement that passes the test. Assumes nothing.
-use Rattle.profile.specs.Rules.{rule20}
-use Rattle.rules.specs.steps.Loops.{any_tabled}
+-- A complement that differs from its leader. Assumes nothing.
+use Rattle.std.proofs.Common.{rules}
+use Rattle.profile.specs.Rules.{differs, rule20}
 use Rattle.sheet.specs.Layout.{entry}
+use Rattle.sheet.specs.Words.{sheet_of}
 use Rattle.rules.proofs.groups.rule20.Goals as goal
 
 pub returns : goal.returns
-unfolding rule20 any_tabled entry
-returns c = rw (c.field.ensures, c.number.ensures) at (c.any_tabled.ensures tt)
+unfolding rule20 entry
+returns c =
+    rw (c.field-first.ensures, c.number-n.ensures) at (c.any_reference.ensures (differs (sheet_of c.args.s.now) c.args.o) (λ e r l q. search rules))

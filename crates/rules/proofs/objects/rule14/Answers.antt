@@ -1,4 +1,5 @@
 -- As many as its channels, of its pack, each ordinal once. Assumes nothing.
+use Rattle.std.proofs.Common.{rules}
 use Prim.Native.Nat.{ℕ, ◌+◌, ◌<◌}
 use mathlib.Core.Path.{◌≡◌, sym, ap, ap₂, ◌∙◌}
 use mathlib.Core.Bool.{Bool, true, false, cond, not, ◌||◌}
@@ -7,11 +8,10 @@ use borrow.Author.Tests.{eq-eqb, ne_eqb, ltb-true, leb-true}
 use lib.Dec.{eqb}
 use Rattle.sheet.specs.Words.{sheet_of}
 use Rattle.sheet.specs.Layout.{field, number, entry}
-use Rattle.sheet.specs.Fields.{objects, packs, track_list, pack_channels}
+use Rattle.sheet.specs.Fields.{objects, packs, tracks, track_list, track_pack, pack_channels}
 use Rattle.profile.specs.Counting.{any, how_many}
 use Rattle.profile.specs.Rules.{rule14}
 use Rattle.profile.specs.Relations.{has_children, pack_of, channels, track_at}
-use Rattle.relations.specs.steps.Tests.{any_entry}
 use Rattle.runs.specs.steps.Runs.{pack_at, ordinal_at, odd_tracks}
 use Rattle.runs.proofs.RunLaws.{all_three}
 use Rattle.rules.specs.steps.Loops.{bad_channel}
@@ -42,6 +42,6 @@ returns-then-n-inside c =
     ∙ ap (λ (m : ℕ). any (λ i. not (eqb (pack_at s (first + i)) (pack_of s a.o))) n || any (λ k. not (eqb (how_many (λ i. eqb (ordinal_at s (first + i)) k) n) 1)) m) e)
 
 pub returns : goal.returns
-unfolding rule14 any_entry bad_channel track_at
+unfolding rule14 bad_channel track_at
 returns c =
-    let number' = c.number-n in let channels' = c.channels in let if1 = c.if-n-channels in λ next again. let e = (sym number'.ensures ∙ if1.false ∙ channels'.ensures) in simp (eq-eqb _ _ e, c.any_entry.ensures, c.pack_of-2.ensures, c.bad_ordinals.ensures e)
+    let s = sheet_of c.args.s.now in let number' = c.number-n in let channels' = c.channels in let if1 = c.if-n-channels in λ next again. let e = (sym number'.ensures ∙ if1.false ∙ channels'.ensures) in simp (eq-eqb _ _ e, c.any_entry.ensures (λ t. not (eqb (field s tracks t track_pack) c.pack_of-pack.result)) (λ t r l q. search rules), c.pack_of-pack.ensures, c.bad_ordinals.ensures e)

@@ -1,5 +1,4 @@
 -- No two of the sets passed differ within a group. Assumes nothing.
-use Prim.Native.Nat.{◌-◌, ◌≤◌}
 use mathlib.Core.Path.{◌≡◌}
 use lib.ListN.{length}
 use Rattle.profile.specs.Relations.{leader_of, owner, named_set}
@@ -10,9 +9,5 @@ use Rattle.rules.proofs.repeats.differ_from_first.Given as goal
 
 abbrev pub invariant-loop-j : goal.invariant-loop-j
 invariant-loop-j l =
-    (l.j ≤ l.n)
-    × (length l.first ≡ 2048)
+    (length l.first ≡ 2048)
     × (Owners (sheet_of l.s) l.owners → Leaders (sheet_of l.s) l.leaders → Firsts (sheet_of l.s) (named_set (sheet_of l.s) l.p) (λ h. leader_of (sheet_of l.s) (owner (sheet_of l.s) (named_set (sheet_of l.s) l.p h))) l.first l.j × Agree (sheet_of l.s) (named_set (sheet_of l.s) l.p) (λ h. leader_of (sheet_of l.s) (owner (sheet_of l.s) (named_set (sheet_of l.s) l.p h))) l.j)
-
-abbrev pub decreases-loop-j : goal.decreases-loop-j
-decreases-loop-j l = l.n - l.j

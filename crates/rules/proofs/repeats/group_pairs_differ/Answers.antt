@@ -1,5 +1,12 @@
 -- Pair by pair. Assumes nothing.
+use Rattle.std.proofs.Common.{rules}
+use Rattle.profile.specs.Relations.{named_set}
+use Rattle.rules.specs.steps.Loops.{differ_in_one_group}
+use Rattle.sheet.specs.Layout.{entry}
+use Rattle.sheet.specs.Words.{sheet_of}
 use Rattle.rules.proofs.repeats.group_pairs_differ.Goals as goal
 
 pub returns : goal.returns
-returns c = λ owners leaders. rw (c.field.ensures, c.number.ensures) at (c.two_entries.ensures (owners, leaders))
+unfolding named_set entry
+returns c = λ owners leaders.
+    rw (c.field.ensures, c.number-n.ensures) at (c.two_references.ensures (differ_in_one_group (sheet_of c.args.s.now)) (λ u v r l m q. search rules))

@@ -1,11 +1,16 @@
 -- By pairs or by a table. Assumes nothing.
-use Rattle.rules.specs.steps.Loops.{two_entries, keys_alike}
+use Rattle.std.proofs.Common.{rules, eqb}
+use Rattle.profile.specs.Relations.{owner}
+use Rattle.rules.specs.steps.Loops.{keys_alike}
 use Rattle.sheet.specs.Layout.{entry}
+use Rattle.sheet.specs.Words.{sheet_of}
 use Rattle.rules.proofs.repeats.one_owner.Goals as goal
 
 pub returns-then-n-le-SHORT : goal.returns-then-n-le-SHORT
-unfolding keys_alike two_entries entry
-returns-then-n-le-SHORT c = λ owners. rw (c.field.ensures, c.number-n.ensures) at (c.two_entries.ensures owners)
+unfolding keys_alike entry
+returns-then-n-le-SHORT c = λ owners.
+    let s = sheet_of c.args.s.now in
+    rw (c.field.ensures, c.number-n.ensures) at (c.two_references.ensures (λ x y. eqb (owner s x) (owner s y)) (λ x y r l m q. search rules))
 
 pub returns-else-n-le-SHORT : goal.returns-else-n-le-SHORT
-returns-else-n-le-SHORT c = λ owners. c.keys_alike.ensures owners
+returns-else-n-le-SHORT c = λ owners. c.keys_alike.ensures (owner (sheet_of c.args.s.now)) (λ e r l q. search rules)

@@ -4,4 +4,4 @@ use Rattle.rules.proofs.totals.rule23.Goals as goal
 
 pub returns : goal.returns
 unfolding rule23
-returns c = λ tops complements. simp (c.exceeds-2.ensures, c.units.ensures tops complements, c.exceeds.ensures, c.groups.ensures)
+returns c = λ right. simp (c.exceeds-2.ensures, c.units.ensures right, c.exceeds.ensures, c.groups.ensures)
