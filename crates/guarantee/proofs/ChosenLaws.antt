@@ -6,6 +6,7 @@ use mathlib.Core.List.{List, [], ◌∷◌}
 use mathlib.Core.Logic.{◌⊎◌, ⊎_elim}
 use native.Mathlib.Omega.{arith}
 use borrow.Author.Tests.{lt-leb}
+use Rattle.std.specs.Prelude.{Ok}
 use Rattle.sheet.specs.Words.{Sheet}
 use Rattle.sheet.specs.Layout.{level, count}
 use Rattle.sheet.specs.Fields.{programmes}
@@ -13,10 +14,8 @@ use Rattle.profile.specs.declared.Verdict.TheVariants.{Accepted}
 use Rattle.profile.specs.Verdict.{verdict}
 use Rattle.profile.proofs.AcceptedLaws.{accepted_sheet}
 use Rattle.listener.specs.declared.State.{State}
-use Rattle.listener.specs.declared.Answer.{Answer}
-use Rattle.listener.specs.declared.Answer.TheVariants.{Done}
 use Rattle.listener.specs.Programme.{started}
-use Rattle.listener.specs.Calls.{opens, answer_by, reply_by, opened, no_programme, programme_answer, chosen_programme}
+use Rattle.listener.specs.Calls.{Answer, opens, answer_by, reply_by, opened, no_programme, programme_answer, chosen_programme}
 use Rattle.guarantee.specs.Run.{reply, run, after, chosen, last_chosen}
 use Rattle.guarantee.specs.Run.Call.{programme}
 use Rattle.guarantee.specs.Guarantee.{Promises}
@@ -29,7 +28,7 @@ module _ (s : Sheet) (langs : List ℕ) (accepted : verdict s langs ≡ Accepted
   accepted_opens = opens_accepted s langs accepted (λ e. ⊎_elim (λ q. omega arith) (λ q. omega arith) at)
 
   module _ (p : ℕ) (there : p < count s programmes) where
-    choice_done : programme_answer s langs (opened s langs).state p ≡ Done
+    choice_done : programme_answer s langs (opened s langs).state p ≡ Ok tt
     unfolding programme_answer answer_by no_programme
     choice_done =
         let a = accepted_sheet s langs accepted in

@@ -10,6 +10,7 @@ use native.Mathlib.Nat.{le_trans}
 use lib.ListN.{length}
 use lib.Seq.{sets}
 use borrow.Author.Tests.{le-ltb}
+use Rattle.std.specs.Prelude.{Ok}
 use Rattle.sheet.specs.Words.{Sheet}
 use Rattle.sheet.specs.Layout.{level, count}
 use Rattle.sheet.specs.Fields.{objects}
@@ -18,7 +19,6 @@ use Rattle.profile.specs.Verdict.{verdict}
 use Rattle.profile.specs.AcceptedSheet.{AcceptedSheet}
 use Rattle.profile.proofs.AcceptedLaws.{accepted_sheet}
 use Rattle.listener.specs.declared.State.{State}
-use Rattle.listener.specs.declared.Answer.TheVariants.{Done}
 use Rattle.listener.specs.declared.Refusal.TheVariants.{NotAccepted, Unsound}
 use Rattle.listener.specs.State.{state_objects}
 use Rattle.listener.specs.Sound.{sound}
@@ -42,11 +42,11 @@ module _ (s : Sheet) (langs : List ℕ) (accepted : verdict s langs ≡ Accepted
   few : count s objects ≤ state_objects
   few = few_objects s langs can_open
 
-  enough : (st : State) → sound s st ≡ true → (words : ℕ) → length (entries s st) ≤ words → listing_answer s langs st words ≡ Done
+  enough : (st : State) → sound s st ≡ true → (words : ℕ) → length (entries s st) ≤ words → listing_answer s langs st words ≡ Ok tt
   unfolding listing_answer too_few_words answer_by
   enough st h words l = passes s langs a few can_open st (too_few_words s st words ∷ []) h ∙ rw (le-ltb words (length (entries s st)) l)
 
-  done_listing : (st : State) → sound s st ≡ true → (words : ℕ) → length (entries s st) ≤ words → listed s langs st words ≡ record { answer = Done; entries = length (entries s st) }
+  done_listing : (st : State) → sound s st ≡ true → (words : ℕ) → length (entries s st) ≤ words → listed s langs st words ≡ Ok (length (entries s st))
   unfolding listed
   done_listing st h words l = rw (enough st h words l)
 
@@ -54,7 +54,7 @@ module _ (s : Sheet) (langs : List ℕ) (accepted : verdict s langs ≡ Accepted
   unfolding buffered buffered_by
   done_writing st h buffer l = rw (enough st h (length buffer) l)
 
-  done_opening : (opened s langs).answer ≡ Done
+  done_opening : (opened s langs).answer ≡ Ok tt
   unfolding opened answer_by not_open reply_by
   done_opening = rw can_open
 

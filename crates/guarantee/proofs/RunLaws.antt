@@ -7,6 +7,7 @@ use native.Mathlib.Omega.{arith}
 use lib.IntN.{ℤ}
 use lib.ListN.{length, length-set}
 use borrow.Author.Tests.{leb-false, not-false, lt-ltb}
+use Rattle.std.specs.Prelude.{Ok, Err}
 use Rattle.sheet.specs.Words.{Sheet}
 use Rattle.sheet.specs.Layout.{count}
 use Rattle.sheet.specs.Fields.{programmes, objects}
@@ -23,23 +24,21 @@ use Rattle.profile.proofs.GroupLaws.{included_top}
 use Rattle.listener.specs.declared.Setting.{Setting}
 use Rattle.listener.specs.declared.State.{State}
 use Rattle.listener.specs.declared.Refusal.{Refusal}
-use Rattle.listener.specs.declared.Answer.{Answer}
-use Rattle.listener.specs.declared.Answer.TheVariants.{Done, Refused}
 use Rattle.granted.specs.Fitting.{same_gain, same_offset, gain_fits, offset_fits, sound_gain, sound_offset}
 use Rattle.listener.specs.State.{state_objects, setting, refusal_number}
 use Rattle.granted.specs.Granted.{start_value, grants, in_whole_group}
 use Rattle.listener.specs.Programme.{start_setting, started}
 use Rattle.listener.specs.Sound.{sound}
-use Rattle.listener.specs.Calls.{Ground, answer_by, reply_by, opens, not_open, not_sound, not_included, no_programme, not_in_group, no_range, outside_range, opened, programme_answer, chosen_programme, object_answer, moved_setting, moved, chosen_object, value_answer, with_setting, with_gain, with_offset, gain_set, offset_set}
+use Rattle.listener.specs.Calls.{Answer, Ground, answer_by, reply_by, opens, not_open, not_sound, not_included, no_programme, not_in_group, no_range, outside_range, opened, programme_answer, chosen_programme, object_answer, moved_setting, moved, chosen_object, value_answer, with_setting, with_gain, with_offset, gain_set, offset_set}
 use Rattle.guarantee.specs.Run.{Call, programme, object, gain, offset, reply, run, after, chosen_by, chosen, last_chosen}
 use Rattle.guarantee.proofs.SoundLaws.{start_sound, sound_programme, sound_object, included_parts, stored_sound, moved_sound}
 
 -- an answer is done where no ground holds
-pub done_ground : (g : Ground) (gs : List Ground) → answer_by (g ∷ gs) ≡ Done → (g.holds ≡ false) × (answer_by gs ≡ Done)
+pub done_ground : (g : Ground) (gs : List Ground) → answer_by (g ∷ gs) ≡ Ok tt → (g.holds ≡ false) × (answer_by gs ≡ Ok tt)
 unfolding answer_by
 done_ground g gs e =
-    (elim g.holds as (λ b. g.holds ≡ b → (g.holds ≡ false) × (answer_by gs ≡ Done)) [
-      | true ↦ λ h. let z : ◌≡◌ {A = Answer} (Refused g.refusal) Done = rw h at e in let y : ◌≡◌ {A = ℕ} 0 1 = cc in absurd (omega arith)
+    (elim g.holds as (λ b. g.holds ≡ b → (g.holds ≡ false) × (answer_by gs ≡ Ok tt)) [
+      | true ↦ λ h. let z : ◌≡◌ {A = Answer} (Err g.refusal) (Ok tt) = rw h at e in let y : ◌≡◌ {A = ℕ} 0 1 = cc in absurd (omega arith)
       | false ↦ λ h. (h, rw h at e)
     ]) refl
 
@@ -48,25 +47,25 @@ abbrev Later : List Ground → Type 0
 Later [] = Unit {0}
 Later (g ∷ gs) = (27 ≤ refusal_number g.refusal) × Later gs
 
-later_answer : (gs : List Ground) → Later gs → (r : Refusal) → answer_by gs ≡ Refused r → 27 ≤ refusal_number r
+later_answer : (gs : List Ground) → Later gs → (r : Refusal) → answer_by gs ≡ Err r → 27 ≤ refusal_number r
 unfolding answer_by
 later_answer [] later r e = let y : ◌≡◌ {A = ℕ} 0 1 = cc in absurd (omega arith)
 later_answer (g ∷ gs) later r e =
     (elim g.holds as (λ b. g.holds ≡ b → 27 ≤ refusal_number r) [
-      | true ↦ λ h. let z : ◌≡◌ {A = Answer} (Refused g.refusal) (Refused r) = rw h at e in let q : g.refusal ≡ r = cc in rw (sym q) later.0
+      | true ↦ λ h. let z : ◌≡◌ {A = Answer} (Err g.refusal) (Err r) = rw h at e in let q : g.refusal ≡ r = cc in rw (sym q) later.0
       | false ↦ λ h. later_answer gs later.1 r (rw h at e)
     ]) refl
 
 -- what holds of the given state, and of the one made if the call is done, holds of the one handed back
-handed_back : (P : State → Type 0) (answer : Answer) (given made : State) → P given → (answer ≡ Done → P made) → P (reply_by answer given made).state
+handed_back : (P : State → Type 0) (answer : Answer) (given made : State) → P given → (answer ≡ Ok tt → P made) → P (reply_by answer given made).state
 unfolding reply_by
-handed_back P Done given made g m = m refl
-handed_back P (Refused r) given made g m = g
+handed_back P (Ok done) given made g m = m refl
+handed_back P (Err r) given made g m = g
 
 reply_answer : (answer : Answer) (given made : State) → (reply_by answer given made).answer ≡ answer
 unfolding reply_by
-reply_answer Done given made = refl
-reply_answer (Refused r) given made = refl
+reply_answer (Ok done) given made = refl
+reply_answer (Err r) given made = refl
 
 -- what every call keeps, at a programme
 pub record Kept (s : Sheet) (st : State) (p : ℕ) : Type 0 where
@@ -80,7 +79,7 @@ module _ (s : Sheet) (langs : List ℕ) (a : AcceptedSheet s) (few : count s obj
   unfolding answer_by not_open not_sound
   passes st gs h = rw (can_open, h)
 
-  pub never : (st : State) (gs : List Ground) → sound s st ≡ true → Later gs → (r : Refusal) → refusal_number r ≤ 26 → answer_by (not_open s langs ∷ not_sound s st ∷ gs) ≡ Refused r → ⊥
+  pub never : (st : State) (gs : List Ground) → sound s st ≡ true → Later gs → (r : Refusal) → refusal_number r ≤ 26 → answer_by (not_open s langs ∷ not_sound s st ∷ gs) ≡ Err r → ⊥
   never st gs h later r few e = let l = later_answer gs later r (sym (passes st gs h) ∙ e) in omega arith
 
   start_kept : (p : ℕ) → p < count s programmes → Kept s (started s p) p
@@ -92,20 +91,20 @@ module _ (s : Sheet) (langs : List ℕ) (a : AcceptedSheet s) (few : count s obj
   opened_kept = rw can_open (unfold reply_by in start_kept 0 (omega (arith, a.some_programme)))
 
   -- the grounds of a call that is done have all been passed
-  passed : (st : State) (gs : List Ground) → sound s st ≡ true → answer_by (not_open s langs ∷ not_sound s st ∷ gs) ≡ Done → answer_by gs ≡ Done
+  passed : (st : State) (gs : List Ground) → sound s st ≡ true → answer_by (not_open s langs ∷ not_sound s st ∷ gs) ≡ Ok tt → answer_by gs ≡ Ok tt
   passed st gs h e = sym (passes st gs h) ∙ e
 
-  programme_done : (st : State) (q : ℕ) → sound s st ≡ true → programme_answer s langs st q ≡ Done → q < count s programmes
+  programme_done : (st : State) (q : ℕ) → sound s st ≡ true → programme_answer s langs st q ≡ Ok tt → q < count s programmes
   unfolding programme_answer no_programme
   programme_done st q h e = leb-false _ _ (done_ground (no_programme s q) [] (passed st (no_programme s q ∷ []) h e)).0
 
-  object_done : (st : State) (o : ℕ) → sound s st ≡ true → object_answer s langs st o ≡ Done → (includes s st.programme o ≡ true) × (in_whole_group s st.programme o ≡ true)
+  object_done : (st : State) (o : ℕ) → sound s st ≡ true → object_answer s langs st o ≡ Ok tt → (includes s st.programme o ≡ true) × (in_whole_group s st.programme o ≡ true)
   unfolding object_answer not_included not_in_group
   object_done st o h e =
       let f = done_ground (not_included s st o) (not_in_group s st o ∷ []) (passed st (not_included s st o ∷ not_in_group s st o ∷ []) h e) in
       (not-false _ f.0, not-false _ (done_ground (not_in_group s st o) [] f.1).0)
 
-  value_done : (st : State) (o : ℕ) (t : Sort) (fits : Bool) → sound s st ≡ true → value_answer s langs st o t fits ≡ Done
+  value_done : (st : State) (o : ℕ) (t : Sort) (fits : Bool) → sound s st ≡ true → value_answer s langs st o t fits ≡ Ok tt
       → (includes s st.programme o ≡ true) × (grants s st.programme o t ≡ true) × (fits ≡ true)
   unfolding value_answer not_included no_range outside_range
   value_done st o t fits h e =
@@ -118,8 +117,8 @@ module _ (s : Sheet) (langs : List ℕ) (a : AcceptedSheet s) (few : count s obj
   programme_kept st p q k = by (programme_answer s langs st q) refl
     where
       by : (answer : Answer) → programme_answer s langs st q ≡ answer → Kept s (reply_by answer st (started s q)).state (chosen_by answer q p)
-      by Done e = start_kept q (programme_done st q k.good e)
-      by (Refused r) e = k
+      by (Ok done) e = start_kept q (programme_done st q k.good e)
+      by (Err r) e = k
 
   object_kept : (st : State) (p o : ℕ) → Kept s st p → Kept s (chosen_object s langs st o).state p
   unfolding chosen_object moved
@@ -186,7 +185,7 @@ module _ (s : Sheet) (langs : List ℕ) (a : AcceptedSheet s) (few : count s obj
   after_kept cs = run_kept cs (opened s langs).state 0 opened_kept
 
   -- no call is refused by 25 or 26
-  pub never_refused : (st : State) → sound s st ≡ true → (c : Call) (r : Refusal) → refusal_number r ≤ 26 → (reply s langs st c).answer ≡ Refused r → ⊥
+  pub never_refused : (st : State) → sound s st ≡ true → (c : Call) (r : Refusal) → refusal_number r ≤ 26 → (reply s langs st c).answer ≡ Err r → ⊥
   unfolding reply chosen_programme chosen_object gain_set offset_set programme_answer object_answer value_answer no_programme not_included not_in_group no_range outside_range
   never_refused st h (programme q) r few e = never st (no_programme s q ∷ []) h (omega arith, tt) r few (sym (reply_answer (programme_answer s langs st q) st (started s q)) ∙ e)
   never_refused st h (object o) r few e = never st (not_included s st o ∷ not_in_group s st o ∷ []) h (omega arith, (omega arith, tt)) r few (sym (reply_answer (object_answer s langs st o) st _) ∙ e)

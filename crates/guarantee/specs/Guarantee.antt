@@ -2,7 +2,7 @@
 -- a single claim about the whole list, not one for each call." The record has a field for each promise; `listening` in
 -- proofs/Guaranteed.antt makes it for every such sheet and every list of calls. Document 02, L2: "what holds after an opening holds for
 -- calls lent the same sheet and the same list": acceptance and every call are under one list of languages, `langs`. Assumes nothing.
-use Rattle.std.specs.Prelude.{ℕ, ◌+◌, ◌<◌, ◌≤◌, ◌≡◌, Bool, true, false, cond, ◌&&◌, List, [], ◌∷◌, eqb, length, get_or}
+use Rattle.std.specs.Prelude.{ℕ, ◌+◌, ◌<◌, ◌≤◌, ◌≡◌, Bool, true, false, cond, ◌&&◌, List, [], ◌∷◌, eqb, length, get_or, Ok, Err}
 use Rattle.std.proofs.lemmas.List.Edits.{sets}
 use Rattle.sheet.specs.Words.{Sheet}
 use Rattle.sheet.specs.Layout.{level, count, field}
@@ -14,7 +14,6 @@ use Rattle.values.specs.Offset.{offset_in_range, legal_offset}
 use Rattle.profile.specs.Counting.{how_many}
 use Rattle.profile.specs.Relations.{pack_of, has_pack, leader, member, members, wholly_included}
 use Rattle.listener.specs.declared.State.{State}
-use Rattle.listener.specs.declared.Answer.TheVariants.{Done, Refused}
 use Rattle.listener.specs.declared.Refusal.TheVariants.{NotAccepted, Unsound}
 use Rattle.listener.specs.State.{setting}
 use Rattle.granted.specs.Granted.{granted_minimum, granted_maximum, grants}
@@ -41,7 +40,7 @@ is_channel s o n e =
 pub record Promises (s : Sheet) (langs : List ℕ) (p : ℕ) (st : State) : Type 0 where
   -- the listing with enough space ("Enough space is a word for each entry.") is done, gives the number of entries and writes their
   -- tracks; it has 1 to 16 (28) entries, each a track of the sheet
-  pub listing_done : (words : ℕ) → length (entries s st) ≤ words → listed s langs st words ≡ record { answer = Done; entries = length (entries s st) }
+  pub listing_done : (words : ℕ) → length (entries s st) ≤ words → listed s langs st words ≡ Ok (length (entries s st))
   pub listing_written : (buffer : List ℕ) → length (entries s st) ≤ length buffer → buffered s langs st buffer ≡ sets buffer 0 (listed_tracks s st)
   pub at_least_one : 1 ≤ length (entries s st)
   pub at_most_lem : length (entries s st) ≤ most_entries (level s)
@@ -64,13 +63,13 @@ pub record Promises (s : Sheet) (langs : List ℕ) (p : ℕ) (st : State) : Type
   pub gain_at_start : (o : ℕ) → o < count s objects → grants s p o Gains ≡ false → (setting st o).gain ≡ (start_setting s p o).gain
   pub offset_at_start : (o : ℕ) → o < count s objects → grants s p o Offsets ≡ false → (setting st o).offset ≡ (start_setting s p o).offset
   -- "From an accepted opening on the same sheet 25 and 26 never come.": on the same sheet under the same list
-  pub never_25 : (c : Call) → (reply s langs st c).answer ≡ Refused NotAccepted → ⊥
-  pub never_26 : (c : Call) → (reply s langs st c).answer ≡ Refused Unsound → ⊥
-  pub listing_never_25 : (words : ℕ) → listing_answer s langs st words ≡ Refused NotAccepted → ⊥
-  pub listing_never_26 : (words : ℕ) → listing_answer s langs st words ≡ Refused Unsound → ⊥
+  pub never_25 : (c : Call) → (reply s langs st c).answer ≡ Err NotAccepted → ⊥
+  pub never_26 : (c : Call) → (reply s langs st c).answer ≡ Err Unsound → ⊥
+  pub listing_never_25 : (words : ℕ) → listing_answer s langs st words ≡ Err NotAccepted → ⊥
+  pub listing_never_26 : (words : ℕ) → listing_answer s langs st words ≡ Err Unsound → ⊥
 
 -- the promises after a list of calls, at the programme of the last programme choice not refused, 0 if there is none
 pub record Listening (s : Sheet) (langs : List ℕ) (calls : List Call) : Type 0 where
-  pub opening_done : (opened s langs).answer ≡ Done
+  pub opening_done : (opened s langs).answer ≡ Ok tt
   pub programme : (after s langs calls).programme ≡ last_chosen s langs calls
   pub promises : Promises s langs (last_chosen s langs calls) (after s langs calls)

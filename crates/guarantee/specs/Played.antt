@@ -1,12 +1,11 @@
 -- The machine with every definition open, so that the scripts of specs/Scripts.antt compute. Assumes nothing.
-use Rattle.std.specs.Prelude.{ℕ, List, [], ◌∷◌, length}
+use Rattle.std.specs.Prelude.{ℕ, List, [], ◌∷◌, length, Result, Ok, Err}
 use Rattle.sheet.specs.Words.{Sheet, sheet_of, words}
 use Rattle.profile.specs.Counting.{every, concat_below, tabulate}
 use Rattle.profile.specs.Relations.{set_for}
 use Rattle.profile.specs.Judged.{judged}
 use Rattle.listener.specs.declared.State.{State}
-use Rattle.listener.specs.declared.Answer.{Answer}
-use Rattle.listener.specs.declared.Answer.TheVariants.{Done, Refused}
+use Rattle.listener.specs.declared.Refusal.{Refusal}
 use Rattle.granted.specs.Fitting.{same_gain, same_offset, gain_fits, offset_fits, sound_gain, sound_offset}
 use Rattle.listener.specs.State.{resting_state, setting, active, is_resting, refusal_number}
 use Rattle.granted.specs.Granted.{start_value, granted_minimum, granted_maximum, grants, in_whole_group, starts_active}
@@ -17,9 +16,14 @@ use Rattle.listener.specs.Listing.{own_entries, object_entries, entries, listed_
 use Rattle.guarantee.specs.Run.{Call, reply, run}
 
 -- 0 for a call that is done, else the refusal's number
-unfoldable pub answer_number : Answer → ℕ
-answer_number Done = 0
-answer_number (Refused r) = refusal_number r
+unfoldable pub answer_number : {X : Type 0} → Result X Refusal → ℕ
+answer_number (Ok done) = 0
+answer_number (Err r) = refusal_number r
+
+-- how many entries a listing has, 0 where it is refused
+unfoldable pub entries_number : Result ℕ Refusal → ℕ
+entries_number (Ok n) = n
+entries_number (Err r) = 0
 
 -- where a list of calls begins: at a fresh opening, or at a state that somebody handed in
 pub data Beginning : Type 0 where
@@ -46,8 +50,8 @@ played_from s langs st calls buffer before =
     record {
       answers = before;
       state = end;
-      listing = answer_number (listed s langs end (length buffer)).answer;
-      entries = (listed s langs end (length buffer)).entries;
+      listing = answer_number (listed s langs end (length buffer));
+      entries = entries_number (listed s langs end (length buffer));
       buffer = buffered s langs end buffer;
     }
 
@@ -62,5 +66,5 @@ unfolding judged every concat_below tabulate set_for resting_state setting activ
     granted_maximum grants in_whole_group starts_active start_setting started gain_fits offset_fits sound_gain sound_offset active_members sound_activity
     sound_at sound opens answer_by reply_by not_open not_sound not_included opened no_programme programme_answer chosen_programme not_in_group object_answer
     moved_setting moved chosen_object no_range outside_range value_answer with_setting with_gain with_offset gain_set offset_set own_entries object_entries
-    entries listed_tracks too_few_words listing_answer listed buffered_by buffered answer_number reply run answered played_from played_on
+    entries listed_tracks too_few_words listing_answer listed buffered_by buffered answer_number entries_number reply run answered played_from played_on
 played bytes langs beginning calls buffer = played_on (sheet_of bytes) (words langs) beginning calls buffer

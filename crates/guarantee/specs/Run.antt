@@ -1,14 +1,12 @@
 -- Lists of calls. Document 01, "The listener": "The list, perhaps empty, starts from the state that opening gave. Each call takes the
 -- state that the last handed back, refused or not. All, listing too, are lent the same sheet." Document 02, L2: "what holds after an
 -- opening holds for calls lent the same sheet and the same list", which is `langs`. Assumes nothing.
-use Rattle.std.specs.Prelude.{ℕ, List, [], ◌∷◌, ℤ}
+use Rattle.std.specs.Prelude.{ℕ, List, [], ◌∷◌, ℤ, Ok, Err}
 use Rattle.sheet.specs.Words.{Sheet}
 use Rattle.values.specs.declared.Gain.{Gain}
 use Rattle.listener.specs.declared.State.{State}
-use Rattle.listener.specs.declared.Answer.{Answer}
-use Rattle.listener.specs.declared.Answer.TheVariants.{Done, Refused}
 use Rattle.listener.specs.declared.Reply.{Reply}
-use Rattle.listener.specs.Calls.{opened, programme_answer, chosen_programme, chosen_object, gain_set, offset_set}
+use Rattle.listener.specs.Calls.{Answer, opened, programme_answer, chosen_programme, chosen_object, gain_set, offset_set}
 
 -- the four calls, with any numbers
 pub data Call : Type 0 where
@@ -35,8 +33,8 @@ after s langs cs = run s langs (opened s langs).state cs
 
 -- a programme choice that was not refused chooses
 abbrev pub chosen_by : Answer → ℕ → ℕ → ℕ
-chosen_by Done p before = p
-chosen_by (Refused r) p before = before
+chosen_by (Ok done) p before = p
+chosen_by (Err r) p before = before
 
 -- "that of the last programme choice not refused", else the one before the list
 unfoldable pub chosen : Sheet → List ℕ → State → ℕ → List Call → ℕ

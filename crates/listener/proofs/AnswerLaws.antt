@@ -1,81 +1,59 @@
 -- The calls' answers and replies in the steps of the code. Assumes nothing.
-use Prim.Native.Nat.{ℕ}
+use Prim.Native.Nat.{ℕ, ◌<◌, ◌≤◌}
 use mathlib.Core.Path.{◌≡◌, refl, sym, ap, ◌∙◌}
-use mathlib.Core.Bool.{Bool, true, false, cond, not, ◌&&◌, true≢false}
-use mathlib.Core.List.{List}
-use lib.Dec.{ltb}
+use mathlib.Core.Bool.{Bool, true, false, cond}
+use mathlib.Core.List.{List, [], ◌∷◌}
+use borrow.Author.Tests.{lt-ltb, le-ltb}
 use lib.ListN.{set}
-use Rattle.sheet.specs.Words.{Sheet}
-use Rattle.values.specs.declared.Sort.{Sort}
-use Rattle.profile.specs.Relations.{includes}
-use Rattle.granted.specs.Granted.{grants}
+use Rattle.std.specs.Prelude.{Ok, Err, is_ok}
 use Rattle.listener.specs.declared.Setting.{Setting}
 use Rattle.listener.specs.declared.State.{State}
-use Rattle.listener.specs.declared.Refusal.TheVariants.{NotAccepted, Unsound}
-use Rattle.listener.specs.declared.Answer.{Answer}
-use Rattle.listener.specs.declared.Answer.TheVariants.{Done, Refused}
 use Rattle.listener.specs.declared.Reply.{Reply}
 use Rattle.listener.specs.State.{state_objects}
-use Rattle.listener.specs.Programme.{started}
-use Rattle.listener.specs.Sound.{sound}
-use Rattle.listener.specs.Calls.{opens, answer_by, reply_by, not_open, not_sound, not_included, no_programme, programme_answer, chosen_programme, not_in_group, object_answer, moved, chosen_object, no_range, outside_range, value_answer, with_setting}
-use Rattle.listener.specs.steps.Answers.{when_sound, number_answer, group_answer, range_answer, is_done}
+use Rattle.listener.specs.Calls.{Answer, Ground, answer_by, reply_by, with_setting}
 
 -- an answer, or what is asked next
 abbrev pub next : Answer → Answer → Answer
-next Done rest = rest
-next (Refused r) rest = Refused r
+next (Ok done) rest = rest
+next (Err r) rest = Err r
 
--- 25 and 26, asked first
-pub when_first : (s : Sheet) (langs : List ℕ) (st : State) (rest a : Answer) → when_sound s langs st Done ≡ a → when_sound s langs st rest ≡ next a rest
-unfolding when_sound
-when_first s langs st rest a e = by (opens s langs) (sound s st) ∙ ap (λ (x : Answer). next x rest) e
+-- two grounds, asked before the rest
+pub after_two : (g h : Ground) (rest : List Ground) (a : Answer) → a ≡ answer_by (g ∷ h ∷ []) → answer_by (g ∷ h ∷ rest) ≡ next a (answer_by rest)
+unfolding answer_by
+after_two g h rest a e = by g.holds h.holds ∙ ap (λ (x : Answer). next x (answer_by rest)) (sym e)
   where
-    by : (a b : Bool) → cond (not a) (Refused NotAccepted) (cond (not b) (Refused Unsound) rest) ≡ next (cond (not a) (Refused NotAccepted) (cond (not b) (Refused Unsound) Done)) rest
-    by false b = refl
-    by true false = refl
-    by true true = refl
+    by : (a b : Bool) → cond a (Err g.refusal) (cond b (Err h.refusal) (answer_by rest)) ≡ next (cond a (Err g.refusal) (cond b (Err h.refusal) (Ok tt))) (answer_by rest)
+    by true b = refl
+    by false true = refl
+    by false false = refl
 
--- a programme choice by its answer
-pub programme_reply : (s : Sheet) (langs : List ℕ) (st : State) (p : ℕ) (a : Answer) → when_sound s langs st (number_answer s p) ≡ a → chosen_programme s langs st p ≡ reply_by a st (started s p)
-unfolding chosen_programme programme_answer no_programme number_answer answer_by not_open not_sound when_sound
-programme_reply s langs st p a e = ap (λ (b : Answer). reply_by b st (started s p)) e
+-- one ground after the other
+pub held : (g : Ground) (gs : List Ground) → g.holds ≡ true → answer_by (g ∷ gs) ≡ Err g.refusal
+unfolding answer_by
+held g gs e = rw e refl
 
--- an object choice by its answer
-pub object_reply : (s : Sheet) (langs : List ℕ) (st : State) (o : ℕ) (a : Answer) → when_sound s langs st (group_answer s st.programme o) ≡ a → chosen_object s langs st o ≡ reply_by a st (moved s st o)
-unfolding chosen_object object_answer not_in_group group_answer answer_by not_open not_sound not_included when_sound
-object_reply s langs st o a e = ap (λ (b : Answer). reply_by b st (moved s st o)) e
+pub passed : (g : Ground) (gs : List Ground) → g.holds ≡ false → answer_by (g ∷ gs) ≡ answer_by gs
+unfolding answer_by
+passed g gs e = rw e refl
 
--- the answer to a gain or offset call by what is found on the way
-module _ (s : Sheet) (langs : List ℕ) (st : State) (o : ℕ) (t : Sort) (fits : Bool) (a : Answer) where
-  pub value_sound : opens s langs ≡ true → sound s st ≡ true → a ≡ range_answer (includes s st.programme o) (grants s st.programme o t) fits → a ≡ value_answer s langs st o t fits
-  unfolding value_answer no_range outside_range range_answer answer_by not_open not_sound not_included
-  value_sound k g e = e ∙ rw (k, g) refl
+pub none_left : answer_by [] ≡ Ok tt
+unfolding answer_by
+none_left = refl
 
-  pub value_unsound : opens s langs ≡ true → sound s st ≡ false → a ≡ Refused Unsound → a ≡ value_answer s langs st o t fits
-  unfolding value_answer answer_by not_open not_sound
-  value_unsound k g e = e ∙ rw (k, g) refl
+-- a call that is done hands back another state, a refused one that which it was given
+pub reply_when : (a b : Answer) (given made st : State) → a ≡ b → st ≡ cond (is_ok a) made given → ◌≡◌ {A = Reply} (record { answer = a; state = st }) (reply_by b given made)
+unfolding reply_by
+reply_when a b given made st q e = by a e ∙ ap (λ (x : Answer). reply_by x given made) q
+  where
+    by : (x : Answer) → st ≡ cond (is_ok x) made given → ◌≡◌ {A = Reply} (record { answer = x; state = st }) (reply_by x given made)
+    by (Ok done) f = rw f refl
+    by (Err r) f = rw f refl
 
-  pub value_shut : opens s langs ≡ false → a ≡ Refused NotAccepted → a ≡ value_answer s langs st o t fits
-  unfolding value_answer answer_by not_open
-  value_shut k e = e ∙ rw k refl
+-- a setting is stored, or there is none of that number
+pub stored : (st : State) (o : ℕ) (x : Setting) → o < state_objects → ◌≡◌ {A = State} (record { programme = st.programme; objects = set st.objects o x }) (with_setting st o x)
+unfolding with_setting
+stored st o x l = rw (lt-ltb o state_objects l) refl
 
--- a call that is done stores the setting, another keeps the state
-module _ (st : State) (o : ℕ) (x : Setting) where
-  stored : (a : Answer) → (is_done a && ltb o state_objects) ≡ true
-      → ◌≡◌ {A = Reply} (record { answer = a; state = record { programme = st.programme; objects = set st.objects o x } }) (reply_by a st (with_setting st o x))
-  unfolding reply_by with_setting
-  stored Done d = rw d refl
-  stored (Refused r) d = absurd (true≢false (sym d))
-
-  kept : (a : Answer) → (is_done a && ltb o state_objects) ≡ false → ◌≡◌ {A = Reply} (record { answer = a; state = st }) (reply_by a st (with_setting st o x))
-  unfolding reply_by with_setting
-  kept Done d = rw d refl
-  kept (Refused r) d = refl
-
-  pub reply_stored : (a b : Answer) → a ≡ b → (is_done a && ltb o state_objects) ≡ true
-      → ◌≡◌ {A = Reply} (record { answer = a; state = record { programme = st.programme; objects = set st.objects o x } }) (reply_by b st (with_setting st o x))
-  reply_stored a b e d = stored a d ∙ ap (λ (y : Answer). reply_by y st (with_setting st o x)) e
-
-  pub reply_kept : (a b : Answer) → a ≡ b → (is_done a && ltb o state_objects) ≡ false → ◌≡◌ {A = Reply} (record { answer = a; state = st }) (reply_by b st (with_setting st o x))
-  reply_kept a b e d = kept a d ∙ ap (λ (y : Answer). reply_by y st (with_setting st o x)) e
+pub unstored : (st : State) (o : ℕ) (x : Setting) → state_objects ≤ o → st ≡ with_setting st o x
+unfolding with_setting
+unstored st o x l = rw (le-ltb o state_objects l) refl

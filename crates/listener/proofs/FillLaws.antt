@@ -17,7 +17,6 @@ module _ {X : Type 0} where
   -- the first i places of t, of n, are right
   pub record Filled (n : ℕ) (f : ℕ → X) (d : X) (t : List X) (i : ℕ) : Type 0 where
     pub long : length t ≡ n
-    pub inside : i ≤ n
     pub right : (k : ℕ) → k < i → get_or t k d ≡ f k
 
   pub filled_more : {n : ℕ} {f : ℕ → X} {d : X} {t : List X} {i : ℕ} (v : X) → Filled n f d t i → i < n → v ≡ f i → Filled n f d (set t i v) (i + 1)
@@ -25,7 +24,6 @@ module _ {X : Type 0} where
       let b : i < length t = omega (arith, h.long) in
       record {
         long = length-set t i v ∙ h.long;
-        inside = omega arith;
         right = below_more (λ k. get_or (set t i v) k d ≡ f k) i
             (λ k m. get_or-set_other t i k v d (λ q. let z : k ≡ i = q in absurd (omega arith)) ∙ h.right k m)
             (get_or-set_same t i v d b ∙ e);
@@ -34,7 +32,7 @@ module _ {X : Type 0} where
   pub filled_all : {n : ℕ} {f : ℕ → X} {d : X} {t : List X} {i : ℕ} → Filled n f d t i → n ≤ i → t ≡ tabulate f n
   filled_all {n} {f} {d} {t} {i} h l =
       ext_get_or d t (tabulate f n) (h.long ∙ sym (length_tabulate f n))
-      (λ k m. h.right k (omega (arith, h.long, h.inside)) ∙ sym (get_d_tabulate f n k d (omega (arith, h.long))))
+      (λ k m. h.right k (omega (arith, h.long)) ∙ sym (get_d_tabulate f n k d (omega (arith, h.long))))
 
   -- and the others are as they were
   pub record Begun (n : ℕ) (f : ℕ → X) (d e : X) (t : List X) (i : ℕ) : Type 0 where
@@ -44,7 +42,7 @@ module _ {X : Type 0} where
   pub begun_none : (n : ℕ) (f : ℕ → X) (d e : X) → Begun n f d e (replicate n e) 0
   begun_none n f d e =
       record {
-        filled = record { long = length-replicate n e; inside = omega arith; right = below_none _ };
+        filled = record { long = length-replicate n e; right = below_none _ };
         rest = λ k l m. get_or-replicate n k e d m;
       }
 

@@ -4,7 +4,6 @@ use mathlib.Core.Path.{◌≡◌, refl, sym, ap, ap₂, ◌∙◌}
 use mathlib.Core.Bool.{Bool, true, false, cond}
 use mathlib.Core.List.{List, [], ◌∷◌, ◌++◌, map}
 use borrow.Author.Tests.{lt-ltb, le-ltb}
-use lib.Dec.{ltb}
 use lib.ListN.{length, length-append, length-map}
 use lib.Seq.{sets}
 use Rattle.sheet.specs.Words.{Sheet}
@@ -16,16 +15,14 @@ use Rattle.profile.proofs.SumLaws.{sum_eq}
 use Rattle.relations.specs.steps.Sizes.{children_tracks}
 use Rattle.profile.specs.Relations.{track_at}
 use Rattle.listener.specs.declared.State.{State}
-use Rattle.listener.specs.declared.Answer.{Answer}
-use Rattle.listener.specs.declared.Answer.TheVariants.{Done, Refused}
+use Rattle.std.specs.Prelude.{Result, Ok, Err}
 use Rattle.listener.specs.declared.Refusal.{Refusal}
 use Rattle.listener.specs.declared.Refusal.TheVariants.{TooFewWords}
 use Rattle.listener.specs.State.{state_objects, active}
-use Rattle.listener.specs.Calls.{answer_by, not_open, not_sound}
-use Rattle.listener.specs.Listing.{Entry, own_entries, object_entries, entries, listed_tracks, too_few_words, listing_answer, listed_by, listed, buffered_by, buffered}
+use Rattle.listener.specs.Calls.{Answer, answer_by, not_open, not_sound}
+use Rattle.listener.specs.Listing.{Entry, own_entries, object_entries, entries, listed_tracks, too_few_words, listing_answer, listed_by, buffered_by}
 use Rattle.listener.specs.steps.Tracks.{own_tracks, child_tracks, object_tracks, tracks_when, state_tracks, object_number, number_when, state_number}
-use Rattle.listener.specs.steps.Answers.{when_sound}
-use Rattle.listener.proofs.AnswerLaws.{next, when_first}
+use Rattle.listener.proofs.AnswerLaws.{next, after_two}
 
 abbrev track : Entry → ℕ
 track e = e.track
@@ -87,29 +84,23 @@ pub entries_number : (s : Sheet) (st : State) → length (entries s st) ≡ stat
 unfolding listed_tracks
 entries_number s st = sym (length-map (entries s st) track) ∙ ap length (listed_tracks_lem s st) ∙ state_number_lem s st
 
-module _ (s : Sheet) (langs : List ℕ) (st : State) (buffer : List ℕ) where
-  -- what an answer gives
-  listed_by_lem : (a : Answer) → listing_answer s langs st (length buffer) ≡ a → (listed_by (length (entries s st)) a ≡ listed s langs st (length buffer)) × (buffered_by buffer (listed_tracks s st) a ≡ buffered s langs st buffer)
-  unfolding listed buffered
-  listed_by_lem a e = (rw e, rw e)
+-- the answer behind 25 and 26
+pub listing_steps : (s : Sheet) (langs : List ℕ) (st : State) (words : ℕ) (a : Answer) → a ≡ answer_by (not_open s langs ∷ not_sound s st ∷ [])
+    → listing_answer s langs st words ≡ next a (answer_by (too_few_words s st words ∷ []))
+unfolding listing_answer
+listing_steps s langs st words a e = after_two (not_open s langs) (not_sound s st) (too_few_words s st words ∷ []) a e
 
-  -- the answer in the steps of the code
-  answer_steps : (a : Answer) → when_sound s langs st Done ≡ a → listing_answer s langs st (length buffer) ≡ next a (cond (ltb (length buffer) (state_number s st)) (Refused TooFewWords) Done)
-  unfolding listing_answer answer_by not_open not_sound too_few_words when_sound
-  answer_steps a e = rw (← entries_number s st) (when_first s langs st (cond (ltb (length buffer) (length (entries s st))) (Refused TooFewWords) Done) a e)
+-- 32 alone: what is given, and the words afterwards
+module _ (s : Sheet) (st : State) (buffer : List ℕ) where
+  abbrev pub Gives : Result ℕ Refusal → List ℕ → Type 0
+  Gives r words =
+      (r ≡ listed_by (length (entries s st)) (answer_by (too_few_words s st (length buffer) ∷ [])))
+      × (words ≡ buffered_by buffer (listed_tracks s st) (answer_by (too_few_words s st (length buffer) ∷ [])))
 
-  -- 25 or 26
-  pub stop_listed : (r : Refusal) → when_sound s langs st Done ≡ Refused r → (listed_by 0 (Refused r) ≡ listed s langs st (length buffer)) × (buffer ≡ buffered s langs st buffer)
-  unfolding buffered_by
-  stop_listed r e = listed_by_lem (Refused r) (answer_steps (Refused r) e)
+  pub few_written : length buffer < state_number s st → Gives (Err TooFewWords) buffer
+  unfolding answer_by too_few_words buffered_by
+  few_written l = rw (entries_number, lt-ltb _ _ l) (refl, refl)
 
-  -- too few words
-  pub few_listed : when_sound s langs st Done ≡ Done → length buffer < state_number s st → (listed_by 0 (Refused TooFewWords) ≡ listed s langs st (length buffer)) × (buffer ≡ buffered s langs st buffer)
-  unfolding buffered_by
-  few_listed e l = listed_by_lem (Refused TooFewWords) (answer_steps Done e ∙ rw (lt-ltb _ _ l) refl)
-
-  -- enough words
-  pub done_listed : when_sound s langs st Done ≡ Done → state_number s st ≤ length buffer
-      → (◌≡◌ (record { answer = Done; entries = state_number s st }) (listed s langs st (length buffer))) × (sets buffer 0 (state_tracks s st) ≡ buffered s langs st buffer)
-  unfolding buffered_by
-  done_listed e l = rw (← entries_number s st, ← listed_tracks_lem s st) (listed_by_lem Done (answer_steps Done e ∙ rw (le-ltb _ _ l) refl))
+  pub done_written : state_number s st ≤ length buffer → Gives (Ok (state_number s st)) (sets buffer 0 (state_tracks s st))
+  unfolding answer_by too_few_words buffered_by
+  done_written l = rw (entries_number, le-ltb _ _ l, listed_tracks_lem) (refl, refl)

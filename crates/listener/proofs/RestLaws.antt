@@ -1,13 +1,13 @@
 -- A state's settings in two parts: those of objects that the programme may include, and the rest. Assumes nothing.
-use Prim.Native.Nat.{ℕ, zero, suc, ◌+◌, ◌<◌, ◌≤◌}
+use Prim.Native.Nat.{ℕ, zero, suc, ◌+◌, ◌<◌, ◌≤◌, max}
 use mathlib.Core.Path.{◌≡◌, refl, sym, ap, subst, ◌∙◌}
-use mathlib.Core.Bool.{Bool, true, false, not, ◌&&◌, ◌||◌, true≢false}
+use mathlib.Core.Bool.{Bool, true, false, not, ◌&&◌, ◌||◌}
 use mathlib.Core.Logic.{⊎_elim}
 use native.Mathlib.Omega.{arith}
 use native.Mathlib.Nat.{le_of_suc-le-suc, eq-or-lt_of_le}
 use native.Mathlib.Numerals.{add-one}
-use borrow.Author.Tests.{lt-ltb, le-ltb, le-leb, ltb-false, ne_eqb, not-true}
-use lib.Dec.{eqb, leb, ltb}
+use borrow.Author.Tests.{lt-ltb, le-ltb, ltb-false, ne_eqb, not-true}
+use lib.Dec.{eqb, ltb}
 use lib.IntN.{pos}
 use Rattle.sheet.specs.Words.{Sheet}
 use Rattle.sheet.specs.Layout.{count}
@@ -111,18 +111,9 @@ unfolding any
 any_more f i o e n = rw (add-one, e, ne_eqb (f i) o n)
 
 module _ (f : ℕ → ℕ) (i past : ℕ) (h : Past f i past) where
-  past_up : past ≤ f i → Past f (i + 1) (f i + 1)
-  past_up l o a b = any_more f i o (h o (omega arith) b) (λ q. omega arith)
-
-  past_stay : (leb past (f i) && ltb (f i) state_objects) ≡ false → Past f (i + 1) past
-  past_stay e o a b = any_more f i o (h o a b) (λ q. inside q)
-    where
-      inside : f i ≡ o → ⊥
-      inside q = true≢false (sym (rw (le-leb past (f i) (omega arith), lt-ltb (f i) state_objects (omega arith)) refl) ∙ e)
-
   -- a turn that raises it, or not
-  pub past_raised : (v r : ℕ) → v ≡ f i → r ≡ v + 1 → past ≤ v → v < state_objects → (r ≤ state_objects) × Past f (i + 1) r
-  past_raised v r p q l m = (omega arith, rw (q, p) (past_up (rw (← p) l)))
+  pub past_raised : (v r : ℕ) → v ≡ f i → r ≡ max past (v + 1) → past ≤ state_objects → v < state_objects → (r ≤ state_objects) × Past f (i + 1) r
+  past_raised v r p q l m = (omega (arith, q), λ o a b. any_more f i o (h o (omega (arith, q)) b) (λ e. omega (arith, p, q)))
 
-  pub past_left : (v r : ℕ) → v ≡ f i → r ≡ past → past ≤ state_objects → (leb past v && ltb v state_objects) ≡ false → (r ≤ state_objects) × Past f (i + 1) r
-  past_left v r p q l e = (omega arith, rw q (past_stay (rw (← p) e)))
+  pub past_left : (v r : ℕ) → v ≡ f i → r ≡ past → past ≤ state_objects → state_objects ≤ v → (r ≤ state_objects) × Past f (i + 1) r
+  past_left v r p q l m = (omega arith, λ o a b. any_more f i o (h o (omega (arith, q)) b) (λ e. omega (arith, p)))

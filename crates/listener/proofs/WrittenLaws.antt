@@ -31,19 +31,17 @@ concat_fits (suc n) f k l =
 
 -- the first k runs of n are written, from `from` on
 pub record Written (f : ℕ → List ℕ) (n from : ℕ) (out₀ out : List ℕ) (pos k : ℕ) : Type 0 where
-  pub inside : k ≤ n
   pub place : pos ≡ from + length (concat_below f k)
   pub right : out ≡ sets out₀ from (concat_below f k)
 
 pub written_none : (f : ℕ → List ℕ) (n from : ℕ) (out : List ℕ) → Written f n from out out from 0
 unfolding concat_below
-written_none f n from out = record { inside = omega arith; place = omega arith; right = refl }
+written_none f n from out = record { place = omega arith; right = refl }
 
 module _ {f : ℕ → List ℕ} {n from : ℕ} {out₀ out : List ℕ} {pos k : ℕ} (w : Written f n from out₀ out pos k) where
   pub written_more : (out' : List ℕ) (pos' : ℕ) → k < n → pos' ≡ pos + length (f k) → out' ≡ sets out pos (f k) → Written f n from out₀ out' pos' (k + 1)
   written_more out' pos' l p q =
       record {
-        inside = omega arith;
         place = rw (concat_more, length-append) (omega (arith, w.place));
         right = q ∙ rw (concat_more, sets_append, w.right, w.place);
       }
@@ -57,7 +55,6 @@ module _ {f : ℕ → List ℕ} {n from : ℕ} {out₀ out : List ℕ} {pos k : 
   same_long = ap length w.right ∙ length-sets out₀ from (concat_below f k)
 
   -- at the end all are written
-  pub written_all : n ≤ k → (pos ≡ from + length (concat_below f n)) × (out ≡ sets out₀ from (concat_below f n))
-  written_all l =
-      let e : k ≡ n = omega (arith, w.inside) in
+  pub written_all : k ≡ n → (pos ≡ from + length (concat_below f n)) × (out ≡ sets out₀ from (concat_below f n))
+  written_all e =
       (w.place ∙ ap (λ (j : ℕ). from + length (concat_below f j)) e, w.right ∙ ap (λ (j : ℕ). sets out₀ from (concat_below f j)) e)

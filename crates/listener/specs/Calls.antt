@@ -1,7 +1,7 @@
 -- Opening and the four calls. Document 01, "The listener", and its refusals 25 to 31 "in its checking order". Document 02, L2:
 -- "Acceptance is now relative to that list, every call lent a sheet is lent it too". `langs` is the list of languages; what doesn't ask
 -- for acceptance says nothing of it. Assumes nothing.
-use Rattle.std.specs.Prelude.{ℕ, Bool, true, false, cond, not, ◌&&◌, List, [], ◌∷◌, eqb, leb, ltb, ℤ, set}
+use Rattle.std.specs.Prelude.{ℕ, Bool, true, false, cond, not, ◌&&◌, List, [], ◌∷◌, eqb, leb, ltb, ℤ, set, ⊤, Result, Ok, Err}
 use Rattle.sheet.specs.Words.{Sheet}
 use Rattle.sheet.specs.Layout.{level, count}
 use Rattle.sheet.specs.Fields.{programmes}
@@ -17,8 +17,6 @@ use Rattle.listener.specs.declared.Setting.{Setting}
 use Rattle.listener.specs.declared.State.{State}
 use Rattle.listener.specs.declared.Refusal.{Refusal}
 use Rattle.listener.specs.declared.Refusal.TheVariants.{NotAccepted, Unsound, NoProgramme, NotIncluded, NotInGroup, NoRange, Outside}
-use Rattle.listener.specs.declared.Answer.{Answer}
-use Rattle.listener.specs.declared.Answer.TheVariants.{Done, Refused}
 use Rattle.listener.specs.declared.Reply.{Reply}
 use Rattle.listener.specs.State.{state_objects, resting_state, setting}
 use Rattle.granted.specs.Granted.{grants, in_whole_group}
@@ -34,6 +32,10 @@ is_accepted (Broken rule place) = false
 unfoldable pub opens : Sheet → List ℕ → Bool
 opens s langs = is_accepted (verdict s langs) && not (eqb (level s) 0)
 
+-- a call's answer: it is done, or refused by a number
+abbrev pub Answer : Type 0
+Answer = Result ⊤ Refusal
+
 -- a ground for refusal: the refusal, and whether it holds
 pub record Ground : Type 0 where
   pub refusal : Refusal
@@ -41,13 +43,13 @@ pub record Ground : Type 0 where
 
 -- the first ground that holds, in checking order
 unfoldable pub answer_by : List Ground → Answer
-answer_by [] = Done
-answer_by (g ∷ gs) = cond g.holds (Refused g.refusal) (answer_by gs)
+answer_by [] = Ok tt
+answer_by (g ∷ gs) = cond g.holds (Err g.refusal) (answer_by gs)
 
 -- a refused call hands back the state that it was given, one that is done another
 unfoldable pub reply_by : Answer → State → State → Reply
-reply_by Done given made = record { answer = Done; state = made }
-reply_by (Refused r) given made = record { answer = Refused r; state = given }
+reply_by (Ok done) given made = record { answer = Ok done; state = made }
+reply_by (Err r) given made = record { answer = Err r; state = given }
 
 -- "25. The sheet isn't accepted, or is level 0." "26. The state isn't sound for the sheet."
 unfoldable pub not_open : Sheet → List ℕ → Ground

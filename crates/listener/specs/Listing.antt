@@ -2,7 +2,7 @@
 -- too." "Listing writes the tracks of active objects by rising index, children in list order, tracks in list order, and gives the number
 -- of entries; a track that two active objects list is written twice; later words stay. A refused listing gives its number alone."
 -- Assumes nothing.
-use Rattle.std.specs.Prelude.{ℕ, Bool, cond, ◌&&◌, ◌||◌, List, [], ◌∷◌, ◌++◌, map, ltb, length}
+use Rattle.std.specs.Prelude.{ℕ, Bool, cond, ◌&&◌, ◌||◌, List, [], ◌∷◌, ◌++◌, map, ltb, length, Result, Ok, Err}
 use Rattle.std.proofs.lemmas.List.Edits.{sets}
 use Rattle.sheet.specs.Words.{Sheet}
 use Rattle.sheet.specs.Layout.{count, number, entry}
@@ -10,12 +10,10 @@ use Rattle.sheet.specs.Fields.{objects, track_list, child_list}
 use Rattle.profile.specs.Counting.{any, concat_below, tabulate}
 use Rattle.profile.specs.Relations.{lists, track_at}
 use Rattle.listener.specs.declared.State.{State}
+use Rattle.listener.specs.declared.Refusal.{Refusal}
 use Rattle.listener.specs.declared.Refusal.TheVariants.{TooFewWords}
-use Rattle.listener.specs.declared.Answer.{Answer}
-use Rattle.listener.specs.declared.Answer.TheVariants.{Done, Refused}
-use Rattle.listener.specs.declared.Listing.{Listing}
 use Rattle.listener.specs.State.{state_objects, active}
-use Rattle.listener.specs.Calls.{Ground, answer_by, not_open, not_sound}
+use Rattle.listener.specs.Calls.{Answer, Ground, answer_by, not_open, not_sound}
 
 -- the object sounds: "while it is active, a child while its parent sounds"
 unfoldable pub sounds : Sheet → State → ℕ → Bool
@@ -54,19 +52,19 @@ too_few_words s st words = record { refusal = TooFewWords; holds = ltb words (le
 unfoldable pub listing_answer : Sheet → List ℕ → State → ℕ → Answer
 listing_answer s langs st words = answer_by (not_open s langs ∷ not_sound s st ∷ too_few_words s st words ∷ [])
 
--- the number of entries, none where it is refused
-abbrev pub listed_by : ℕ → Answer → Listing
-listed_by n Done = record { answer = Done; entries = n }
-listed_by n (Refused r) = record { answer = Refused r; entries = 0 }
+-- the number of entries, or why it is refused
+abbrev pub listed_by : ℕ → Answer → Result ℕ Refusal
+listed_by n (Ok done) = Ok n
+listed_by n (Err r) = Err r
 
 -- what listing into so many words gives
-unfoldable pub listed : Sheet → List ℕ → State → ℕ → Listing
+unfoldable pub listed : Sheet → List ℕ → State → ℕ → Result ℕ Refusal
 listed s langs st words = listed_by (length (entries s st)) (listing_answer s langs st words)
 
 -- "later words stay", a refused listing writes nothing
 unfoldable pub buffered_by : List ℕ → List ℕ → Answer → List ℕ
-buffered_by buffer written Done = sets buffer 0 written
-buffered_by buffer written (Refused r) = buffer
+buffered_by buffer written (Ok done) = sets buffer 0 written
+buffered_by buffer written (Err r) = buffer
 
 -- the buffer's words afterwards
 unfoldable pub buffered : Sheet → List ℕ → State → List ℕ → List ℕ

@@ -6,7 +6,7 @@ use values::Gain;
 
 pub mod calls;
 pub mod programme;
-pub mod refusals;
+mod refusals;
 pub mod settings;
 pub mod sounding;
 pub mod writing;
@@ -35,10 +35,10 @@ pub struct State {
     pub objects: [Setting; STATE_OBJECTS],
 }
 
-// The listener's own refusals, 25 to 32 in this order.
-#[derive(Clone, Copy)]
+// The listener's own refusals by document 01's numbers, 25 to 32.
+#[derive(Clone, Copy, Debug, PartialEq, Eq)]
 pub enum Refusal {
-    NotAccepted,
+    NotAccepted = 25,
     Unsound,
     NoProgramme,
     NotIncluded,
@@ -48,22 +48,9 @@ pub enum Refusal {
     TooFewWords,
 }
 
-#[derive(Clone, Copy)]
-pub enum Answer {
-    Done,
-    Refused(Refusal),
-}
-
-// What a call hands back.
+// What a call hands back: whether it is done, and the state, which a refused call hands back as it was given.
 #[derive(Clone, Copy)]
 pub struct Reply {
-    pub answer: Answer,
+    pub answer: Result<(), Refusal>,
     pub state: State,
-}
-
-// What listing gives: the answer, and how many entries it wrote.
-#[derive(Clone, Copy)]
-pub struct Listing {
-    pub answer: Answer,
-    pub entries: u64,
 }

@@ -37,12 +37,9 @@ pub fn started(s: &[u8], p: u16) -> State
     find_leaders(s, &mut leaders);
     let mut marks: [u16; STATE_OBJECTS] = [0; STATE_OBJECTS];
     let n = enter_included(s, p, &mut marks);
-    let x = resting();
-    let mut objects = [x; STATE_OBJECTS];
-    let mut o: u16 = 0;
-    while o < n {
+    let mut objects = [resting(); STATE_OBJECTS];
+    for o in 0..n {
         objects[o as usize] = start_setting(s, p, &leaders, &marks, o);
-        o += 1;
     }
     State {
         programme: p,

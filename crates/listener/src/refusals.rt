@@ -4,17 +4,10 @@ ghost use Rattle.listener.specs.State.{refusal_number};
 
 use crate::Refusal;
 
-pub fn refusal_number(refusal: Refusal) -> u16
-    ensures { result ≡ refusal_number refusal }
-{
-    match refusal {
-        Refusal::NotAccepted => 25,
-        Refusal::Unsound => 26,
-        Refusal::NoProgramme => 27,
-        Refusal::NotIncluded => 28,
-        Refusal::NotInGroup => 29,
-        Refusal::NoRange => 30,
-        Refusal::Outside => 31,
-        Refusal::TooFewWords => 32,
+impl From<Refusal> for u16 {
+    ghost from_gives = { λ refusal n. n ≡ refusal_number refusal };
+
+    fn from(refusal: Refusal) -> u16 {
+        refusal as u16
     }
 }

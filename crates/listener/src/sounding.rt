@@ -13,7 +13,6 @@ use crate::{STATE_END, STATE_OBJECTS, Setting, State};
 use granted::activity::sound_activity;
 use granted::fitting::sound_values;
 use granted::included::find_leaders;
-use relations::entries::one;
 use sheet::fields::{CONTENT_LIST, CONTENT_OBJECT, CONTENTS, PROGRAMMES};
 use sheet::layout::{count, entry, field, number};
 use tables::Mark;
@@ -25,17 +24,14 @@ use tables::reads::included_by;
 pub fn enter_included(s: &[u8], p: u16, marks: &mut [u16]) -> u16
     ensures { (length marks.new ≡ length marks.old) × (result ≤ state_objects) × ((o : ℕ) → result ≤ o → o < state_objects → includes (sheet_of s.now) p o ≡ false) × (Standing (λ x. 0) marks.old → Included (sheet_of s.now) p marks.new) }
 {
-    let n = number(s, PROGRAMMES, p, CONTENT_LIST);
     let mut past: u16 = 0;
-    let mut i: u16 = 0;
-    while i < n {
+    for i in 0..number(s, PROGRAMMES, p, CONTENT_LIST) {
         let c = entry(s, PROGRAMMES, p, CONTENT_LIST, i);
         let o = field(s, CONTENTS, c, CONTENT_OBJECT);
         mark_at(marks, o as u32, Mark::Store(1));
-        if (past <= o) & (o < STATE_END) {
-            past = o + 1;
+        if o < STATE_END {
+            past = past.max(o + 1);
         }
-        i += 1;
     }
     past
 }
@@ -75,24 +71,23 @@ pub fn sound(s: &[u8], state: State) -> bool
     let mut marks: [u16; STATE_OBJECTS] = [0; STATE_OBJECTS];
     let n = enter_included(s, p, &mut marks);
     let mut active: [u16; STATE_OBJECTS] = [0; STATE_OBJECTS];
-    let mut o: u16 = 0;
-    while o < n {
-        let x = state.objects[o as usize];
-        active[o as usize] = one(x.active);
-        o += 1;
+    for o in 0..n {
+        active[o as usize] = u16::from(state.objects[o as usize].active);
     }
     let mut good = true;
-    o = 0;
-    while o < n {
-        let x = state.objects[o as usize];
-        good = good & sound_at(s, p, &leaders, &marks, &active, o, x);
-        o += 1;
+    for o in 0..n {
+        good &= sound_at(
+            s,
+            p,
+            &leaders,
+            &marks,
+            &active,
+            o,
+            state.objects[o as usize],
+        );
     }
-    o = n;
-    while o < STATE_END {
-        let x = state.objects[o as usize];
-        good = good & is_resting(x);
-        o += 1;
+    for o in n..STATE_END {
+        good &= is_resting(state.objects[o as usize]);
     }
     good
 }

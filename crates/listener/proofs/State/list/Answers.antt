@@ -1,28 +1,20 @@
--- The machine's listing: answer, number and every word. Assumes nothing.
-use mathlib.Core.Path.{sym, ap, ◌∙◌}
+-- 25 and 26, then what the words give. Assumes nothing.
+use mathlib.Core.Path.{◌≡◌, refl, sym, ◌∙◌}
 use lib.ListN.{length}
-use lib.Seq.{length-sets}
+use borrow.Author.Rules.{rules}
+use Rattle.std.specs.Prelude.{Ok, Err}
 use Rattle.sheet.specs.Words.{sheet_of, words}
-use Rattle.listener.specs.declared.Refusal.{Refusal}
-use Rattle.listener.proofs.ListedLaws.{state_number_lem, few_listed, stop_listed, done_listed}
+use Rattle.listener.specs.Listing.{listed, buffered, buffered_by}
+use Rattle.listener.proofs.ListedLaws.{listing_steps}
 use Rattle.listener.proofs.State.list.Goals as goal
 
-pub returns-then-words-n : goal.returns-then-words-n
-returns-then-words-n c =
-    let a = c.args in rw c.refused.ensures (few_listed (sheet_of a.s.now) (words a.langs.now) a.self a.buffer.now (sym c.when_sound-first.ensures ∙ c.in-Done.is) (rw c.state_number-n.ensures at c.if-words-n.true))
+pub returns-in_err-sound_answer : goal.returns-in_err-sound_answer
+unfolding listed buffered buffered_by
+returns-in_err-sound_answer c =
+    let a = c.args in let r : c.from_residual.result ≡ Err c.in_err-sound_answer.field-0.0 = search rules in
+    let e = listing_steps (sheet_of a.s.now) (words a.langs.now) a.self (length a.buffer.now) (Err c.in_err-sound_answer.field-0.0) (sym c.in_err-sound_answer.was ∙ c.sound_answer.ensures) in rw e (r, refl)
 
-pub write_state-requires : goal.write_state-requires
-write_state-requires c = rw (state_number_lem, ← c.state_number-n.ensures) c.if-words-n.false
-
-pub shape_of-buffer : goal.shape_of-buffer
-shape_of-buffer c = ap length c.write_state.ensures.1 ∙ simp length-sets
-
-pub returns-else-words-n : goal.returns-else-words-n
-returns-else-words-n c =
-    let a = c.args in let d = done_listed (sheet_of a.s.now) (words a.langs.now) a.self a.buffer.now (sym c.when_sound-first.ensures ∙ c.in-Done.is) (rw c.state_number-n.ensures at c.if-words-n.false) in
-    (rw c.state_number-n.ensures d.0, c.write_state.ensures.1 ∙ d.1)
-
-pub returns-in-Refused : goal.returns-in-Refused
-returns-in-Refused c =
-    let a = c.args in let r : Refusal = c.in-Refused.refusal in
-    rw c.refused-in-Refused.ensures (stop_listed (sheet_of a.s.now) (words a.langs.now) a.self a.buffer.now r (sym c.when_sound-first.ensures ∙ c.in-Refused.is))
+pub returns : goal.returns
+unfolding listed buffered
+returns c =
+    let a = c.args in let e = listing_steps (sheet_of a.s.now) (words a.langs.now) a.self (length a.buffer.now) (Ok tt) (sym c.in_ok-sound_answer.was ∙ c.sound_answer.ensures) in rw e c.write_listing.ensures

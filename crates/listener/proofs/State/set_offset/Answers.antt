@@ -1,65 +1,14 @@
--- The machine's reply, with its refusals up to 31. Assumes nothing.
-use Prim.Native.Nat.{ℕ, ◌<◌}
-use mathlib.Core.Path.{◌≡◌, sym, ◌∙◌}
-use mathlib.Core.List.{List}
-use native.Mathlib.Omega.{arith}
-use borrow.Author.Rules.{rules}
-use borrow.Author.Tests.{ltb-true}
-use lib.Dec.{ltb}
-use lib.IntN.{ℤ}
+-- The offset is stored by the answer. Assumes nothing.
+use mathlib.Core.Path.{◌≡◌, ap, ◌∙◌}
 use mir.Val.{to_z, of_z}
 use mir.Syntax.{w16}
-use Rattle.sheet.specs.Words.{Sheet, sheet_of, words}
-use Rattle.values.specs.declared.Sort.TheVariants.{Offsets}
-use Rattle.profile.proofs.BoolLaws.{and_both}
-use Rattle.granted.specs.Fitting.{offset_fits}
-use Rattle.listener.specs.declared.Answer.{Answer}
-use Rattle.listener.specs.declared.Setting.{Setting}
-use Rattle.listener.specs.declared.State.{State}
-use Rattle.listener.specs.State.{state_objects, setting}
-use Rattle.listener.specs.Calls.{offset_set, with_offset, value_answer}
-use Rattle.listener.proofs.AnswerLaws.{value_sound, value_unsound, value_shut, reply_stored, reply_kept}
-use Rattle.listener.proofs.StepLaws.{element_setting}
+use borrow.Author.Rules.{rules}
+use Rattle.listener.specs.Calls.{Answer, reply_by, offset_set, with_offset}
 use Rattle.listener.proofs.State.set_offset.Goals as goal
-use Rattle.listener.proofs.State.set_offset.Goals.{then-opens+then-sound, then-opens+else-sound, else-opens}
 
--- what the machine answers, and what it stores
-abbrev answer : Sheet → List ℕ → State → ℕ → ℤ → Answer
-answer s langs st o x = value_answer s langs st o Offsets (offset_fits s st.programme o x)
-
-abbrev made : State → ℕ → ℤ → Setting
-made st o x = record { active = (setting st o).active; gain = (setting st o).gain; offset = x }
-
-pub bounds-self-i : goal.bounds-self-i
-bounds-self-i c = omega (arith, ltb-true _ _ (and_both c.is_done.result (ltb c.args.o state_objects) c.if-is_done-i.true).1)
-
-pub bounds-self-i-then-is_done-i : goal.bounds-self-i-then-is_done-i
-bounds-self-i-then-is_done-i c = omega (arith, ltb-true _ _ (and_both c.is_done.result (ltb c.args.o state_objects) c.if-is_done-i.true).1)
-
-pub returns-then-is_done-i : goal.returns-then-is_done-i
+pub returns : goal.returns
 unfolding offset_set with_offset
-returns-then-is_done-i c =
-    let p : to_z w16 (of_z w16 c.args.offset) ≡ c.args.offset = search rules in
-    let s = sheet_of c.args.s.now in let langs = words c.args.langs.now in let st = c.args.self in let o = c.args.o in let fits = offset_fits s st.programme o c.args.offset in
-    let answered : c.if-opens.answer ≡ answer s langs st o c.args.offset =
-    elim c.if-opens.branch [
-      | then-opens+then-sound w ↦ value_sound s langs st o Offsets fits c.if-opens.answer (sym c.opens.ensures ∙ w.if-opens.true) (sym w.sound.ensures ∙ w.if-sound.true) (w.answer-is ∙ rw p at w.offset_answer.ensures)
-      | then-opens+else-sound w ↦ value_unsound s langs st o Offsets fits c.if-opens.answer (sym c.opens.ensures ∙ w.if-opens.true) (sym w.sound.ensures ∙ w.if-sound.false) w.answer-is
-      | else-opens w ↦ value_shut s langs st o Offsets fits c.if-opens.answer (sym c.opens.ensures ∙ w.if-opens.false) w.answer-is
-    ] in
-    let inside : o < state_objects = ltb-true _ _ (and_both c.is_done.result (ltb c.args.o state_objects) c.if-is_done-i.true).1 in
-    rw (p, element_setting st o inside)
-    (reply_stored st o (made st o c.args.offset) c.if-opens.answer (answer s langs st o c.args.offset) answered (rw (← c.is_done.ensures) c.if-is_done-i.true))
-
-pub returns-else-is_done-i : goal.returns-else-is_done-i
-unfolding offset_set with_offset
-returns-else-is_done-i c =
-    let p : to_z w16 (of_z w16 c.args.offset) ≡ c.args.offset = search rules in
-    let s = sheet_of c.args.s.now in let langs = words c.args.langs.now in let st = c.args.self in let o = c.args.o in let fits = offset_fits s st.programme o c.args.offset in
-    let answered : c.if-opens.answer ≡ answer s langs st o c.args.offset =
-    elim c.if-opens.branch [
-      | then-opens+then-sound w ↦ value_sound s langs st o Offsets fits c.if-opens.answer (sym c.opens.ensures ∙ w.if-opens.true) (sym w.sound.ensures ∙ w.if-sound.true) (w.answer-is ∙ rw p at w.offset_answer.ensures)
-      | then-opens+else-sound w ↦ value_unsound s langs st o Offsets fits c.if-opens.answer (sym c.opens.ensures ∙ w.if-opens.true) (sym w.sound.ensures ∙ w.if-sound.false) w.answer-is
-      | else-opens w ↦ value_shut s langs st o Offsets fits c.if-opens.answer (sym c.opens.ensures ∙ w.if-opens.false) w.answer-is
-    ] in
-    reply_kept st o (made st o c.args.offset) c.if-opens.answer (answer s langs st o c.args.offset) answered (rw (← c.is_done.ensures) c.if-is_done-i.false)
+returns c =
+    let a = c.args in let p : to_z w16 (of_z w16 a.offset) ≡ a.offset = search rules in
+    c.changed.ensures (λ x. record { active = x.active; gain = x.gain; offset = a.offset }) (λ x y q. search rules)
+    ∙ ap (λ (b : Answer). reply_by b a.self (with_offset a.self a.o a.offset)) (rw p at c.offset_answer-answer.ensures)

@@ -1,6 +1,6 @@
 use mathlib.Core.Path.{refl, ap, ◌∙◌}
 use borrow.Author.Count.{below_none}
-use borrow.Author.Rules.{rules}
+use native.Mathlib.Omega.{arith}
 use Rattle.sheet.specs.Words.{sheet_of}
 use Rattle.listener.specs.State.{state_objects}
 use Rattle.listener.specs.Calls.{moved_setting, moved}
@@ -10,16 +10,14 @@ use Rattle.listener.proofs.StepLaws.{leaders_made, element_setting}
 use Rattle.listener.proofs.calls.moved.Goals as goal
 
 pub loop-q-init : goal.loop-q-init
-loop-q-init c = (search rules, record { long = refl; inside = search rules; right = below_none _ })
+loop-q-init c = record { long = refl; right = below_none _ }
 
 pub loop-q-preserved : goal.loop-q-preserved
 unfolding moved_setting moved_from
-loop-q-preserved c = (
-  search rules,
-  let l = c.loop-q in let i = c.loop-q-test.true in let a = c.args in let s = sheet_of a.s.now in
-      filled_more _ l.invariant.1 i (c.moved_setting.ensures (leaders_made s state_objects c.find_leaders.new.table c.find_leaders.ensures.1) ∙ ap (moved_from s a.o l.q) (element_setting a.state l.q i)),
-)
+loop-q-preserved c =
+    let l = c.loop-q in let i = c.loop-q-test.true in let a = c.args in let s = sheet_of a.s.now in
+    filled_more _ l.invariant i (c.moved_setting.ensures (leaders_made s state_objects c.find_leaders.new.table c.find_leaders.ensures.1) ∙ ap (moved_from s a.o l.q) (element_setting a.state.now l.q i))
 
 pub returns : goal.returns
 unfolding moved
-returns c = rw (filled_all c.loop-q.invariant.1 c.loop-q-test.false)
+returns c = rw (filled_all c.loop-q.invariant (omega arith))

@@ -1,5 +1,4 @@
 -- The settings so far are those of the objects passed, by the table of leaders. Assumes nothing.
-use Prim.Native.Nat.{◌-◌, ◌≤◌}
 use Rattle.sheet.specs.Words.{sheet_of}
 use Rattle.listener.specs.State.{state_objects, blank}
 use Rattle.listener.specs.Calls.{moved_setting}
@@ -7,7 +6,4 @@ use Rattle.listener.proofs.FillLaws.{Filled}
 use Rattle.listener.proofs.calls.moved.Given as goal
 
 abbrev pub invariant-loop-q : goal.invariant-loop-q
-invariant-loop-q l = (l.q ≤ state_objects) × Filled state_objects (moved_setting (sheet_of l.s) l.state l.o) blank l.objects l.q
-
-abbrev pub decreases-loop-q : goal.decreases-loop-q
-decreases-loop-q l = state_objects - l.q
+invariant-loop-q l = Filled state_objects (moved_setting (sheet_of l.s) l.state l.o) blank l.objects l.q

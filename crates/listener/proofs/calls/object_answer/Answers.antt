@@ -1,19 +1,26 @@
--- After 25 and 26, which are asked first. Assumes nothing.
-use mathlib.Core.Path.{sym, ◌∙◌}
-use Rattle.sheet.specs.Words.{sheet_of, words}
-use Rattle.listener.specs.declared.Refusal.{Refusal}
-use Rattle.listener.specs.declared.Answer.TheVariants.{Done, Refused}
-use Rattle.listener.specs.steps.Answers.{group_answer}
-use Rattle.listener.proofs.AnswerLaws.{when_first}
+-- 28 and 29, behind 25 and 26. Assumes nothing.
+use mathlib.Core.Path.{◌≡◌, sym, ap, ◌∙◌}
+use mathlib.Core.Bool.{not}
+use borrow.Author.Rules.{rules}
+use Rattle.std.specs.Prelude.{Ok, Err}
+use Rattle.listener.specs.Calls.{not_included, not_in_group, object_answer}
+use Rattle.listener.proofs.AnswerLaws.{after_two, held, passed, none_left}
 use Rattle.listener.proofs.calls.object_answer.Goals as goal
 
-pub returns-in-Done : goal.returns-in-Done
-returns-in-Done c =
-    let a = c.args in let s = sheet_of a.s.now in let langs = words a.langs.now in
-    c.group_answer.ensures ∙ sym (when_first s langs a.state (group_answer s a.state.programme a.o) Done (sym c.when_sound-first.ensures ∙ c.in-Done.is))
+pub returns-in_err-sound_answer : goal.returns-in_err-sound_answer
+unfolding object_answer
+returns-in_err-sound_answer c = let r : c.from_residual.result ≡ Err c.in_err-sound_answer.field-0.0 = search rules in r ∙ sym (after_two _ _ _ _ (sym c.in_err-sound_answer.was ∙ c.sound_answer.ensures))
 
-pub returns-in-Refused : goal.returns-in-Refused
-returns-in-Refused c =
-    let a = c.args in let s = sheet_of a.s.now in let langs = words a.langs.now in
-    let r : Refusal = c.in-Refused.refusal in
-    sym (when_first s langs a.state (group_answer s a.state.programme a.o) (Refused r) (sym c.when_sound-first.ensures ∙ c.in-Refused.is))
+pub returns-then-not-includes : goal.returns-then-not-includes
+unfolding object_answer not_included
+returns-then-not-includes c = sym (after_two _ _ _ (Ok tt) (sym c.in_ok-sound_answer.was ∙ c.sound_answer.ensures) ∙ held _ _ (ap not (sym c.includes.ensures ∙ c.if-not-includes.true)))
+
+pub returns-then-not-in_whole_group : goal.returns-then-not-in_whole_group
+unfolding object_answer not_included not_in_group
+returns-then-not-in_whole_group c =
+    sym (after_two _ _ _ (Ok tt) (sym c.in_ok-sound_answer.was ∙ c.sound_answer.ensures) ∙ passed _ _ (ap not (sym c.includes.ensures ∙ c.if-not-includes.false)) ∙ held _ _ (ap not (sym c.in_whole_group.ensures ∙ c.if-not-in_whole_group.true)))
+
+pub returns : goal.returns
+unfolding object_answer not_included not_in_group
+returns c =
+    sym (after_two _ _ _ (Ok tt) (sym c.in_ok-sound_answer.was ∙ c.sound_answer.ensures) ∙ passed _ _ (ap not (sym c.includes.ensures ∙ c.if-not-includes.false)) ∙ passed _ _ (ap not (sym c.in_whole_group.ensures ∙ c.if-not-in_whole_group.false)) ∙ none_left)

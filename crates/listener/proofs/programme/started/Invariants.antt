@@ -1,5 +1,4 @@
 -- The settings so far are those of the objects passed, by the tables; the others are at rest. Assumes nothing.
-use Prim.Native.Nat.{◌-◌, ◌≤◌}
 use Rattle.sheet.specs.Words.{sheet_of}
 use Rattle.listener.specs.State.{state_objects, blank, resting}
 use Rattle.listener.specs.Programme.{start_setting}
@@ -7,7 +6,4 @@ use Rattle.listener.proofs.FillLaws.{Begun}
 use Rattle.listener.proofs.programme.started.Given as goal
 
 abbrev pub invariant-loop-o : goal.invariant-loop-o
-invariant-loop-o l = (l.o ≤ l.n) × Begun state_objects (start_setting (sheet_of l.s) l.p) blank resting l.objects l.o
-
-abbrev pub decreases-loop-o : goal.decreases-loop-o
-decreases-loop-o l = l.n - l.o
+invariant-loop-o l = Begun state_objects (start_setting (sheet_of l.s) l.p) blank resting l.objects l.o

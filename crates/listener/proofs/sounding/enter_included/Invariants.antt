@@ -1,5 +1,5 @@
 -- The highest so far is raised or stays, and the objects passed are marked. Assumes nothing.
-use Prim.Native.Nat.{◌-◌, ◌≤◌}
+use Prim.Native.Nat.{◌≤◌}
 use mathlib.Core.Path.{◌≡◌}
 use lib.Dec.{eqb}
 use lib.ListN.{length, get_or}
@@ -14,7 +14,4 @@ use Rattle.listener.proofs.RestLaws.{Past}
 use Rattle.listener.proofs.sounding.enter_included.Given as goal
 
 abbrev pub invariant-loop-i : goal.invariant-loop-i
-invariant-loop-i l = (l.i ≤ l.n) × (l.past ≤ state_objects) × Past (item (sheet_of l.s) Included l.p) l.i l.past × (length l.marks ≡ length l.initial.marks) × Standing (λ x. repeat (marked (Store 1)) (how_many (λ j. eqb (item (sheet_of l.s) Included l.p j) x) l.i) (get_or l.initial.marks x 0)) l.marks
-
-abbrev pub decreases-loop-i : goal.decreases-loop-i
-decreases-loop-i l = l.n - l.i
+invariant-loop-i l = (l.past ≤ state_objects) × Past (item (sheet_of l.s) Included l.p) l.i l.past × (length l.marks ≡ length l.initial.marks) × Standing (λ x. repeat (marked (Store 1)) (how_many (λ j. eqb (item (sheet_of l.s) Included l.p j) x) l.i) (get_or l.initial.marks x 0)) l.marks

@@ -4,7 +4,6 @@ use mathlib.Core.Bool.{Bool, cond, ◌&&◌, ◌||◌}
 use mathlib.Core.List.{List}
 use native.Mathlib.Omega.{arith}
 use native.Mathlib.Numerals.{add-one}
-use borrow.Author.Rules.{rules}
 use borrow.Author.Tests.{le-ltb}
 use lib.Dec.{ltb}
 use Rattle.sheet.specs.Words.{sheet_of}
@@ -17,7 +16,7 @@ use Rattle.listener.specs.State.{state_objects, setting, active as is_active, is
 use Rattle.listener.specs.Sound.{sound, sound_at}
 use Rattle.listener.specs.steps.Settings.{flagged_sound, resting_from}
 use Rattle.listener.proofs.FillLaws.{begun_none, begun_more, begun_all}
-use Rattle.listener.proofs.StepLaws.{and_assoc, and_behind, leaders_made, element_setting, all_flags}
+use Rattle.listener.proofs.StepLaws.{byte_cond, and_assoc, and_behind, leaders_made, element_setting, all_flags}
 use Rattle.listener.proofs.RestLaws.{from_none, sound_parts, rest_inactive}
 use Rattle.listener.proofs.sounding.sound.Goals as goal
 
@@ -26,7 +25,7 @@ unfolding sound
 returns-then-count-p c = rw (le-ltb c.args.state.programme (count (sheet_of c.args.s.now) programmes) (rw (← c.count.ensures) c.if-count-p.true)) refl
 
 pub loop-o-init : goal.loop-o-init
-loop-o-init c = (search rules, begun_none _ _ _ _)
+loop-o-init c = begun_none _ _ _ _
 
 pub bounds-state-o : goal.bounds-state-o
 bounds-state-o c = omega (arith, c.loop-o-test.true, c.enter_included-n.ensures.1)
@@ -36,51 +35,45 @@ bounds-active-o c = omega (arith, c.loop-o-test.true, c.enter_included-n.ensures
 
 pub loop-o-preserved : goal.loop-o-preserved
 unfolding is_active
-loop-o-preserved c = (
-  search rules,
-  let l = c.loop-o in let i : l.o < state_objects = omega (arith, c.loop-o-test.true, c.enter_included-n.ensures.1) in
-      begun_more _ l.invariant.1 i (c.one.ensures.0 ∙ ap (λ (x : Setting). cond x.active 1 0) (element_setting c.args.state l.o i)),
-)
+loop-o-preserved c =
+    let l = c.loop-o in let i : l.o < state_objects = omega (arith, c.loop-o-test.true, c.enter_included-n.ensures.1) in
+    begun_more _ l.invariant i (c.from.ensures ∙ byte_cond _ ∙ ap (λ (x : Setting). cond x.active 1 0) (element_setting c.args.state l.o i))
 
 pub loop-o-2-init : goal.loop-o-2-init
 unfolding every
-loop-o-2-init c = (search rules, refl)
+loop-o-2-init c = refl
 
 pub bounds-state-o-in-loop-o-2 : goal.bounds-state-o-in-loop-o-2
 bounds-state-o-in-loop-o-2 c = omega (arith, c.loop-o-2-test.true, c.enter_included-n.ensures.1)
 
 pub loop-o-2-preserved : goal.loop-o-2-preserved
 unfolding every
-loop-o-2-preserved c = (
-  search rules,
-  let l = c.loop-o-2 in let f = c.find_leaders in let a = c.args in let i : l.o < state_objects = omega (arith, c.loop-o-2-test.true, c.enter_included-n.ensures.1) in
-      rw (add-one, l.invariant.1, c.sound_at-good.ensures (leaders_made (sheet_of a.s.now) state_objects f.new.table f.ensures.1) (c.enter_included-n.ensures.3 (λ x l. nought state_objects x)), element_setting a.state l.o i),
-)
+loop-o-2-preserved c =
+    let l = c.loop-o-2 in let f = c.find_leaders in let a = c.args in let i : l.o < state_objects = omega (arith, c.loop-o-2-test.true, c.enter_included-n.ensures.1) in
+    rw (add-one, l.invariant, c.sound_at-good.ensures (leaders_made (sheet_of a.s.now) state_objects f.new.table f.ensures.1) (c.enter_included-n.ensures.3 (λ x l. nought state_objects x)), element_setting a.state l.o i)
 
 pub loop-o-3-init : goal.loop-o-3-init
-loop-o-3-init c = (c.enter_included-n.ensures.1, omega arith, from_none _ _ _)
+loop-o-3-init c = from_none _ _ _
 
 pub loop-o-3-preserved : goal.loop-o-3-preserved
 unfolding every
 loop-o-3-preserved c =
-    let l = c.loop-o-3 in let i = c.loop-o-3-test.true in let st = c.args.state in (
-      omega (arith, i),
-      omega (arith, l.invariant.1),
-      rw (add-one, l.invariant.2, c.is_resting-good.ensures, element_setting st l.o i, le-ltb l.o c.enter_included-n.result l.invariant.1)
-          (and_assoc c.loop-o-2.good (every (λ q. ltb q c.enter_included-n.result || is_resting (setting st q)) l.o) (is_resting (setting st l.o))),
-    )
+    let l = c.loop-o-3 in let i = c.loop-o-3-test.true in let st = c.args.state in
+    rw (add-one, l.invariant, c.is_resting-good.ensures, element_setting st l.o i, le-ltb l.o c.enter_included-n.result l.auto.o)
+    (and_assoc c.loop-o-2.good (every (λ q. ltb q c.enter_included-n.result || is_resting (setting st q)) l.o) (is_resting (setting st l.o)))
 
 pub returns : goal.returns
 unfolding resting_from
 returns c =
     let l = c.loop-o in let l2 = c.loop-o-2 in let l3 = c.loop-o-3 in let n = c.enter_included-n.result in let a = c.args in let s = sheet_of a.s.now in
-    let e : l3.o ≡ state_objects = omega (arith, c.loop-o-3-test.false, l3.invariant.0) in
-    let g : l2.o ≡ n = omega (arith, c.loop-o-2-test.false, l2.invariant.0) in
+    let d : l.o ≡ n = omega arith in
+    let e : l3.o ≡ state_objects = omega (arith, c.enter_included-n.ensures.1) in
+    let g : l2.o ≡ n = omega arith in
     let good = every (λ q. flagged_sound s a.state.programme l.active q (setting a.state q)) in
-    l3.invariant.2
-    ∙ ap₂ (λ (a b : Bool). a && b) (l2.invariant.1 ∙ ap good g) (ap (every (λ q. ltb q n || is_resting (setting a.state q))) e)
+    l3.invariant
+    ∙ ap₂ (λ (a b : Bool). a && b) (l2.invariant ∙ ap good g) (ap (every (λ q. ltb q n || is_resting (setting a.state q))) e)
     ∙ and_behind (good n) (every (sound_at s a.state) n) (resting_from a.state n)
     (λ still.
-    let f : l.active ≡ tabulate (λ o. cond (is_active a.state o) 1 0) state_objects = begun_all l.invariant.1 (λ k i j. sym (ap (λ (t : Bool). cond t 1 0) (rest_inactive a.state n k still (omega (arith, c.loop-o-test.false, l.invariant.0, i)) j))) in
+    let f : l.active ≡ tabulate (λ o. cond (is_active a.state o) 1 0) state_objects = begun_all l.invariant (λ k i j. sym (ap (λ (t : Bool). cond t 1 0) (rest_inactive a.state n k still (omega (arith, d, i)) j))) in
     ap (λ (t : List ℕ). every (λ o. flagged_sound s a.state.programme t o (setting a.state o)) n) f ∙ all_flags s a.state n)
     ∙ sym (sound_parts s a.state n c.enter_included-n.ensures.1 c.enter_included-n.ensures.2 (rw (← c.count.ensures) c.if-count-p.false))

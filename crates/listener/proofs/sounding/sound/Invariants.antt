@@ -1,5 +1,4 @@
 -- The flags, then each object by the tables, then the rest by itself. Assumes nothing.
-use Prim.Native.Nat.{◌-◌, ◌≤◌}
 use mathlib.Core.Path.{◌≡◌}
 use mathlib.Core.Bool.{cond, ◌&&◌, ◌||◌}
 use lib.Dec.{ltb}
@@ -11,19 +10,10 @@ use Rattle.listener.proofs.FillLaws.{Begun}
 use Rattle.listener.proofs.sounding.sound.Given as goal
 
 abbrev pub invariant-loop-o : goal.invariant-loop-o
-invariant-loop-o l = (l.o ≤ l.n) × Begun state_objects (λ q. cond (is_active l.state q) 1 0) 0 0 l.active l.o
-
-abbrev pub decreases-loop-o : goal.decreases-loop-o
-decreases-loop-o l = l.n - l.o
+invariant-loop-o l = Begun state_objects (λ q. cond (is_active l.state q) 1 0) 0 0 l.active l.o
 
 abbrev pub invariant-loop-o-2 : goal.invariant-loop-o-2
-invariant-loop-o-2 l = (l.o ≤ l.n) × (l.good ≡ every (λ q. flagged_sound (sheet_of l.s) l.state.programme l.active q (setting l.state q)) l.o)
-
-abbrev pub decreases-loop-o-2 : goal.decreases-loop-o-2
-decreases-loop-o-2 l = l.n - l.o
+invariant-loop-o-2 l = (l.good ≡ every (λ q. flagged_sound (sheet_of l.s) l.state.programme l.active q (setting l.state q)) l.o)
 
 abbrev pub invariant-loop-o-3 : goal.invariant-loop-o-3
-invariant-loop-o-3 l = (l.o ≤ state_objects) × (l.n ≤ l.o) × (l.good ≡ (l.initial.good && every (λ q. ltb q l.n || is_resting (setting l.state q)) l.o))
-
-abbrev pub decreases-loop-o-3 : goal.decreases-loop-o-3
-decreases-loop-o-3 l = state_objects - l.o
+invariant-loop-o-3 l = (l.good ≡ (l.initial.good && every (λ q. ltb q l.n || is_resting (setting l.state q)) l.o))

@@ -10,7 +10,7 @@ use Rattle.listener.proofs.writing.state_number.Goals as goal
 
 pub loop-o-init : goal.loop-o-init
 unfolding sum
-loop-o-init c = (search rules, search rules, refl)
+loop-o-init c = (search rules, refl)
 
 pub overflow_add-total : goal.overflow_add-total
 overflow_add-total c = omega (arith, c.number_when-total.ensures.1)
@@ -18,11 +18,10 @@ overflow_add-total c = omega (arith, c.number_when-total.ensures.1)
 pub loop-o-preserved : goal.loop-o-preserved
 unfolding sum number_when
 loop-o-preserved c = (
-  search rules,
   omega (arith, c.number_when-total.ensures.1),
-  let l = c.loop-o in rw (add-one, c.number_when-total.ensures.0, element_active c.args.state l.o c.loop-o-test.true, l.invariant.2),
+  let l = c.loop-o in rw (add-one, c.number_when-total.ensures.0, element_active c.args.state.now l.o c.loop-o-test.true, l.invariant.1),
 )
 
 pub returns : goal.returns
 unfolding state_number
-returns c = let e : c.loop-o.o ≡ state_objects = omega arith in c.loop-o.invariant.2 ∙ ap (sum _) e
+returns c = let e : c.loop-o.o ≡ state_objects = omega arith in c.loop-o.invariant.1 ∙ ap (sum _) e

@@ -1,14 +1,10 @@
 -- The sum so far is that of the objects passed. Assumes nothing.
-use Prim.Native.Nat.{◌*◌, ◌-◌, ◌≤◌}
+use Prim.Native.Nat.{◌*◌, ◌≤◌}
 use mathlib.Core.Path.{◌≡◌}
 use Rattle.profile.specs.Counting.{sum}
 use Rattle.sheet.specs.Words.{sheet_of}
-use Rattle.listener.specs.State.{state_objects}
 use Rattle.listener.specs.steps.Tracks.{number_when}
 use Rattle.listener.proofs.writing.state_number.Given as goal
 
 abbrev pub invariant-loop-o : goal.invariant-loop-o
-invariant-loop-o l = (l.o ≤ state_objects) × (l.total ≤ 4295032830 * l.o) × (l.total ≡ sum (number_when (sheet_of l.s) l.state) l.o)
-
-abbrev pub decreases-loop-o : goal.decreases-loop-o
-decreases-loop-o l = state_objects - l.o
+invariant-loop-o l = (l.total ≤ 4295032830 * l.o) × (l.total ≡ sum (number_when (sheet_of l.s) l.state) l.o)

@@ -1,4 +1,5 @@
 use Prim.Native.Nat.{ℕ, ◌+◌}
+use native.Mathlib.Omega.{arith}
 use mathlib.Core.Path.{ap, ◌∙◌}
 use lib.ListN.{length}
 use lib.Seq.{sets}
@@ -12,7 +13,7 @@ loop-i-init c = written_none _ _ _ _
 
 pub write_own-pos-requires : goal.write_own-pos-requires
 unfolding child_tracks
-write_own-pos-requires c = rw c.entry.ensures (room c.loop-i.invariant c.loop-i-test.true (rw c.number-n.ensures c.requires))
+write_own-pos-requires c = rw c.entry.ensures (room c.loop-i.invariant c.loop-i-test.true (rw c.number-i-end.ensures c.requires))
 
 pub loop-i-preserved : goal.loop-i-preserved
 loop-i-preserved c =
@@ -24,4 +25,4 @@ shape_of-buffer c = same_long c.loop-i.invariant
 
 pub returns : goal.returns
 unfolding child_tracks
-returns c = rw (← c.number-n.ensures) (written_all c.loop-i.invariant c.loop-i-test.false)
+returns c = rw (← c.number-i-end.ensures) (written_all c.loop-i.invariant (omega arith))

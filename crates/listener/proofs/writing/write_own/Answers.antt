@@ -1,5 +1,6 @@
 use Prim.Native.Nat.{ℕ, ◌+◌, ◌<◌, ◌≤◌}
-use mathlib.Core.Path.{◌≡◌, refl, ap}
+use mathlib.Core.Path.{◌≡◌, sym, ap, ◌∙◌}
+use lib.Seq.{sets}
 use native.Mathlib.Omega.{arith}
 use lib.ListN.{length, set}
 use mathlib.Core.List.{List, [], ◌∷◌}
@@ -17,25 +18,30 @@ room_left : (s : Sheet) (o n from : ℕ) (out₀ out : List ℕ) (pos k : ℕ) �
 unfolding own_tracks tabulate
 room_left s o n from out₀ out pos k w l e q = omega (arith, room w l (rw e q))
 
+-- all are written
+all_written : (s : Sheet) (o n from : ℕ) (out₀ out : List ℕ) (k : ℕ) → Written (λ j. track_at s o j ∷ []) n from out₀ out (from + k) k → k ≡ n → n ≡ number s objects o track_list
+    → (from + n ≡ from + length (own_tracks s o)) × (out ≡ sets out₀ from (own_tracks s o))
+unfolding own_tracks tabulate
+all_written s o n from out₀ out k w e f = let t = written_all w e in rw (← f) (ap (λ (j : ℕ). from + j) (sym e) ∙ t.0, t.1)
+
 pub loop-i-init : goal.loop-i-init
-loop-i-init c = written_none _ _ _ _
+loop-i-init c = let z : c.args.at + 0 ≡ c.args.at = omega arith in rw z (written_none _ _ _ _)
 
-pub offset_bounds-buffer-pos : goal.offset_bounds-buffer-pos
-offset_bounds-buffer-pos c = omega (arith, room_left _ _ _ _ _ _ _ _ c.loop-i.invariant c.loop-i-test.true c.number-n.ensures c.requires, same_long c.loop-i.invariant)
+pub overflow_add-buffer : goal.overflow_add-buffer
+overflow_add-buffer c = omega (arith, room_left _ _ _ _ _ _ _ _ c.loop-i.invariant c.loop-i-test.true c.number-n.ensures c.requires, same_long c.loop-i.invariant)
 
-pub bounds-buffer-pos : goal.bounds-buffer-pos
-bounds-buffer-pos c = omega (arith, room_left _ _ _ _ _ _ _ _ c.loop-i.invariant c.loop-i-test.true c.number-n.ensures c.requires)
+pub offset_bounds-buffer-at : goal.offset_bounds-buffer-at
+offset_bounds-buffer-at c = omega (arith, room_left _ _ _ _ _ _ _ _ c.loop-i.invariant c.loop-i-test.true c.number-n.ensures c.requires, same_long c.loop-i.invariant)
 
-pub overflow_add-pos : goal.overflow_add-pos
-overflow_add-pos c = omega (arith, room_left _ _ _ _ _ _ _ _ c.loop-i.invariant c.loop-i-test.true c.number-n.ensures c.requires, same_long c.loop-i.invariant)
+pub bounds-buffer-at : goal.bounds-buffer-at
+bounds-buffer-at c = omega (arith, room_left _ _ _ _ _ _ _ _ c.loop-i.invariant c.loop-i-test.true c.number-n.ensures c.requires)
 
 pub loop-i-preserved : goal.loop-i-preserved
 unfolding track_at
-loop-i-preserved c = let l = c.loop-i in written_more l.invariant _ _ c.loop-i-test.true refl (ap (λ (x : ℕ). set l.buffer l.pos x) c.entry.ensures)
+loop-i-preserved c = let l = c.loop-i in written_more l.invariant _ _ c.loop-i-test.true (omega arith) (ap (λ (x : ℕ). set l.buffer (c.args.at + l.i) x) c.entry.ensures)
 
 pub shape_of-buffer : goal.shape_of-buffer
 shape_of-buffer c = same_long c.loop-i.invariant
 
 pub returns : goal.returns
-unfolding own_tracks tabulate
-returns c = rw (← c.number-n.ensures) (written_all c.loop-i.invariant c.loop-i-test.false)
+returns c = all_written _ _ _ _ _ _ _ c.loop-i.invariant (omega arith) c.number-n.ensures

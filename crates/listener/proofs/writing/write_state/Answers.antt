@@ -1,35 +1,49 @@
-use Prim.Native.Nat.{◌+◌}
-use mathlib.Core.Path.{ap, ◌∙◌}
-use mathlib.Core.Bool.{Bool, cond}
+use Prim.Native.Nat.{ℕ, ◌<◌}
+use mathlib.Core.Path.{◌≡◌, refl, sym, ◌∙◌}
+use mathlib.Core.Bool.{true, false}
 use mathlib.Core.List.{[]}
-use lib.ListN.{length}
-use lib.Seq.{sets}
-use native.Mathlib.Nat.{zero-add}
+use lib.ListN.{get_or}
+use native.Mathlib.Nat.{add-zero}
 use native.Mathlib.Omega.{arith}
-use Rattle.sheet.specs.Words.{sheet_of}
+use Rattle.sheet.specs.Words.{Sheet, sheet_of}
+use Rattle.listener.specs.declared.State.{State}
+use Rattle.listener.specs.State.{state_objects, blank}
 use Rattle.listener.specs.steps.Tracks.{object_tracks, tracks_when, state_tracks}
-use Rattle.listener.proofs.WrittenLaws.{written_none, written_more, room, same_long, written_all}
+use Rattle.listener.proofs.WrittenLaws.{written_none, written_more, room, written_all}
 use Rattle.listener.proofs.StepLaws.{element_active}
 use Rattle.listener.proofs.writing.write_state.Goals as goal
+use Rattle.listener.proofs.writing.write_state.Goals.{then-state-o, else-state-o}
+
+module _ (s : Sheet) (st : State) (o : ℕ) (l : o < state_objects) where
+  on : (get_or st.objects o blank).active ≡ true → tracks_when s st o ≡ object_tracks s o
+  unfolding tracks_when
+  on e = rw (sym (element_active st o l) ∙ e) refl
+
+  off : (get_or st.objects o blank).active ≡ false → tracks_when s st o ≡ []
+  unfolding tracks_when
+  off e = rw (sym (element_active st o l) ∙ e) refl
 
 pub loop-o-init : goal.loop-o-init
 loop-o-init c = written_none _ _ _ _
 
-pub write_when-pos-requires : goal.write_when-pos-requires
-unfolding state_tracks tracks_when
-write_when-pos-requires c =
-    let l = c.loop-o in let i = c.loop-o-test.true in rw (element_active c.args.state l.o i) (room l.invariant i (omega (arith, c.requires)))
+pub write_object-pos-requires : goal.write_object-pos-requires
+unfolding state_tracks
+write_object-pos-requires c =
+    let l = c.loop-o in let i = c.loop-o-test.true in rw (← on (sheet_of c.args.s.now) c.args.state.now l.o i c.if-state-o.true) (room l.invariant i (omega (arith, c.requires)))
 
 pub loop-o-preserved : goal.loop-o-preserved
-unfolding tracks_when
 loop-o-preserved c =
-    let w = c.write_when-pos.ensures in let l = c.loop-o in let i = c.loop-o-test.true in let a = c.args in let tracks = object_tracks (sheet_of a.s.now) l.o in
-    let e = element_active a.state l.o i in
-    written_more l.invariant _ _ i (w.0 ∙ ap (λ (b : Bool). l.pos + length (cond b tracks [])) e) (w.1 ∙ ap (λ (b : Bool). sets l.buffer l.pos (cond b tracks [])) e)
-
-pub shape_of-buffer : goal.shape_of-buffer
-shape_of-buffer c = same_long c.loop-o.invariant
+    let l = c.loop-o in let i = c.loop-o-test.true in let s = sheet_of c.args.s.now in let st = c.args.state.now in
+    written_more l.invariant c.if-state-o.buffer c.if-state-o.pos i
+    (elim c.if-state-o.branch [
+      | then-state-o w ↦ rw (on s st l.o i w.if-state-o.true) (w.pos-is ∙ w.write_object-pos.ensures.0)
+      | else-state-o w ↦ rw (off s st l.o i w.if-state-o.false) (w.pos-is ∙ sym (add-zero _))
+    ])
+    (elim c.if-state-o.branch [
+      | then-state-o w ↦ rw (on s st l.o i w.if-state-o.true) (w.buffer-is ∙ w.write_object-pos.ensures.1)
+      | else-state-o w ↦ rw (off s st l.o i w.if-state-o.false) w.buffer-is
+    ])
 
 pub returns : goal.returns
 unfolding state_tracks
-returns c = let w = written_all c.loop-o.invariant c.loop-o-test.false in (w.0 ∙ zero-add _, w.1)
+returns c = (written_all c.loop-o.invariant (omega arith)).1
