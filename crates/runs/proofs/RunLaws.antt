@@ -1,4 +1,5 @@
 -- Tables filled from the end. Assumes nothing.
+use Rattle.std.specs.Prelude.{min}
 use Prim.Native.Nat.{ℕ, zero, suc, ◌+◌, ◌<◌, ◌≤◌}
 use mathlib.Core.Path.{◌≡◌, refl, sym, ap, ap₂, ◌∙◌}
 use mathlib.Core.Bool.{Bool, true, false, true≢false, cond, ◌&&◌, ◌||◌}
@@ -49,18 +50,14 @@ two_shift r n =
     none = unfold any in refl
 
 -- below either of two
-lower_below : (a b y : ℕ) → ltb (cond (ltb a b) a b) y ≡ (ltb a y || ltb b y)
+lower_below : (a b y : ℕ) → ltb (min a b) y ≡ (ltb a y || ltb b y)
 lower_below a b y =
-    (elim (ltb a b) as (λ t. ltb a b ≡ t → ltb (cond t a b) y ≡ (ltb a y || ltb b y)) [
-      | true ↦ λ e.
-          (elim (ltb a y) as (λ t. ltb a y ≡ t → t ≡ (t || ltb b y)) [
-            | true ↦ λ f. refl
-            | false ↦ λ f. sym (le-ltb b y (omega (arith, ltb-true a b e, ltb-false a y f)))
-          ]) refl
+    (elim (ltb a y) as (λ t. ltb a y ≡ t → ltb (min a b) y ≡ (t || ltb b y)) [
+      | true ↦ λ e. lt-ltb (min a b) y (omega (arith, ltb-true a y e))
       | false ↦ λ e.
-          (elim (ltb a y) as (λ t. ltb a y ≡ t → ltb b y ≡ (t || ltb b y)) [
-            | true ↦ λ f. lt-ltb b y (omega (arith, ltb-false a b e, ltb-true a y f))
-            | false ↦ λ f. refl
+          (elim (ltb b y) as (λ t. ltb b y ≡ t → ltb (min a b) y ≡ t) [
+            | true ↦ λ f. lt-ltb (min a b) y (omega (arith, ltb-true b y f))
+            | false ↦ λ f. le-ltb (min a b) y (omega (arith, ltb-false a y e, ltb-false b y f))
           ]) refl
     ]) refl
 
@@ -101,7 +98,7 @@ module _ (m : ℕ) where
             any_shift (λ i. p (x + i)) n
             ∙ ap₂ (λ (a b : Bool). a || b) (ap p (add-zero x)) (any_below (λ i. p (x + suc i)) (λ i. p (suc x + i)) n (λ i k. let z : x + suc i ≡ suc x + i = omega arith in ap p z))
 
-    pub repeat_more : (f : ℕ → ℕ) (w v : ℕ) → Next (λ y. eqb (f y) (f x)) m (suc x) w → Repeat f m (suc x) v → Repeat f m x (cond (ltb w v) w v)
+    pub repeat_more : (f : ℕ → ℕ) (w v : ℕ) → Next (λ y. eqb (f y) (f x)) m (suc x) w → Repeat f m (suc x) v → Repeat f m x (min w v)
     repeat_more f w v g h zero l =
         lower_below w v (x + 0)
         ∙ ap₂ (λ (a b : Bool). a || b) (le-ltb w (x + 0) (omega (arith, past w _ (g 0 (omega arith)) (unfold any in refl)))) (le-ltb v (x + 0) (omega (arith, past v _ (h 0 (omega arith)) (unfold any two_of in refl))))

@@ -1,75 +1,37 @@
 // One pass over the references from the end. A reference past the table's end is passed over.
-ghost use Rattle.std.specs.Prelude.{eqb, ltb, get_or, length, cond, ◌≡◌};
-ghost use Rattle.runs.specs.steps.Runs.{KeyRight, NextRight, reference_key, reference_test, stray};
+ghost use Rattle.std.specs.Prelude.{ℕ, Bool, ◌+◌, eqb, get_or, length, cond, ◌≡◌};
+ghost use Rattle.profile.specs.Counting.{ComputesBelow};
+ghost use Rattle.runs.specs.steps.Runs.{NextRight, KeyRight, stray};
+ghost use Rattle.sheet.specs.Layout.{reference};
 ghost use Rattle.sheet.specs.Words.{sheet_of};
-ghost use Rattle.tables.specs.steps.Marks.{Standing};
+ghost use Rattle.tables.specs.steps.Marks.{NumbersBelow, Standing};
 
-use crate::{ReferenceKey, ReferenceTest};
-use languages::list::Languages;
-use relations::objects::lacks;
 use sheet::fields::{PACK_CHANNELS, PACKS, REFERENCES, TRACK_ORDINAL, TRACK_PACK, TRACKS};
 use sheet::layout::{count, field, reference};
-use tables::Mark;
 use tables::marks::mark_at;
 
-// Whether the second of two tracks is of another pack, or has an ordinal past its pack's channels.
-fn stray(s: &[u8], e: u16, f: u16) -> bool
-    ensures { result ≡ stray (sheet_of s.now) e f }
+// Whether the track that the reference after y names is of another pack than that of y, or has an ordinal past its pack's channels.
+pub fn stray_after(s: &[u8], y: u16) -> bool
+    ensures { result ≡ stray (sheet_of s.now) (reference (sheet_of s.now) y) (reference (sheet_of s.now) (y + 1)) }
 {
+    let e = reference(s, y as u32);
+    let f = reference(s, y as u32 + 1);
     let pack = field(s, TRACKS, f, TRACK_PACK);
     (field(s, TRACKS, e, TRACK_PACK) != pack)
         | (field(s, PACKS, pack, PACK_CHANNELS) <= field(s, TRACKS, f, TRACK_ORDINAL))
 }
 
-// Whether a reference passes the test.
-fn reference_test(s: &[u8], langs: &Languages, test: ReferenceTest, y: u16) -> bool
-    ensures { result ≡ reference_test (sheet_of s.now) langs.now test y }
-{
-    let e = reference(s, y as u32);
-    match test {
-        ReferenceTest::Lacks(section) => lacks(s, section, e),
-        ReferenceTest::NoLanguage => !langs.good(e),
-        ReferenceTest::Stray => stray(s, e, reference(s, y as u32 + 1)),
-    }
-}
-
-// What of a reference is compared.
-fn reference_key(s: &[u8], key: ReferenceKey, y: u16) -> u16
-    ensures { result ≡ reference_key (sheet_of s.now) key y }
-{
-    let e = reference(s, y as u32);
-    match key {
-        ReferenceKey::Itself => e,
-        ReferenceKey::Ordinal => field(s, TRACKS, e, TRACK_ORDINAL),
-    }
-}
-
-// An index where the test holds, else the next one.
-fn here_or(test: bool, x: u16, next: u16) -> u16
-    ensures { result ≡ cond test x next }
-{
-    if test { x } else { next }
-}
-
 // Writes for each reference the least index from it on that passes the test; a number past the last where there is none.
-pub fn fill_next(s: &[u8], langs: &Languages, test: ReferenceTest, table: &mut [u16])
-    ensures { (length table.new ≡ length table.old) × NextRight (sheet_of s.now) langs.now test table.new }
+pub fn fill_next<F: Fn(u16) -> bool>(s: &[u8], test: F, table: &mut [u16])
+    requires { F.IsAlwaysCallable test }
+    ensures { (p : ℕ → Bool) → ComputesBelow 65536 (F.post test) p → (length table.new ≡ length table.old) × NextRight (sheet_of s.now) p table.new }
 {
-    let mut x: u16 = count(s, REFERENCES);
-    let mut next: u16 = x;
-    while 0 < x {
-        let y = x - 1;
-        next = here_or(reference_test(s, langs, test, y), y, next);
-        mark_at(table, y as u32, Mark::Store(next));
-        x = y;
+    let n = count(s, REFERENCES);
+    let mut next = n;
+    for y in (0..n).rev() {
+        next = if test(y) { y } else { next };
+        mark_at(table, y as u32, |_| next);
     }
-}
-
-// The lower of two.
-fn lower(a: u16, b: u16) -> u16
-    ensures { result ≡ cond (ltb a b) a b }
-{
-    if a < b { a } else { b }
 }
 
 // Keeps an index as the least one of a key, and gives the one kept before.
@@ -83,19 +45,17 @@ fn keep(later: &mut [u16], e: u16, x: u16) -> u16
     before
 }
 
-// Writes for each reference the least index at which what is compared stands between the two already; a number past the last
-// where there is none. `later` has the least index of each among those passed.
-pub fn fill_repeats(s: &[u8], key: ReferenceKey, table: &mut [u16])
-    ensures { (length table.new ≡ length table.old) × KeyRight (sheet_of s.now) key table.new }
+// Writes for each reference the least index at which the key that a closure gives stands between the two already; a number past the
+// last where there is none. `later` has the least index of each key among those passed.
+pub fn fill_repeats<F: Fn(u16) -> u16>(s: &[u8], key: F, table: &mut [u16])
+    requires { F.IsAlwaysCallable key }
+    ensures { (f : ℕ → ℕ) → NumbersBelow 65536 (F.post key) f → (length table.new ≡ length table.old) × KeyRight (sheet_of s.now) f table.new }
 {
     let mut later: [u16; 65536] = [65535; 65536];
-    let mut x: u16 = count(s, REFERENCES);
     let mut next: u16 = 65535;
-    while 0 < x {
-        let y = x - 1;
-        let before = keep(&mut later, reference_key(s, key, y), y);
-        next = lower(before, next);
-        mark_at(table, y as u32, Mark::Store(next));
-        x = y;
+    for y in (0..count(s, REFERENCES)).rev() {
+        let before = keep(&mut later, key(y), y);
+        next = before.min(next);
+        mark_at(table, y as u32, |_| next);
     }
 }

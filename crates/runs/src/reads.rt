@@ -5,10 +5,10 @@ ghost use Rattle.sheet.specs.Fields.{pack_channels, packs, references};
 ghost use Rattle.sheet.specs.Layout.{count, field};
 ghost use Rattle.sheet.specs.Words.{sheet_of};
 
-use crate::Lookup;
 use sheet::fields::{REFERENCES, TRACK_ORDINAL, TRACK_PACK, TRACKS};
 use sheet::layout::{count, field, reference, start};
 use sheet::words::word;
+use tables::reads::look;
 
 // The table has the index, and the n references from it on are there.
 pub fn inside(s: &[u8], table: &[u16], first: u16, n: u16) -> bool
@@ -18,21 +18,13 @@ pub fn inside(s: &[u8], table: &[u16], first: u16, n: u16) -> bool
     ((first as usize) < table.len()) & (first < m) & (first as u32 + n as u32 <= m as u32)
 }
 
-fn wide(x: u16) -> u32
-    ensures { result ≡ x }
-{
-    x as u32
-}
-
 // What stands there is below the end of the n indices.
 pub fn among(table: &[u16], first: u16, n: u16) -> bool
     ensures { first < length table.now → result ≡ ltb (get_or table.now first 0) (first + n) }
 {
-    let i = first as usize;
-    if i < table.len() {
-        wide(table[i]) < first as u32 + n as u32
-    } else {
-        false
+    match look(table, first) {
+        Some(v) => (v as u32) < first as u32 + n as u32,
+        None => false,
     }
 }
 
@@ -51,22 +43,16 @@ pub fn odd_tracks(s: &[u8], next: &[u16], again: &[u16], first: u16, n: u16, pac
         | among(again, first, n)
 }
 
-// What the table tells of the list at a position of a record. The index of the record is found once for both words, which keeps this
-// small enough to be drawn into the rules.
-pub fn look_up(s: &[u8], table: &[u16], section: u8, k: u16, at: u8) -> Lookup
+// What the table tells of the list at a position of a record, where it does. The index of the record is found once for both words, which
+// keeps this small enough to be drawn into the rules.
+pub fn look_up(s: &[u8], table: &[u16], section: u8, k: u16, at: u8) -> Option<bool>
     ensures { LookedUp (sheet_of s.now) table.now section k at result }
 {
-    if table.len() == 0 {
-        return Lookup {
-            known: false,
-            found: false,
-        };
+    if table.is_empty() {
+        return None;
     }
     let record = start(s, section, k as u32);
     let first = word(s, record + at as usize);
     let n = word(s, record + (at as usize + 1));
-    Lookup {
-        known: inside(s, table, first, n),
-        found: among(table, first, n),
-    }
+    inside(s, table, first, n).then_some(among(table, first, n))
 }

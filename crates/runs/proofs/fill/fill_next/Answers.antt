@@ -1,28 +1,25 @@
-use Prim.Native.Nat.{suc, ◌-◌, ◌≤◌}
-use mathlib.Core.Path.{◌≡◌, refl, ◌∙◌}
-use native.Mathlib.Omega.{arith}
-use Rattle.sheet.specs.Words.{sheet_of}
-use Rattle.sheet.specs.Layout.{count}
-use Rattle.sheet.specs.Fields.{references}
-use Rattle.runs.specs.steps.Runs.{Next, reference_test}
+use Rattle.std.proofs.Common.{rules, ℕ, suc, ◌-◌, ◌≤◌, ◌≡◌, cond, ap, sym, ◌∙◌, arith}
+use Rattle.runs.specs.steps.Runs.{Next}
 use Rattle.runs.proofs.RunLaws.{next_start, next_more, filled_start, filled_more}
+use Rattle.runs.proofs.fill.fill_next.Goals.{then-test, else-test}
 use Rattle.runs.proofs.fill.fill_next.Goals as goal
 
-pub loop-x-init : goal.loop-x-init
-loop-x-init c =
-    let a = c.args in let p = reference_test (sheet_of a.s.now) a.langs.now a.test in let m = count (sheet_of a.s.now) references in
-    rw c.count-x.ensures (omega arith, refl, next_start m p m (omega arith), filled_start (Next p m) m a.table.now)
+pub loop-y-init : goal.loop-y-init
+loop-y-init g c = λ p h. let m = c.count-n.result in (next_start m p m (omega arith), filled_start (Next p m) m c.args.table.now)
 
-pub loop-x-preserved : goal.loop-x-preserved
-loop-x-preserved c =
-    let a = c.args in let p = reference_test (sheet_of a.s.now) a.langs.now a.test in
-    let m = count (sheet_of a.s.now) references in let l = c.loop-x in let x = l.x - 1 in
-    let here = c.here_or-next in let at = c.mark_at in let e : suc x ≡ l.x = omega (arith, c.loop-x-test.true) in let i : suc x ≤ m = omega (arith, l.invariant.0) in
-    let n : Next p m x here.result = rw (here.ensures, c.reference_test.ensures) (next_more m x i p l.next (rw e l.invariant.2)) in
-    (omega (arith, i), at.ensures.0 ∙ l.invariant.1, n, filled_more (Next p m) m x here.result l.table at.new.table at.ensures.0 (rw e l.invariant.3) n at.ensures.1)
-
-pub shape_of-table : goal.shape_of-table
-shape_of-table c = c.loop-x.invariant.1
+pub loop-y-preserved : goal.loop-y-preserved
+loop-y-preserved g c = λ p h.
+    let l = c.loop-y in let m = c.count-n.result in let y = l.y - 1 in let before = l.invariant p h in
+    let e : suc y ≡ l.y = omega (arith, c.loop-y-test.true) in let i : suc y ≤ m = omega (arith, l.auto.y) in
+    let passes = h y c.test.result (omega (arith, i, c.count-n.type_inv)) c.test.ensures in
+    let next = c.if-test.next in
+    let chosen : next ≡ cond (p y) y l.next = (elim c.if-test.branch [
+      | then-test w ↦ w.next-is ∙ sym (ap (λ b. cond b y l.next) (sym passes ∙ w.if-test.true))
+      | else-test w ↦ w.next-is ∙ sym (ap (λ b. cond b y l.next) (sym passes ∙ w.if-test.false))
+    ]) in
+    let n : Next p m y next = rw chosen (next_more m y i p l.next (rw e before.0)) in
+    let at = c.mark_at.ensures (λ (k : ℕ). next) (λ i r b q. search rules) in
+    (n, filled_more (Next p m) m y next l.table c.mark_at.new.table at.0 (rw e before.1) n at.1)
 
 pub returns : goal.returns
-returns c = (c.loop-x.invariant.1, λ z a b. c.loop-x.invariant.3 z (omega (arith, c.loop-x-test.false)) a b)
+returns g c = λ p h. (c.loop-y.auto.table, λ x a b. (rw c.count-n.ensures at (c.loop-y.invariant p h).1) x (omega (arith, c.loop-y-test.false)) a b)

@@ -1,40 +1,37 @@
-use Prim.Native.Nat.{ℕ, suc, ◌-◌, ◌≤◌}
-use mathlib.Core.Path.{◌≡◌, refl, ◌∙◌}
-use native.Mathlib.Omega.{arith}
-use lib.Dec.{eqb}
-use lib.ListN.{get_or, length-replicate, get_or-replicate}
+use Rattle.std.proofs.Common.{rules, ℕ, suc, ◌-◌, ◌≤◌, ◌≡◌, eqb, get_or, arith}
+use lib.ListN.{length-replicate, get_or-replicate}
 use Rattle.sheet.specs.Words.{sheet_of}
 use Rattle.sheet.specs.Layout.{count}
 use Rattle.sheet.specs.Fields.{references}
-use Rattle.runs.specs.steps.Runs.{Repeat, reference_key}
+use Rattle.runs.specs.steps.Runs.{Repeat}
 use Rattle.runs.proofs.RunLaws.{next_start, next_more, repeat_start, repeat_more, filled_start, filled_more}
 use Rattle.runs.proofs.fill.fill_repeats.Goals as goal
 
-pub loop-x-init : goal.loop-x-init
-loop-x-init c =
-    let a = c.args in let f = reference_key (sheet_of a.s.now) a.key in let m = count (sheet_of a.s.now) references in
-    let most : m ≤ 65535 = omega (arith, c.count-x.type_inv, c.count-x.ensures) in
-    rw c.count-x.ensures (omega arith, refl, length-replicate {A = ℕ} 65536 65535, (λ z l. rw (get_or-replicate {A = ℕ} 65536 z 65535 0 l) (next_start m (λ y. eqb (f y) z) 65535 most)), repeat_start m f 65535 most, filled_start (Repeat f m) m a.table.now)
-
-pub keep-before-requires : goal.keep-before-requires
-keep-before-requires c = c.loop-x.invariant.2
-
-pub loop-x-preserved : goal.loop-x-preserved
-loop-x-preserved c =
-    let a = c.args in let f = reference_key (sheet_of a.s.now) a.key in
-    let m = count (sheet_of a.s.now) references in let l = c.loop-x in let x = l.x - 1 in
-    let key = c.reference_key in let keep = c.keep-before in let lower = c.lower-next in let at = c.mark_at in let e : suc x ≡ l.x = omega (arith, c.loop-x-test.true) in let i : suc x ≤ m = omega (arith, l.invariant.0) in
-    let n : Repeat f m x lower.result = rw (lower.ensures, keep.ensures.1, key.ensures) (repeat_more m x i f (get_or l.later (f x) 0) l.next (rw e (l.invariant.3 (f x) (omega (arith, key.type_inv, key.ensures)))) (rw e l.invariant.4)) in (
-      omega (arith, i),
-      at.ensures.0 ∙ l.invariant.1,
-      keep.ensures.0,
-      λ z k. rw (keep.ensures.2 z (rw keep.ensures.0 k), key.ensures) (next_more m x i (λ y. eqb (f y) z) (get_or l.later z 0) (rw e (l.invariant.3 z k))),
-      n,
-      filled_more (Repeat f m) m x lower.result l.table at.new.table at.ensures.0 (rw e l.invariant.5) n at.ensures.1,
+pub loop-y-init : goal.loop-y-init
+loop-y-init g c =
+    let m = count (sheet_of c.args.s.now) references in
+    let most : m ≤ 65535 = omega (arith, c.count-y.type_inv, c.count-y.ensures) in (
+      length-replicate {A = ℕ} 65536 65535,
+      λ f h. rw c.count-y.ensures ((λ z l. rw (get_or-replicate {A = ℕ} 65536 z 65535 0 l) (next_start m (λ y. eqb (f y) z) 65535 most)), repeat_start m f 65535 most, filled_start (Repeat f m) m c.args.table.now),
     )
 
-pub shape_of-table : goal.shape_of-table
-shape_of-table c = c.loop-x.invariant.1
+pub keep-before-requires : goal.keep-before-requires
+keep-before-requires g c = c.loop-y.invariant.0
+
+pub loop-y-preserved : goal.loop-y-preserved
+loop-y-preserved g c =
+    let m = count (sheet_of c.args.s.now) references in let l = c.loop-y in let y = l.y - 1 in let keep = c.keep-before.ensures in let next = c.min-next in
+    let e : suc y ≡ l.y = omega (arith, c.loop-y-test.true) in let i : suc y ≤ m = omega (arith, l.auto.y, c.count-y.ensures) in
+    let at = c.mark_at.ensures (λ (k : ℕ). next.result) (λ i r b q. search rules) in (
+      keep.0,
+      λ f h.
+          let key = h y c.key.result (omega (arith, i, c.count-y.type_inv, c.count-y.ensures)) c.key.ensures in let before = l.invariant.1 f h in
+          let n : Repeat f m y next.result = rw (next.ensures, keep.1, key) (repeat_more m y i f (get_or l.later (f y) 0) l.next (rw e (before.0 (f y) (omega (arith, c.key.type_inv, key)))) (rw e before.1)) in (
+            λ z k. rw (keep.2 z (rw keep.0 k), key) (next_more m y i (λ x. eqb (f x) z) (get_or l.later z 0) (rw e (before.0 z k))),
+            n,
+            filled_more (Repeat f m) m y next.result l.table c.mark_at.new.table at.0 (rw e before.2) n at.1,
+          ),
+    )
 
 pub returns : goal.returns
-returns c = (c.loop-x.invariant.1, λ z a b. c.loop-x.invariant.5 z (omega (arith, c.loop-x-test.false)) a b)
+returns g c = λ f h. (c.loop-y.auto.table, λ x a b. (c.loop-y.invariant.1 f h).2 x (omega (arith, c.loop-y-test.false)) a b)

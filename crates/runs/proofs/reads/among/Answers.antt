@@ -1,12 +1,13 @@
 -- One comparison. Assumes nothing.
-use Prim.Native.Nat.{ℕ, ◌+◌}
-use mathlib.Core.Path.{ap}
-use lib.Dec.{ltb}
-use native.Mathlib.Omega.{arith}
+use Rattle.std.proofs.Common.{ℕ, ◌+◌, ltb, length, get_or, cond, Some, None, sym, ap, ◌∙◌}
+use Rattle.std.proofs.lemmas.Option.{cond_some, none-some}
+use borrow.Author.Tests.{lt-ltb}
 use Rattle.runs.proofs.reads.among.Goals as goal
 
-pub returns-then-i-table : goal.returns-then-i-table
-returns-then-i-table c = λ l. ap (λ (v : ℕ). ltb v (c.args.first + c.args.n)) c.wide.ensures
+pub returns-in-Some : goal.returns-in-Some
+returns-in-Some c = λ l. let t = c.args.table.now in let x = c.args.first in ap (λ (v : ℕ). ltb v (x + c.args.n)) (sym (cond_some (ltb x (length t)) (get_or t x 0) c.in-Some.v (sym c.look.ensures ∙ c.in-Some.is)).1)
 
-pub returns-else-i-table : goal.returns-else-i-table
-returns-else-i-table c = λ l. absurd (omega (arith, l, c.if-i-table.false))
+pub returns-in-None : goal.returns-in-None
+returns-in-None c = λ l.
+    let t = c.args.table.now in let x = c.args.first in
+    absurd (none-some (get_or t x 0) (sym c.in-None.is ∙ c.look.ensures ∙ ap (λ b. cond b (Some (get_or t x 0)) None) (lt-ltb x (length t) l)))
