@@ -6,7 +6,7 @@ ghost use Rattle.sheet.specs.Words.{sheet_of, word, word_count};
 fn joined(high: u8, low: u8) -> u16
     ensures { result ≡ 256 * high + low }
 {
-    256 * (high as u16) + low as u16
+    u16::from_be_bytes([high, low])
 }
 
 // The word at an index, or 0 past the end.
