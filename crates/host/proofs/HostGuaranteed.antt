@@ -8,13 +8,13 @@ use native.Mathlib.Nat.{div-add-mod, eq-or-lt_of_le, le_of_suc-le-suc}
 use borrow.Author.Tests.{lt-leb, le-ltb}
 use lib.ListN.{length, get_or, drop, length-append, get_or-append}
 use lib.Seq.{sets, sets-eq, get_or-append-add, drop-append_seam}
+use Rattle.std.specs.Prelude.{Ok}
 use Rattle.sheet.specs.Words.{Sheet}
 use Rattle.sheet.specs.Layout.{level, count}
 use Rattle.sheet.specs.Fields.{programmes}
 use Rattle.profile.specs.declared.Verdict.TheVariants.{Accepted}
 use Rattle.profile.specs.Verdict.{verdict}
 use Rattle.profile.specs.Counting.{concat_below}
-use Rattle.listener.specs.declared.Answer.TheVariants.{Done}
 use Rattle.listener.specs.Calls.{answer_by, not_open, no_programme}
 use Rattle.listener.specs.Listing.{buffered_by}
 use Rattle.listener.specs.StartListing.{start_tracks, start_number}
@@ -71,7 +71,7 @@ module _ (ws buffer : List ℕ) (room : 2 * length ws ≤ length buffer) where
   rest_stays = rw (← bytes_length, written) (drop-append_seam (bytes_of ws) (drop (length (bytes_of ws)) buffer))
 
 module _ (s : Sheet) (langs : List ℕ) (accepted : verdict s langs ≡ Accepted) (at : (level s ≡ 1) ⊎ (level s ≡ 2)) (p : ℕ) (there : p < count s programmes) where
-  done : (bytes : ℕ) → 2 * start_number s p ≤ bytes → host_answer s langs p bytes ≡ Done
+  done : (bytes : ℕ) → 2 * start_number s p ≤ bytes → host_answer s langs p bytes ≡ Ok tt
   unfolding host_answer answer_by not_open no_programme too_few_bytes
   done bytes l = rw (accepted_opens s langs accepted at, lt-leb (count s programmes) p there, le-ltb bytes (2 * start_number s p) l) refl
 

@@ -2,14 +2,12 @@
 -- number and buffer, refuses by 25, 27, 32, and writes each track as two bytes, high first. It gives the number of entries, or the
 -- refusal's number negated; 32 here means fewer than two bytes per entry." Document 02, L2: "every call lent a sheet is lent it too (host
 -- calls right after the sheet)": the list of languages, `langs`. Assumes nothing.
-use Rattle.std.specs.Prelude.{ℕ, zero, suc, ◌*◌, ◌/◌, ◌%◌, List, [], ◌∷◌, ltb, ℤ, pos, negsuc, length, get_or}
+use Rattle.std.specs.Prelude.{ℕ, zero, suc, ◌*◌, ◌/◌, ◌%◌, List, [], ◌∷◌, ltb, ℤ, pos, negsuc, length, get_or, Ok, Err}
 use Rattle.sheet.specs.Words.{Sheet}
 use Rattle.profile.specs.Counting.{concat_below}
-use Rattle.listener.specs.declared.Answer.{Answer}
-use Rattle.listener.specs.declared.Answer.TheVariants.{Done, Refused}
 use Rattle.listener.specs.declared.Refusal.TheVariants.{TooFewWords}
 use Rattle.listener.specs.State.{refusal_number}
-use Rattle.listener.specs.Calls.{Ground, answer_by, not_open, no_programme}
+use Rattle.listener.specs.Calls.{Answer, Ground, answer_by, not_open, no_programme}
 use Rattle.listener.specs.Listing.{buffered_by}
 use Rattle.listener.specs.StartListing.{start_tracks, start_number}
 
@@ -36,8 +34,8 @@ negated (suc n) = negsuc n
 
 -- "It gives the number of entries, or the refusal's number negated"
 unfoldable pub answer_code : ℕ → Answer → ℤ
-answer_code n Done = pos n
-answer_code n (Refused r) = negated (refusal_number r)
+answer_code n (Ok done) = pos n
+answer_code n (Err r) = negated (refusal_number r)
 
 unfoldable pub host_listed : Sheet → List ℕ → ℕ → ℕ → ℤ
 host_listed s langs p bytes = answer_code (start_number s p) (host_answer s langs p bytes)
