@@ -45,11 +45,9 @@ pub fn rule4(s: &[u8], section: u8, k: u16) -> bool
 fn list_lacks_by(s: &[u8], next: &[u16], target: u8, section: u8, k: u16, at: u8) -> bool
     ensures { LacksRight (sheet_of s.now) target next.now → result ≡ list_lacks (sheet_of s.now) target section k at }
 {
-    let looked = look_up(s, next, section, k, at);
-    if looked.known {
-        looked.found
-    } else {
-        any_entry(s, section, k, at, |e| lacks(s, target, e))
+    match look_up(s, next, section, k, at) {
+        Some(found) => found,
+        None => any_entry(s, section, k, at, |e| lacks(s, target, e)),
     }
 }
 

@@ -68,11 +68,9 @@ pub fn repeats(s: &[u8], section: u8, k: u16, at: u8) -> bool
 pub fn repeats_by(s: &[u8], next: &[u16], section: u8, k: u16, at: u8) -> bool
     ensures { RepeatRight (sheet_of s.now) next.now → result ≡ repeats (sheet_of s.now) section k at }
 {
-    let looked = look_up(s, next, section, k, at);
-    if looked.known {
-        looked.found
-    } else {
-        repeats(s, section, k, at)
+    match look_up(s, next, section, k, at) {
+        Some(found) => found,
+        None => repeats(s, section, k, at),
     }
 }
 

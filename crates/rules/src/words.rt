@@ -24,11 +24,9 @@ use values::values::{is_absent, is_maximum, is_minimum, is_value};
 fn bad_label_by(s: &[u8], langs: &Languages, next: &[u16], section: u8, k: u16, at: u8) -> bool
     ensures { LanguagesRight (sheet_of s.now) langs.now next.now → result ≡ bad_label (sheet_of s.now) langs.now section k at }
 {
-    let looked = look_up(s, next, section, k, at);
-    if looked.known {
-        looked.found
-    } else {
-        bad_label(s, langs, section, k, at)
+    match look_up(s, next, section, k, at) {
+        Some(found) => found,
+        None => bad_label(s, langs, section, k, at),
     }
 }
 

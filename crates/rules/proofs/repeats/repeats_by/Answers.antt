@@ -1,17 +1,13 @@
 -- By the table, or by the list. Assumes nothing.
-use Prim.Native.Nat.{◌+◌}
-use lib.Dec.{eqb}
+use Rattle.std.proofs.Common.{◌+◌, eqb}
 use Rattle.sheet.specs.Words.{sheet_of}
 use Rattle.sheet.specs.Layout.{reference, entry}
 use Rattle.profile.specs.Counting.{two_of}
 use Rattle.profile.specs.Rules.{repeats}
 use Rattle.rules.proofs.repeats.repeats_by.Goals as goal
 
-pub returns-then-looked : goal.returns-then-looked
+pub returns-in-Some : goal.returns-in-Some
 unfolding repeats entry
-returns-then-looked c =
+returns-in-Some c = λ right.
     let s = sheet_of c.args.s.now in
-    c.look_up-looked.ensures c.if-looked.true (λ x n. two_of (λ i j. eqb (reference s (x + i)) (reference s (x + j))) n)
-
-pub returns-else-looked : goal.returns-else-looked
-returns-else-looked c = λ right. c.repeats.ensures
+    c.look_up.ensures _ c.in-Some.is (λ x n. two_of (λ i j. eqb (reference s (x + i)) (reference s (x + j))) n) right

@@ -1,6 +1,5 @@
--- By the table, or label by label. Assumes nothing.
-use Prim.Native.Nat.{◌+◌}
-use mathlib.Core.Bool.{not}
+-- By the table, or by the list. Assumes nothing.
+use Rattle.std.proofs.Common.{◌+◌, not}
 use Rattle.sheet.specs.Words.{sheet_of}
 use Rattle.sheet.specs.Layout.{reference, entry}
 use Rattle.profile.specs.Counting.{any}
@@ -8,11 +7,8 @@ use Rattle.profile.specs.Languages.{good_language}
 use Rattle.profile.specs.Rules.{bad_label}
 use Rattle.rules.proofs.words.bad_label_by.Goals as goal
 
-pub returns-then-looked : goal.returns-then-looked
+pub returns-in-Some : goal.returns-in-Some
 unfolding bad_label entry
-returns-then-looked c =
+returns-in-Some c = λ right.
     let s = sheet_of c.args.s.now in
-    c.look_up-looked.ensures c.if-looked.true (λ x n. any (λ i. not (good_language c.args.langs.now (reference s (x + i)))) n)
-
-pub returns-else-looked : goal.returns-else-looked
-returns-else-looked c = λ right. c.bad_label.ensures
+    c.look_up.ensures _ c.in-Some.is (λ x n. any (λ i. not (good_language c.args.langs.now (reference s (x + i)))) n) right
