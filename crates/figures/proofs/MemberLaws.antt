@@ -8,6 +8,7 @@ use mathlib.Core.List.{List, [], ◌∷◌}
 use lib.Dec.{eqb}
 use lib.IntN.{pos}
 use borrow.Author.Tests.{eq-eqb, not-true, both_ways}
+use Rattle.std.specs.Prelude.{Some, is_some, IfSome}
 use Rattle.sheet.specs.Words.{Sheet, word}
 use Rattle.sheet.specs.Layout.{count, field, number, entry}
 use Rattle.sheet.specs.Fields.{objects, complement_list, interact}
@@ -31,7 +32,7 @@ use Rattle.figures.specs.Clashes.{printed}
 use Rattle.figures.specs.Members.{compared_at, compared_count, word_clash, kind_clash, word_clashes, member_clash, leader_clash}
 use Rattle.figures.specs.Figures.{figures_of, figures}
 use Rattle.figures.specs.Promises.{Stands, MemberDiffers}
-use Rattle.figures.proofs.FoundLaws.{first_found, second_found, below_found, earlier_keeps, below_keeps, told_figures, broken_figures}
+use Rattle.figures.proofs.FoundLaws.{any_eq, clash_found, first_found, second_found, below_found, earlier_keeps, below_keeps, clash_keeps, Found, found, if_some, told_figures, broken_figures}
 use Rattle.figures.proofs.KeptLaws.{complement_index, five_twenty}
 
 -- Two figures of a leader l and a member q that differ
@@ -71,54 +72,58 @@ unfolding any
 seven p = ap (λ (t : Bool). t || p 12 || p 13) (turn (p 7 || p 8) (p 9) (p 10) (p 11))
 
 module _ (s : Sheet) (fit : (i : ℕ) → word s i < 65536) (l q : ℕ) (m : l < count s objects) (n : q < count s objects) where
-  word_differs : (i : ℕ) → i < compared_count → (word_clash s l q (compared_at i)).found ≡ true → Differ s l q (word_clash s l q (compared_at i))
+  word_differs : (i : ℕ) → i < compared_count → IfSome (word_clash s l q (compared_at i)) (Differ s l q)
   unfolding word_clash
-  word_differs i k e =
+  word_differs i k =
+      clash_keeps (Differ s l q) _ _ _ (λ e.
       record {
         leader_of_lem = (refl, refl);
         member_of = (refl, refl);
         same_word = inl (i, (k, (record { inside = m; word = refl }, record { inside = n; word = refl })));
         unequal = unfold field in unequal_words _ _ (fit _) (fit _) e;
-      }
+      })
 
-  kind_differs : (kind_clash s l q).found ≡ true → Differ s l q (kind_clash s l q)
+  kind_differs : IfSome (kind_clash s l q) (Differ s l q)
   unfolding kind_clash
-  kind_differs e =
+  kind_differs =
+      clash_keeps (Differ s l q) _ _ _ (λ e.
       record {
         leader_of_lem = (refl, refl);
         member_of = (refl, refl);
         same_word = inr (refl, refl);
         unequal = unequal_numbers _ _ e;
-      }
+      })
 
-  clash_differs : (member_clash s l q).found ≡ true → Differ s l q (member_clash s l q)
+  clash_differs : IfSome (member_clash s l q) (Differ s l q)
   unfolding member_clash word_clashes
-  clash_differs e = earlier_keeps (Differ s l q) _ _ (below_keeps (Differ s l q) (λ i. word_clash s l q (compared_at i)) compared_count word_differs) kind_differs e
+  clash_differs = earlier_keeps (Differ s l q) _ _ (below_keeps (Differ s l q) (λ i. word_clash s l q (compared_at i)) compared_count word_differs) kind_differs
 
 module _ (s : Sheet) where
   -- a leader and a member that differ have a clash
-  words_found : (l q : ℕ) → any (λ f. not (eqb (field s objects l (interact + f)) (field s objects q (interact + f)))) 7 ≡ true → (word_clashes s l q).found ≡ true
+  words_found : (l q : ℕ) → any (λ f. not (eqb (field s objects l (interact + f)) (field s objects q (interact + f)))) 7 ≡ true → is_some (word_clashes s l q) ≡ true
   unfolding word_clash word_clashes
   words_found l q h =
-      below_found (λ i. word_clash s l q (compared_at i)) compared_count ∙ sym (seven (λ at. not (eqb (field s objects l at) (field s objects q at)))) ∙ h
+      below_found (λ i. word_clash s l q (compared_at i)) compared_count
+      ∙ any_eq (λ i. is_some (word_clash s l q (compared_at i))) (λ i. not (eqb (field s objects l (compared_at i)) (field s objects q (compared_at i)))) compared_count (λ i. clash_found _ _ _)
+      ∙ sym (seven (λ at. not (eqb (field s objects l at) (field s objects q at)))) ∙ h
 
-  kind_found : (l q : ℕ) → not (eqb (kind s l) (kind s q)) ≡ true → (kind_clash s l q).found ≡ true
+  kind_found : (l q : ℕ) → not (eqb (kind s l) (kind s q)) ≡ true → is_some (kind_clash s l q) ≡ true
   unfolding kind_clash
-  kind_found l q h = h
+  kind_found l q h = clash_found _ _ _ ∙ h
 
-  differs_found : (l q : ℕ) → differs s l q ≡ true → (member_clash s l q).found ≡ true
+  differs_found : (l q : ℕ) → differs s l q ≡ true → is_some (member_clash s l q) ≡ true
   unfolding differs member_clash
   differs_found l q e =
       ⊎_elim (λ h. first_found _ _ (words_found l q h)) (λ h. second_found _ _ (kind_found l q h))
       (or_either (any (λ f. not (eqb (field s objects l (interact + f)) (field s objects q (interact + f)))) 7) (not (eqb (kind s l) (kind s q))) e)
 
   -- so has a leader that breaks rule 20
-  leader_found : (section l : ℕ) → rule20 s section l ≡ true → (leader_clash s l).found ≡ true
+  leader_found : (section l : ℕ) → rule20 s section l ≡ true → is_some (leader_clash s l) ≡ true
   unfolding rule20 leader_clash
   leader_found section l e =
       let w = any_witness (λ i. differs s l (entry s objects l complement_list i)) (number s objects l complement_list) e in
       below_found (λ i. member_clash s l (entry s objects l complement_list i)) (number s objects l complement_list)
-      ∙ any_one (λ i. (member_clash s l (entry s objects l complement_list i)).found) (number s objects l complement_list) w.0 w.1 (differs_found l (entry s objects l complement_list w.0) w.2)
+      ∙ any_one (λ i. is_some (member_clash s l (entry s objects l complement_list i))) (number s objects l complement_list) w.0 w.1 (differs_found l (entry s objects l complement_list w.0) w.2)
 
 -- a place that rule 20 can have
 object_place : (s : Sheet) (place : Place) → record_of place < subjects s 20 (section_of place) → record_of place < count s objects
@@ -130,10 +135,9 @@ rule20_broken : (s : Sheet) (langs : List ℕ) (section k : ℕ) → breaks s la
 unfolding breaks
 rule20_broken s langs section k e = e
 
-figures_twenty : (s : Sheet) (langs : List ℕ) (place : Place) → verdict s langs ≡ Broken 20 place → (leader_clash s (record_of place)).found ≡ true
-    → figures s langs ≡ (leader_clash s (record_of place)).first ∷ (leader_clash s (record_of place)).second ∷ []
+figures_twenty : (s : Sheet) (langs : List ℕ) (place : Place) → verdict s langs ≡ Broken 20 place → (x : Clash) → leader_clash s (record_of place) ≡ Some x → figures s langs ≡ x.first ∷ x.second ∷ []
 unfolding figures_of
-figures_twenty s langs place e h = broken_figures s langs 20 place e ∙ told_figures (leader_clash s (record_of place)) h
+figures_twenty s langs place e x h = broken_figures s langs 20 place e ∙ told_figures (leader_clash s (record_of place)) x h
 
 -- a clash of a leader with one that it lists
 record Listed (s : Sheet) (l : ℕ) (x : Clash) : Type 0 where
@@ -143,24 +147,25 @@ record Listed (s : Sheet) (l : ℕ) (x : Clash) : Type 0 where
 
 leader_listed : (s : Sheet) → ((i : ℕ) → word s i < 65536) → (l : ℕ) → l < count s objects
     → ((i : ℕ) → l < count s objects → i < number s objects l complement_list → entry s objects l complement_list i < count s objects)
-    → (leader_clash s l).found ≡ true → Listed s l (leader_clash s l)
+    → IfSome (leader_clash s l) (Listed s l)
 unfolding leader_clash
-leader_listed s fit l m n e =
+leader_listed s fit l m n =
     below_keeps (Listed s l) (λ i. member_clash s l (entry s objects l complement_list i)) (number s objects l complement_list)
-    (λ i k h. record { place = i; is_listed_lem = k; differ = clash_differs s fit l (entry s objects l complement_list i) m (n i m k) h }) e
+    (λ i k. if_some (member_clash s l (entry s objects l complement_list i)) (λ x d. record { place = i; is_listed_lem = k; differ = d }) (clash_differs s fit l (entry s objects l complement_list i) m (n i m k)))
 
 pub member_differs : (s : Sheet) (langs : List ℕ) (place : Place) → ((i : ℕ) → word s i < 65536) → verdict s langs ≡ Broken 20 place → MemberDiffers s langs (record_of place)
 member_differs s langs place fit e =
     let b : BrokenAt s langs 20 (section_of place) (record_of place) = (broken_first s langs 20 place e).here in
     let l : ℕ = record_of place in
     let m : l < count s objects = object_place s place b.subject in
-    let h : (leader_clash s l).found ≡ true = leader_found s (section_of place) l (rule20_broken s langs (section_of place) l b.broken) in
-    let x : Listed s l (leader_clash s l) = leader_listed s fit l m (complement_index s langs 20 place e five_twenty l) h in
+    let h : is_some (leader_clash s l) ≡ true = leader_found s (section_of place) l (rule20_broken s langs (section_of place) l b.broken) in
+    let f : Found (Listed s l) (leader_clash s l) = found (Listed s l) (leader_clash s l) h (leader_listed s fit l m (complement_index s langs 20 place e five_twenty l)) in
+    let x : Listed s l f.clash = f.keeps in
     record {
       place = x.place;
-      first = (leader_clash s l).first;
-      second = (leader_clash s l).second;
-      listed = figures_twenty s langs place e h;
+      first = f.clash.first;
+      second = f.clash.second;
+      listed = figures_twenty s langs place e f.clash f.is;
       is_listed_lem = x.is_listed_lem;
       leader_of_lem = x.differ.leader_of_lem;
       member_of = x.differ.member_of;

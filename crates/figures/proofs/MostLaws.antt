@@ -1,7 +1,8 @@
 -- No refusal has more than sixteen figures. Assumes nothing.
-use Rattle.std.proofs.Common.{◌≡◌, ℕ, zero, suc, ◌+◌, ◌-◌, ◌<◌, ◌≤◌, Bool, true, false, cond, not, ◌&&◌, ◌||◌, refl, ap, sym, ◌∙◌, List, [], ◌∷◌, length, get_or, eqb, ltb, arith}
+use Rattle.std.proofs.Common.{◌≡◌, ℕ, zero, suc, ◌+◌, ◌-◌, ◌<◌, ◌≤◌, Bool, true, false, cond, not, ◌&&◌, ◌||◌, refl, ap, sym, ◌∙◌, List, [], length, get_or, eqb, ltb, arith}
 use mathlib.Core.Bool.{true≢false}
 use borrow.Author.Tests.{ltb-false, ne_eqb, eqb-true, eq-eqb}
+use Rattle.std.specs.Prelude.{Option, Some, None}
 use Rattle.sheet.specs.Words.{Sheet}
 use Rattle.sheet.specs.Layout.{level, count}
 use Rattle.sheet.specs.Fields.{objects, header}
@@ -72,13 +73,10 @@ module _ (s : Sheet) (langs : List ℕ) (place : Place) (e : verdict s langs ≡
       omega (arith, ltb-false _ _ none, limit_most (level s))
 
 -- a clash has two figures
-clash_most : (x : Clash) → length (clash_figures x) ≤ 2
+clash_most : (x : Option Clash) → length (clash_figures x) ≤ 2
 unfolding clash_figures
-clash_most x = go x.found
-  where
-    go : (b : Bool) → length (cond b (x.first ∷ x.second ∷ []) []) ≤ 2
-    go true = omega arith
-    go false = omega arith
+clash_most (Some x) = omega arith
+clash_most None = omega arith
 
 by_shares : (s : Sheet) (place : Place) → figures_of s 24 place ≡ share_list s
 unfolding figures_of

@@ -8,6 +8,7 @@ use native.Mathlib.Omega.{arith}
 use lib.Dec.{eqb, ltb}
 use lib.IntN.{pos, negsuc}
 use borrow.Author.Tests.{eqb-true, eqb-false, ne_eqb, eq-eqb, ltb-true, ltb-false, not-true, not-false}
+use Rattle.std.specs.Prelude.{Some, is_some, IfSome}
 use Rattle.sheet.specs.Words.{Sheet}
 use Rattle.sheet.specs.Layout.{count, field}
 use Rattle.sheet.specs.Fields.{objects, value_sets, set_own}
@@ -36,7 +37,7 @@ use Rattle.figures.specs.Clashes.{in_object, in_set, word_at, told, printed}
 use Rattle.figures.specs.Ranges.{ordered, below_minimum, bound_place, range_clash, object_clash, effective_place, range_place, effective_clash, own_clash, object_clashes, set_clashes, range_clashes}
 use Rattle.figures.specs.Figures.{figures_of, figures}
 use Rattle.figures.specs.Promises.{Stands, is_silence, printed_gain, AtMost, value_at, minimum_at, maximum_at, IsThere, OfObject, SetValue, SetBound, BreakAt, RangeLeft}
-use Rattle.figures.proofs.FoundLaws.{first_found, second_found, earlier_keeps, told_figures, broken_figures}
+use Rattle.figures.proofs.FoundLaws.{clash_found, first_found, second_found, earlier_keeps, clash_keeps, where_found, Found, found, if_some, told_figures, broken_figures}
 use Rattle.figures.proofs.KeptLaws.{object_range_lem, set_range_lem, owner_index, six_eighteen, eleven_eighteen}
 
 -- the number that a word is printed as is silence where the word is
@@ -124,29 +125,30 @@ record Beyond (s : Sheet) (P : Sort → Figure → Figure → Type 0) (x : Clash
       ⊎ (Stands s x.second (maximum_at x.second.section sort) × (AtMost sort (printed x.first.number) (printed x.second.number) → ⊥))
 
 module _ (s : Sheet) (t : Sort) (v lo hi : WordPlace) where
-  range_found : is_absent (word_at s v) ≡ false → leaves t (word_at s v) (word_at s lo) (word_at s hi) ≡ true → (range_clash s t v lo hi).found ≡ true
+  range_found : is_absent (word_at s v) ≡ false → leaves t (word_at s v) (word_at s lo) (word_at s hi) ≡ true → is_some (range_clash s t v lo hi) ≡ true
   unfolding range_clash
-  range_found e f = rw (e, f)
+  range_found e f = clash_found _ _ _ ∙ rw (e, f) refl
 
   -- a clash has a value that is there
-  clash_there : (range_clash s t v lo hi).found ≡ true → is_absent (word_at s v) ≡ false
+  clash_there : is_some (range_clash s t v lo hi) ≡ true → is_absent (word_at s v) ≡ false
   unfolding range_clash
-  clash_there e = not-true _ (and_both (not (is_absent (word_at s v))) (leaves t (word_at s v) (word_at s lo) (word_at s hi)) e).0
+  clash_there e = not-true _ (and_both (not (is_absent (word_at s v))) (leaves t (word_at s v) (word_at s lo) (word_at s hi)) (sym (clash_found _ _ _) ∙ e)).0
 
   range_beyond : (P : Sort → Figure → Figure → Type 0) → P t (told s v) (told s lo) → P t (told s v) (told s hi)
       → Bears s t value_at v → Bears s t minimum_at lo → Bears s t maximum_at hi → LegalRange t (word_at s lo) (word_at s hi)
-      → (range_clash s t v lo hi).found ≡ true → Beyond s P (range_clash s t v lo hi)
+      → IfSome (range_clash s t v lo hi) (Beyond s P)
   unfolding range_clash bound_place leaves
-  range_beyond P p q a b c r e =
+  range_beyond P p q a b c r =
+      clash_keeps (Beyond s P) _ _ _ (λ e.
       let out : leaves t (word_at s v) (word_at s lo) (word_at s hi) ≡ true = (and_both (not (is_absent (word_at s v))) (leaves t (word_at s v) (word_at s lo) (word_at s hi)) e).1 in
       let there : is_absent (word_at s lo) ≡ false = not-true _ (and_both (not (is_absent (word_at s lo))) (not (in_range t (word_at s lo) (word_at s v) (word_at s hi))) out).0 in
-      (elim (below_minimum t (word_at s v) (word_at s lo)) as (λ x. below_minimum t (word_at s v) (word_at s lo) ≡ x → Beyond s P (record { found = not (is_absent (word_at s v)) && leaves t (word_at s v) (word_at s lo) (word_at s hi); first = told s v; second = told s (cond x lo hi) })) [
+      (elim (below_minimum t (word_at s v) (word_at s lo)) as (λ x. below_minimum t (word_at s v) (word_at s lo) ≡ x → Beyond s P (record { first = told s v; second = told s (cond x lo hi) })) [
         | true ↦ λ f.
             record {
               sort = t;
               place = p;
               value_stands = bears_stands s t value_at v a;
-              value_there = is_there s v (clash_there e);
+              value_there = is_there s v (clash_there (clash_found _ _ _ ∙ e));
               bound_there = is_there s lo there;
               outside = inl (bears_stands s t minimum_at lo b, below_minimum_lem t (word_at s lo) (word_at s v) f);
             }
@@ -155,11 +157,11 @@ module _ (s : Sheet) (t : Sort) (v lo hi : WordPlace) where
               sort = t;
               place = q;
               value_stands = bears_stands s t value_at v a;
-              value_there = is_there s v (clash_there e);
+              value_there = is_there s v (clash_there (clash_found _ _ _ ∙ e));
               bound_there = is_there s hi (maximum_there t (word_at s hi) (r there).1);
               outside = inr (bears_stands s t maximum_at hi c, above_maximum t (word_at s lo) (word_at s v) (word_at s hi) out f);
             }
-      ]) refl
+      ]) refl)
 
 -- 0 leaves no legal range
 zero_stays : (t : Sort) (lo hi : ℕ) → LegalRange t lo hi → leaves t 0 lo hi ≡ true → ⊥
@@ -188,7 +190,7 @@ effective_or_zero w x =
     ]) refl
 
 -- an object, a set that leaves its range has a clash
-object_found : (s : Sheet) (o : ℕ) (t : Sort) → LegalRange t (field s objects o (object_minimum t)) (field s objects o (object_maximum t)) → object_leaves s o t ≡ true → (object_clash s o t).found ≡ true
+object_found : (s : Sheet) (o : ℕ) (t : Sort) → LegalRange t (field s objects o (object_minimum t)) (field s objects o (object_maximum t)) → object_leaves s o t ≡ true → is_some (object_clash s o t) ≡ true
 unfolding object_leaves own_value object_clash
 object_found s o t r e = let h = value_there t (field s objects o (object_value t)) _ _ r e in range_found s t _ _ _ h.0 h.1
 
@@ -244,10 +246,10 @@ module _ (s : Sheet) (o : ℕ) (t : Sort) (l : o < count s objects) (r : LegalRa
   object_maximum_bears : Bears s t maximum_at (in_object o (object_maximum t))
   object_maximum_bears = record { inside = l; place = refl }
 
-  object_beyond : (object_clash s o t).found ≡ true → Beyond s (AtObject o) (object_clash s o t)
+  object_beyond : IfSome (object_clash s o t) (Beyond s (AtObject o))
   unfolding object_clash
-  object_beyond e =
-      range_beyond s t _ _ _ (AtObject o) ((refl, refl), (refl, refl)) ((refl, refl), (refl, refl)) object_value_bears object_minimum_bears object_maximum_bears r e
+  object_beyond =
+      range_beyond s t _ _ _ (AtObject o) ((refl, refl), (refl, refl)) ((refl, refl), (refl, refl)) object_value_bears object_minimum_bears object_maximum_bears r
 
   module _ (v : ℕ) (m : v < count s value_sets) where
     set_value_bears : Bears s t value_at (in_set v (set_value t))
@@ -267,24 +269,25 @@ module _ (s : Sheet) (o : ℕ) (t : Sort) (l : o < count s objects) (r : LegalRa
     unfolding range_place
     range_bears at inside outside x y = bears_cond s t at _ _ _ x y
 
-    effective_beyond : LegalRange t (effective_minimum s o v t) (effective_maximum s o v t) → (effective_clash s o v t).found ≡ true → Beyond s (AtSet s o v) (effective_clash s o v t)
+    effective_beyond : LegalRange t (effective_minimum s o v t) (effective_maximum s o v t) → IfSome (effective_clash s o v t) (Beyond s (AtSet s o v))
     unfolding effective_clash
-    effective_beyond q e =
+    effective_beyond q =
         range_beyond s t _ _ _ (AtSet s o v)
         (effective_value_lem s o v t, effective_bound s o v (set_minimum t) (object_minimum t) (told s (effective_place s o v t)))
         (effective_value_lem s o v t, effective_bound s o v (set_maximum t) (object_maximum t) (told s (effective_place s o v t)))
         effective_value_bears (range_bears minimum_at (set_minimum t) (object_minimum t) set_minimum_bears object_minimum_bears)
         (range_bears maximum_at (set_maximum t) (object_maximum t) set_maximum_bears object_maximum_bears)
-        (rw (minimum_word s o v t, maximum_word s o v t) q) e
+        (rw (minimum_word s o v t, maximum_word s o v t) q)
 
-    own_beyond : (own_clash s o v t).found ≡ true → Beyond s (AtSet s o v) (own_clash s o v t)
+    own_beyond : IfSome (own_clash s o v t) (Beyond s (AtSet s o v))
     unfolding own_clash
-    own_beyond e =
+    own_beyond =
+        where_found (Beyond s (AtSet s o v)) (range_clash s t (in_set v (set_value t)) (in_object o (object_minimum t)) (in_object o (object_maximum t))) (λ e.
         let there : is_absent (field s value_sets v (set_value t)) ≡ false = clash_there s t (in_set v (set_value t)) (in_object o (object_minimum t)) (in_object o (object_maximum t)) e in
         range_beyond s t _ _ _ (AtSet s o v)
         (inl ((refl, refl), there), inr ((refl, refl), inr (refl, refl)))
         (inl ((refl, refl), there), inr ((refl, refl), inr (refl, refl)))
-        set_value_bears object_minimum_bears object_maximum_bears r e
+        set_value_bears object_minimum_bears object_maximum_bears r)
 
 value_word : (s : Sheet) (o v : ℕ) (t : Sort) → effective_value s o v t ≡ or_else (word_at s (effective_place s o v t)) 0
 unfolding effective_place effective_value own_value
@@ -293,19 +296,19 @@ value_word s o v t =
     ∙ ap (λ (w : ℕ). or_else w 0) (sym (word_cond s (is_absent (field s value_sets v (set_value t))) (in_object o (object_value t)) (in_set v (set_value t))))
 
 effective_found : (s : Sheet) (o v : ℕ) (t : Sort) → LegalRange t (effective_minimum s o v t) (effective_maximum s o v t)
-    → leaves t (effective_value s o v t) (effective_minimum s o v t) (effective_maximum s o v t) ≡ true → (effective_clash s o v t).found ≡ true
+    → leaves t (effective_value s o v t) (effective_minimum s o v t) (effective_maximum s o v t) ≡ true → is_some (effective_clash s o v t) ≡ true
 unfolding effective_clash
 effective_found s o v t r e =
     let h = value_there t (word_at s (effective_place s o v t)) _ _ r (rw (value_word s o v t) at e) in
     range_found s t _ _ _ h.0 (rw (minimum_word s o v t, maximum_word s o v t) h.1)
 
 own_found : (s : Sheet) (o v : ℕ) (t : Sort) → (not (is_absent (field s value_sets v (set_value t))) && leaves t (field s value_sets v (set_value t)) (field s objects o (object_minimum t)) (field s objects o (object_maximum t))) ≡ true
-    → (own_clash s o v t).found ≡ true
+    → is_some (own_clash s o v t) ≡ true
 unfolding own_clash range_clash
-own_found s o v t e = e
+own_found s o v t e = clash_found _ _ _ ∙ e
 
 set_found : (s : Sheet) (o v : ℕ) (t : Sort) → LegalRange t (effective_minimum s o v t) (effective_maximum s o v t) → set_leaves s o v t ≡ true
-    → ((effective_clash s o v t).found ≡ true) ⊎ ((own_clash s o v t).found ≡ true)
+    → (is_some (effective_clash s o v t) ≡ true) ⊎ (is_some (own_clash s o v t) ≡ true)
 unfolding set_leaves
 set_found s o v t r e =
     ⊎_elim (λ h. inl (effective_found s o v t r h)) (λ h. inr (own_found s o v t h))
@@ -315,19 +318,19 @@ set_found s o v t r e =
 
 -- the first clash of an object, of a set
 objects_found : (s : Sheet) (o : ℕ) → ((t : Sort) → LegalRange t (field s objects o (object_minimum t)) (field s objects o (object_maximum t)))
-    → (object_leaves s o Gains || object_leaves s o Offsets) ≡ true → (object_clashes s o).found ≡ true
+    → (object_leaves s o Gains || object_leaves s o Offsets) ≡ true → is_some (object_clashes s o) ≡ true
 unfolding object_clashes
 objects_found s o r e =
     ⊎_elim (λ h. first_found _ _ (object_found s o Gains (r Gains) h)) (λ h. second_found _ _ (object_found s o Offsets (r Offsets) h))
     (or_either (object_leaves s o Gains) (object_leaves s o Offsets) e)
 
 objects_beyond : (s : Sheet) (o : ℕ) → o < count s objects → ((t : Sort) → LegalRange t (field s objects o (object_minimum t)) (field s objects o (object_maximum t)))
-    → (object_clashes s o).found ≡ true → Beyond s (AtObject o) (object_clashes s o)
+    → IfSome (object_clashes s o) (Beyond s (AtObject o))
 unfolding object_clashes
-objects_beyond s o l r e = earlier_keeps (Beyond s (AtObject o)) _ _ (object_beyond s o Gains l (r Gains)) (object_beyond s o Offsets l (r Offsets)) e
+objects_beyond s o l r = earlier_keeps (Beyond s (AtObject o)) _ _ (object_beyond s o Gains l (r Gains)) (object_beyond s o Offsets l (r Offsets))
 
 sets_found : (s : Sheet) (o v : ℕ) → ((t : Sort) → LegalRange t (effective_minimum s o v t) (effective_maximum s o v t))
-    → (set_leaves s o v Gains || set_leaves s o v Offsets) ≡ true → (set_clashes s o v).found ≡ true
+    → (set_leaves s o v Gains || set_leaves s o v Offsets) ≡ true → is_some (set_clashes s o v) ≡ true
 unfolding set_clashes
 sets_found s o v r e =
     ⊎_elim
@@ -336,12 +339,12 @@ sets_found s o v r e =
     (or_either (set_leaves s o v Gains) (set_leaves s o v Offsets) e)
 
 sets_beyond : (s : Sheet) (o v : ℕ) → o < count s objects → v < count s value_sets → ((t : Sort) → LegalRange t (field s objects o (object_minimum t)) (field s objects o (object_maximum t)))
-    → ((t : Sort) → LegalRange t (effective_minimum s o v t) (effective_maximum s o v t)) → (set_clashes s o v).found ≡ true → Beyond s (AtSet s o v) (set_clashes s o v)
+    → ((t : Sort) → LegalRange t (effective_minimum s o v t) (effective_maximum s o v t)) → IfSome (set_clashes s o v) (Beyond s (AtSet s o v))
 unfolding set_clashes
-sets_beyond s o v l m r q e =
+sets_beyond s o v l m r q =
     earlier_keeps (Beyond s (AtSet s o v)) _ _
     (earlier_keeps (Beyond s (AtSet s o v)) _ _ (effective_beyond s o Gains l (r Gains) v m (q Gains)) (effective_beyond s o Offsets l (r Offsets) v m (q Offsets)))
-    (earlier_keeps (Beyond s (AtSet s o v)) _ _ (own_beyond s o Gains l (r Gains) v m) (own_beyond s o Offsets l (r Offsets) v m)) e
+    (earlier_keeps (Beyond s (AtSet s o v)) _ _ (own_beyond s o Gains l (r Gains) v m) (own_beyond s o Offsets l (r Offsets) v m))
 
 -- rule 18 at an object, at a value set
 rule18_object : (s : Sheet) (langs : List ℕ) (o : ℕ) → breaks s langs 18 objects o ≡ true → (object_leaves s o Gains || object_leaves s o Offsets) ≡ true
@@ -352,10 +355,10 @@ rule18_set : (s : Sheet) (langs : List ℕ) (v : ℕ) → breaks s langs 18 valu
 unfolding breaks rule18
 rule18_set s langs v e = e
 
-figures_eighteen : (s : Sheet) (langs : List ℕ) (place : Place) → verdict s langs ≡ Broken 18 place → (range_clashes s (section_of place) (record_of place)).found ≡ true
-    → figures s langs ≡ (range_clashes s (section_of place) (record_of place)).first ∷ (range_clashes s (section_of place) (record_of place)).second ∷ []
+figures_eighteen : (s : Sheet) (langs : List ℕ) (place : Place) → verdict s langs ≡ Broken 18 place → (x : Clash) → range_clashes s (section_of place) (record_of place) ≡ Some x
+    → figures s langs ≡ x.first ∷ x.second ∷ []
 unfolding figures_of
-figures_eighteen s langs place e h = broken_figures s langs 18 place e ∙ told_figures (range_clashes s (section_of place) (record_of place)) h
+figures_eighteen s langs place e x h = broken_figures s langs 18 place e ∙ told_figures (range_clashes s (section_of place) (record_of place)) x h
 
 -- the same figures, as those of the place
 placed : (s : Sheet) (P Q : Sort → Figure → Figure → Type 0) (x : Clash) → ((t : Sort) → P t x.first x.second → Q t x.first x.second) → Beyond s P x → Beyond s Q x
@@ -364,15 +367,15 @@ placed s P Q x f b =
 
 -- A clash that is found at the place of the refusal
 abbrev Told : Sheet → ℕ → ℕ → Type 0
-Told s section k = ((range_clashes s section k).found ≡ true) × Beyond s (BreakAt s section k) (range_clashes s section k)
+Told s section k = Found (Beyond s (BreakAt s section k)) (range_clashes s section k)
 
 module _ (s : Sheet) (langs : List ℕ) (place : Place) (e : verdict s langs ≡ Broken 18 place) where
   object_told : (o : ℕ) → o < count s objects → breaks s langs 18 objects o ≡ true → Told s objects o
   unfolding range_clashes
   object_told o l b =
       let r : (t : Sort) → LegalRange t (field s objects o (object_minimum t)) (field s objects o (object_maximum t)) = λ t. object_range_lem s langs 18 place e six_eighteen o t l in
-      let h : (object_clashes s o).found ≡ true = objects_found s o r (rule18_object s langs o b) in
-      (h, placed s (AtObject o) (BreakAt s objects o) (object_clashes s o) (λ t p. inl (refl, p)) (objects_beyond s o l r h))
+      let h : is_some (object_clashes s o) ≡ true = objects_found s o r (rule18_object s langs o b) in
+      found (Beyond s (BreakAt s objects o)) (object_clashes s o) h (if_some (object_clashes s o) (λ x. placed s (AtObject o) (BreakAt s objects o) x (λ t p. inl (refl, p))) (objects_beyond s o l r))
 
   -- the effective ranges of a set are legal too
   legal_effective : (o v : ℕ) (t : Sort) → o < count s objects → v < count s value_sets → LegalRange t (effective_minimum s o v t) (effective_maximum s o v t)
@@ -384,9 +387,9 @@ module _ (s : Sheet) (langs : List ℕ) (place : Place) (e : verdict s langs ≡
       let o : ℕ = owner s v in
       let l : o < count s objects = owner_index s langs 18 place e eleven_eighteen v m in
       let r : (t : Sort) → LegalRange t (effective_minimum s o v t) (effective_maximum s o v t) = λ t. legal_effective o v t l m in
-      let h : (set_clashes s o v).found ≡ true = sets_found s o v r (rule18_set s langs v b) in
-      let beyond : Beyond s (AtSet s o v) (set_clashes s o v) = sets_beyond s o v l m (λ t. object_range_lem s langs 18 place e six_eighteen o t l) r h in
-      (h, placed s (AtSet s o v) (BreakAt s value_sets v) (set_clashes s o v) (λ t p. inr (refl, p)) beyond)
+      let h : is_some (set_clashes s o v) ≡ true = sets_found s o v r (rule18_set s langs v b) in
+      let beyond : IfSome (set_clashes s o v) (Beyond s (AtSet s o v)) = sets_beyond s o v l m (λ t. object_range_lem s langs 18 place e six_eighteen o t l) r in
+      found (Beyond s (BreakAt s value_sets v)) (set_clashes s o v) h (if_some (set_clashes s o v) (λ x. placed s (AtSet s o v) (BreakAt s value_sets v) x (λ t p. inr (refl, p))) beyond)
 
 -- the places that rule 18 has
 told_at : (s : Sheet) (langs : List ℕ) (place : Place) → verdict s langs ≡ Broken 18 place → BrokenAt s langs 18 (section_of place) (record_of place) → Told s (section_of place) (record_of place)
@@ -397,16 +400,15 @@ told_at s langs place e b = absurd (omega arith)
 
 pub range_left : (s : Sheet) (langs : List ℕ) (place : Place) → verdict s langs ≡ Broken 18 place → RangeLeft s langs (section_of place) (record_of place)
 range_left s langs place e =
-    let x : Clash = range_clashes s (section_of place) (record_of place) in
     let h : Told s (section_of place) (record_of place) = told_at s langs place e (broken_first s langs 18 place e).here in
     record {
-      sort = h.1.sort;
-      value = x.first;
-      bound = x.second;
-      listed = figures_eighteen s langs place e h.0;
-      place = h.1.place;
-      value_stands = h.1.value_stands;
-      value_there = h.1.value_there;
-      bound_there = h.1.bound_there;
-      outside = h.1.outside;
+      sort = h.keeps.sort;
+      value = h.clash.first;
+      bound = h.clash.second;
+      listed = figures_eighteen s langs place e h.clash h.is;
+      place = h.keeps.place;
+      value_stands = h.keeps.value_stands;
+      value_there = h.keeps.value_there;
+      bound_there = h.keeps.bound_there;
+      outside = h.keeps.outside;
     }

@@ -1,5 +1,6 @@
 -- Figures and clashes. Document 02, L1: "the figures with their records", "words taken as signed", "kinds and shares". Assumes nothing.
-use Rattle.std.specs.Prelude.{ℕ, zero, suc, Bool, false, cond, ℤ, pos}
+use Rattle.std.specs.Prelude.{ℕ, zero, suc, Bool, cond, ℤ, pos, Option, Some, None}
+use Rattle.std.specs.Option.{option_or}
 use Rattle.sheet.specs.Words.{Sheet}
 use Rattle.sheet.specs.Layout.{field}
 use Rattle.sheet.specs.Fields.{objects, value_sets}
@@ -29,21 +30,19 @@ word_at s place = field s place.section place.index place.at
 abbrev pub told : Sheet → WordPlace → Figure
 told s place = record { section = place.section; index = place.index; number = Word (word_at s place) }
 
-abbrev pub clash : Bool → Figure → Figure → Clash
-clash found first second = record { found = found; first = first; second = second }
+-- two figures side by side, where they break the rule
+abbrev pub clash : Bool → Figure → Figure → Option Clash
+clash found first second = cond found (Some (record { first = first; second = second })) None
 
--- nothing clashes
+-- no figure
 abbrev pub no_figure : Figure
 no_figure = record { section = 0; index = 0; number = Word 0 }
 
-abbrev pub no_clash : Clash
-no_clash = clash false no_figure no_figure
-
 -- "Of several clashes in that record the first is told"
-unfoldable pub earlier : Clash → Clash → Clash
-earlier a b = cond a.found a b
+unfoldable pub earlier : Option Clash → Option Clash → Option Clash
+earlier a b = option_or a b
 
 -- the first of the clashes that f gives the numbers below n
-unfoldable pub first_below : (ℕ → Clash) → ℕ → Clash
-first_below f zero = no_clash
+unfoldable pub first_below : (ℕ → Option Clash) → ℕ → Option Clash
+first_below f zero = None
 first_below f (suc n) = earlier (first_below f n) (f n)

@@ -2,7 +2,7 @@
 -- their records: the value, then the bound for 18; the leader's, then the member's unequal word or kind for 20; each group's (under its
 -- leader) and lone object's share by rising record for 24. [..] For any other verdict it prints the verdict line only." The verdict is that
 -- under the list of languages lent beside the sheet, which is `langs` here. Assumes nothing.
-use Rattle.std.specs.Prelude.{ℕ, cond, List, [], ◌∷◌, eqb}
+use Rattle.std.specs.Prelude.{ℕ, cond, List, [], ◌∷◌, eqb, Option, Some, None}
 use Rattle.sheet.specs.Words.{Sheet}
 use Rattle.profile.specs.declared.Place.{Place}
 use Rattle.profile.specs.declared.Verdict.{Verdict}
@@ -15,8 +15,9 @@ use Rattle.figures.specs.Members.{leader_clash}
 use Rattle.figures.specs.Shares.{share_list}
 
 -- the two figures of a clash
-unfoldable pub clash_figures : Clash → List Figure
-clash_figures x = cond x.found (x.first ∷ x.second ∷ []) []
+unfoldable pub clash_figures : Option Clash → List Figure
+clash_figures (Some x) = x.first ∷ x.second ∷ []
+clash_figures None = []
 
 -- the figures of a rule that is broken at a place
 unfoldable pub figures_of : Sheet → ℕ → Place → List Figure

@@ -4,7 +4,6 @@ ghost use Rattle.figures.specs.Figures.{clash_figures, figures_by, figures_of};
 ghost use Rattle.figures.specs.Lists.{first_figures, no_figures};
 ghost use Rattle.sheet.specs.Words.{sheet_of};
 
-use crate::lists::{no_figures, with_figure};
 use crate::members::leader_clash;
 use crate::ranges::range_clashes;
 use crate::shares::shares;
@@ -14,14 +13,15 @@ use profile::{Place, Verdict};
 
 // The two figures of a clash.
 #[tactic(auto, unfolding(crate::specs::Figures::clash_figures, crate::specs::Lists::first_figures))]
-fn clash_figures(clash: Clash) -> Figures
+fn clash_figures(clash: Option<Clash>) -> Figures
     ensures { result ≡ first_figures no_figures (clash_figures clash) }
 {
-    if clash.found {
-        with_figure(with_figure(no_figures(), clash.first), clash.second)
-    } else {
-        no_figures()
+    let mut given = Figures::new();
+    if let Some(clash) = clash {
+        given.push(clash.first);
+        given.push(clash.second);
     }
+    given
 }
 
 // The figures of a rule that is broken at a place.
@@ -34,7 +34,7 @@ fn figures_of(s: &[u8], rule: u8, place: Place) -> Figures
         18 => clash_figures(range_clashes(s, section(place), k)),
         20 => clash_figures(leader_clash(s, k)),
         24 => shares(s),
-        _ => no_figures(),
+        _ => Figures::new(),
     }
 }
 
@@ -45,7 +45,7 @@ pub fn figures_by(s: &[u8], verdict: Verdict) -> Figures
     ensures { result ≡ first_figures no_figures (figures_by (sheet_of s.now) verdict) }
 {
     match verdict {
-        Verdict::Accepted => no_figures(),
+        Verdict::Accepted => Figures::new(),
         Verdict::Broken(rule, place) => figures_of(s, rule, place),
     }
 }

@@ -1,9 +1,9 @@
-// Clashes of two figures, and which of several is told.
+// Figures by the places of their words.
 ghost use Rattle.std.specs.Prelude.{◌≡◌};
-ghost use Rattle.figures.specs.Clashes.{earlier, in_object, in_set, no_clash, no_figure, told, word_at};
+ghost use Rattle.figures.specs.Clashes.{in_object, in_set, no_figure, told, word_at};
 ghost use Rattle.sheet.specs.Words.{sheet_of};
 
-use crate::{Clash, Figure, FigureNumber, WordPlace};
+use crate::{Figure, FigureNumber, WordPlace};
 use sheet::fields::{OBJECTS, VALUE_SETS};
 use sheet::layout::field;
 
@@ -47,14 +47,6 @@ pub fn told(s: &[u8], place: WordPlace) -> Figure
     }
 }
 
-// "Of several clashes in that record the first is told."
-#[tactic(auto, unfolding(crate::specs::Clashes::earlier))]
-pub fn earlier(a: Clash, b: Clash) -> Clash
-    ensures { result ≡ earlier a b }
-{
-    if a.found { a } else { b }
-}
-
 // No figure.
 pub fn no_figure() -> Figure
     ensures { result ≡ no_figure }
@@ -63,16 +55,5 @@ pub fn no_figure() -> Figure
         section: 0,
         index: 0,
         number: FigureNumber::Word(0),
-    }
-}
-
-// Nothing clashes.
-pub fn no_clash() -> Clash
-    ensures { result ≡ no_clash }
-{
-    Clash {
-        found: false,
-        first: no_figure(),
-        second: no_figure(),
     }
 }

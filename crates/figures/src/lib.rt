@@ -31,10 +31,9 @@ pub struct WordPlace {
     pub at: u8,
 }
 
-// Two figures side by side, and whether they break the rule.
+// Two figures that break the rule, side by side.
 #[derive(Clone, Copy)]
 pub struct Clash {
-    pub found: bool,
     pub first: Figure,
     pub second: Figure,
 }

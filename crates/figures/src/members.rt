@@ -3,7 +3,7 @@ ghost use Rattle.std.specs.Prelude.{◌≡◌};
 ghost use Rattle.figures.specs.Members.{kind_clash, kind_figure, leader_clash, member_clash, word_clash, word_clashes};
 ghost use Rattle.sheet.specs.Words.{sheet_of};
 
-use crate::clashes::{earlier, in_object, no_clash, told};
+use crate::clashes::{in_object, told};
 use crate::{Clash, Figure, FigureNumber};
 use relations::objects::kind;
 use sheet::fields::{
@@ -12,11 +12,8 @@ use sheet::fields::{
 };
 use sheet::layout::{entry, field, number};
 
-// How many words are compared.
-const COMPARED_WORDS: usize = 7;
-
 // "interact, gain, offset, the four range words", in this order.
-const COMPARED: [u8; COMPARED_WORDS] = [
+const COMPARED: [u8; 7] = [
     INTERACT,
     OBJECT_GAIN,
     OBJECT_OFFSET,
@@ -28,14 +25,13 @@ const COMPARED: [u8; COMPARED_WORDS] = [
 
 // A word of the leader against the member's.
 #[tactic(auto, unfolding(crate::specs::Members::word_clash))]
-fn word_clash(s: &[u8], l: u16, q: u16, at: u8) -> Clash
+fn word_clash(s: &[u8], l: u16, q: u16, at: u8) -> Option<Clash>
     ensures { result ≡ word_clash (sheet_of s.now) l q at }
 {
-    Clash {
-        found: field(s, OBJECTS, l, at) != field(s, OBJECTS, q, at),
-        first: told(s, in_object(l, at)),
-        second: told(s, in_object(q, at)),
-    }
+    let first = told(s, in_object(l, at));
+    let second = told(s, in_object(q, at));
+    let unequal = field(s, OBJECTS, l, at) != field(s, OBJECTS, q, at);
+    unequal.then_some(Clash { first, second })
 }
 
 // An object's kind, as a figure.
@@ -45,56 +41,48 @@ fn kind_figure(s: &[u8], o: u16) -> Figure
     Figure {
         section: OBJECTS,
         index: o,
-        number: FigureNumber::Derived(kind(s, o) as u32),
+        number: FigureNumber::Derived(u32::from(kind(s, o))),
     }
 }
 
 // The leader's kind against the member's.
 #[tactic(auto, unfolding(crate::specs::Members::kind_clash))]
-fn kind_clash(s: &[u8], l: u16, q: u16) -> Clash
+fn kind_clash(s: &[u8], l: u16, q: u16) -> Option<Clash>
     ensures { result ≡ kind_clash (sheet_of s.now) l q }
 {
-    Clash {
-        found: kind(s, l) != kind(s, q),
-        first: kind_figure(s, l),
-        second: kind_figure(s, q),
-    }
+    let first = kind_figure(s, l);
+    let second = kind_figure(s, q);
+    let unequal = kind(s, l) != kind(s, q);
+    unequal.then_some(Clash { first, second })
 }
 
 // The first unequal word.
-fn word_clashes(s: &[u8], l: u16, q: u16) -> Clash
+fn word_clashes(s: &[u8], l: u16, q: u16) -> Option<Clash>
     ensures { result ≡ word_clashes (sheet_of s.now) l q }
 {
-    let mut first = no_clash();
-    let mut i: usize = 0;
-    while i < COMPARED_WORDS {
-        first = earlier(first, word_clash(s, l, q, COMPARED[i]));
-        i += 1;
+    let mut first = None;
+    for at in COMPARED {
+        first = first.or(word_clash(s, l, q, at));
     }
     first
 }
 
 // What a leader and a member differ in first: the words, then the kinds.
-#[tactic(auto, unfolding(crate::specs::Members::member_clash))]
-fn member_clash(s: &[u8], l: u16, q: u16) -> Clash
+#[tactic(auto, unfolding(crate::specs::Members::member_clash, crate::specs::Clashes::earlier))]
+fn member_clash(s: &[u8], l: u16, q: u16) -> Option<Clash>
     ensures { result ≡ member_clash (sheet_of s.now) l q }
 {
-    earlier(word_clashes(s, l, q), kind_clash(s, l, q))
+    word_clashes(s, l, q).or(kind_clash(s, l, q))
 }
 
 // The first clash of a leader: "by member in list order".
-pub fn leader_clash(s: &[u8], l: u16) -> Clash
+pub fn leader_clash(s: &[u8], l: u16) -> Option<Clash>
     ensures { result ≡ leader_clash (sheet_of s.now) l }
 {
-    let n = number(s, OBJECTS, l, COMPLEMENT_LIST);
-    let mut first = no_clash();
-    let mut i: u16 = 0;
-    while i < n {
-        first = earlier(
-            first,
-            member_clash(s, l, entry(s, OBJECTS, l, COMPLEMENT_LIST, i)),
-        );
-        i += 1;
+    let mut first = None;
+    for i in 0..number(s, OBJECTS, l, COMPLEMENT_LIST) {
+        let q = entry(s, OBJECTS, l, COMPLEMENT_LIST, i);
+        first = first.or(member_clash(s, l, q));
     }
     first
 }

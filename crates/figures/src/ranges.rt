@@ -3,7 +3,7 @@ ghost use Rattle.std.specs.Prelude.{◌≡◌};
 ghost use Rattle.figures.specs.Ranges.{below_minimum, bound_place, effective_clash, effective_place, object_clash, object_clashes, own_clash, range_clash, range_clashes, range_place, set_clashes};
 ghost use Rattle.sheet.specs.Words.{sheet_of};
 
-use crate::clashes::{earlier, in_object, in_set, told, word_at};
+use crate::clashes::{in_object, in_set, told, word_at};
 use crate::{Clash, WordPlace};
 use relations::records::owner;
 use relations::sets::{
@@ -12,7 +12,7 @@ use relations::sets::{
 use sheet::fields::{OBJECTS, SET_OWN, VALUE_SETS};
 use sheet::layout::field;
 use values::Sort;
-use values::gains::{at_most, gain_of};
+use values::gains::gain_of;
 use values::signed::signed;
 use values::values::{in_range, is_absent};
 
@@ -22,7 +22,7 @@ fn below_minimum(sort: Sort, value: u16, minimum: u16) -> bool
     ensures { result ≡ below_minimum sort value minimum }
 {
     match sort {
-        Sort::Gains => !at_most(gain_of(minimum), gain_of(value)),
+        Sort::Gains => gain_of(value) < gain_of(minimum),
         Sort::Offsets => signed(value) < signed(minimum),
     }
 }
@@ -53,25 +53,21 @@ fn range_clash(
     value: WordPlace,
     minimum: WordPlace,
     maximum: WordPlace,
-) -> Clash
+) -> Option<Clash>
     ensures { result ≡ range_clash (sheet_of s.now) sort value minimum maximum }
 {
     let v = word_at(s, value);
     let lo = word_at(s, minimum);
     let hi = word_at(s, maximum);
-    let found = !is_absent(v) & (!is_absent(lo) & !in_range(sort, lo, v, hi));
+    let outside = !is_absent(v) & (!is_absent(lo) & !in_range(sort, lo, v, hi));
     let first = told(s, value);
     let second = told(s, bound_place(s, sort, value, minimum, maximum));
-    Clash {
-        found,
-        first,
-        second,
-    }
+    outside.then_some(Clash { first, second })
 }
 
 // An object's own value against its range.
 #[tactic(auto, unfolding(crate::specs::Ranges::object_clash))]
-fn object_clash(s: &[u8], o: u16, sort: Sort) -> Clash
+fn object_clash(s: &[u8], o: u16, sort: Sort) -> Option<Clash>
     ensures { result ≡ object_clash (sheet_of s.now) o sort }
 {
     range_clash(
@@ -109,7 +105,7 @@ fn range_place(s: &[u8], o: u16, v: u16, inside: u8, outside: u8) -> WordPlace
 
 // The effective value against the effective range.
 #[tactic(auto, unfolding(crate::specs::Ranges::effective_clash))]
-fn effective_clash(s: &[u8], o: u16, v: u16, sort: Sort) -> Clash
+fn effective_clash(s: &[u8], o: u16, v: u16, sort: Sort) -> Option<Clash>
     ensures { result ≡ effective_clash (sheet_of s.now) o v sort }
 {
     range_clash(
@@ -123,7 +119,7 @@ fn effective_clash(s: &[u8], o: u16, v: u16, sort: Sort) -> Clash
 
 // The set's own value against the object's range.
 #[tactic(auto, unfolding(crate::specs::Ranges::own_clash))]
-fn own_clash(s: &[u8], o: u16, v: u16, sort: Sort) -> Clash
+fn own_clash(s: &[u8], o: u16, v: u16, sort: Sort) -> Option<Clash>
     ensures { result ≡ own_clash (sheet_of s.now) o v sort }
 {
     range_clash(
@@ -136,38 +132,34 @@ fn own_clash(s: &[u8], o: u16, v: u16, sort: Sort) -> Clash
 }
 
 // The first clash of an object: "gain before offset".
-#[tactic(auto, unfolding(crate::specs::Ranges::object_clashes))]
-fn object_clashes(s: &[u8], o: u16) -> Clash
+#[tactic(auto, unfolding(crate::specs::Ranges::object_clashes, crate::specs::Clashes::earlier))]
+fn object_clashes(s: &[u8], o: u16) -> Option<Clash>
     ensures { result ≡ object_clashes (sheet_of s.now) o }
 {
-    earlier(
-        object_clash(s, o, Sort::Gains),
-        object_clash(s, o, Sort::Offsets),
-    )
+    object_clash(s, o, Sort::Gains).or(object_clash(s, o, Sort::Offsets))
 }
 
 // The first clash of set v of object o: "in the rule's order, then gain before offset".
-#[tactic(auto, unfolding(crate::specs::Ranges::set_clashes))]
-fn set_clashes(s: &[u8], o: u16, v: u16) -> Clash
+#[tactic(auto, unfolding(crate::specs::Ranges::set_clashes, crate::specs::Clashes::earlier))]
+fn set_clashes(s: &[u8], o: u16, v: u16) -> Option<Clash>
     ensures { result ≡ set_clashes (sheet_of s.now) o v }
 {
-    let effective = earlier(
-        effective_clash(s, o, v, Sort::Gains),
-        effective_clash(s, o, v, Sort::Offsets),
-    );
-    let own = earlier(
-        own_clash(s, o, v, Sort::Gains),
-        own_clash(s, o, v, Sort::Offsets),
-    );
-    earlier(effective, own)
+    let effective = effective_clash(s, o, v, Sort::Gains).or(effective_clash(
+        s,
+        o,
+        v,
+        Sort::Offsets,
+    ));
+    let own = own_clash(s, o, v, Sort::Gains).or(own_clash(s, o, v, Sort::Offsets));
+    effective.or(own)
 }
 
 // The first clash of a record that breaks rule 18.
 #[tactic(auto, unfolding(crate::specs::Ranges::range_clashes))]
-pub fn range_clashes(s: &[u8], section: u32, k: u16) -> Clash
+pub fn range_clashes(s: &[u8], section: u32, k: u16) -> Option<Clash>
     ensures { result ≡ range_clashes (sheet_of s.now) section k }
 {
-    if section == OBJECTS as u32 {
+    if section == u32::from(OBJECTS) {
         object_clashes(s, k)
     } else {
         set_clashes(s, owner(s, k), k)

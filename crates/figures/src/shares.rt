@@ -5,7 +5,6 @@ ghost use Rattle.figures.specs.Shares.{has_share, share_figure, share_figures, s
 ghost use Rattle.profile.specs.Relations.{lone, share};
 ghost use Rattle.sheet.specs.Words.{sheet_of};
 
-use crate::lists::{no_figures, with_figure};
 use crate::{Figure, FigureNumber, Figures};
 use relations::objects::leader;
 use relations::records::{complement, top};
@@ -56,13 +55,11 @@ fn share_figure(s: &[u8], o: u16) -> Figure
 
 // The share of an object that has one, behind those before it.
 #[tactic(auto, unfolding(crate::specs::Shares::share_figures, crate::specs::Lists::first_figures))]
-fn with_share(s: &[u8], given: Figures, o: u16) -> Figures
-    ensures { result ≡ first_figures given (share_figures (sheet_of s.now) o) }
+fn push_share(s: &[u8], o: u16, given: &mut Figures)
+    ensures { given.new ≡ first_figures given.old (share_figures (sheet_of s.now) o) }
 {
     if has_share(s, o) {
-        with_figure(given, share_figure(s, o))
-    } else {
-        given
+        given.push(share_figure(s, o));
     }
 }
 
@@ -70,12 +67,9 @@ fn with_share(s: &[u8], given: Figures, o: u16) -> Figures
 pub fn shares(s: &[u8]) -> Figures
     ensures { result ≡ first_figures no_figures (share_list (sheet_of s.now)) }
 {
-    let n = count(s, OBJECTS);
-    let mut given = no_figures();
-    let mut o: u16 = 0;
-    while o < n {
-        given = with_share(s, given, o);
-        o += 1;
+    let mut given = Figures::new();
+    for o in 0..count(s, OBJECTS) {
+        push_share(s, o, &mut given);
     }
     given
 }

@@ -1,5 +1,5 @@
 -- The first clash with the members passed. Assumes nothing.
-use Rattle.std.proofs.Common.{◌≡◌, ◌≤◌, ◌-◌}
+use Rattle.std.proofs.Common.{◌≡◌}
 use Rattle.sheet.specs.Words.{sheet_of}
 use Rattle.sheet.specs.Layout.{entry}
 use Rattle.sheet.specs.Fields.{objects, complement_list}
@@ -8,7 +8,4 @@ use Rattle.figures.specs.Members.{member_clash}
 use Rattle.figures.proofs.members.leader_clash.Given as goal
 
 abbrev pub invariant-loop-i : goal.invariant-loop-i
-invariant-loop-i l = (l.i ≤ l.n) × (l.first ≡ first_below (λ i. member_clash (sheet_of l.s) l.l (entry (sheet_of l.s) objects l.l complement_list i)) l.i)
-
-abbrev pub decreases-loop-i : goal.decreases-loop-i
-decreases-loop-i l = l.n - l.i
+invariant-loop-i l = l.first ≡ first_below (λ i. member_clash (sheet_of l.s) l.l (entry (sheet_of l.s) objects l.l complement_list i)) l.i

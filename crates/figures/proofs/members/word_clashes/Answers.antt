@@ -1,17 +1,16 @@
-use Rattle.std.proofs.Common.{◌≡◌, ap, ◌∙◌, arith, add-one}
-use Rattle.figures.specs.Clashes.{first_below}
+use Rattle.std.proofs.Common.{◌≡◌, refl, ap, ◌∙◌, arith, add-one}
+use Rattle.figures.specs.Clashes.{earlier, first_below}
 use Rattle.figures.specs.Members.{word_clashes, compared_count}
 use Rattle.figures.proofs.members.word_clashes.Goals as goal
 
-pub loop-i-init : goal.loop-i-init
+pub loop-at-init : goal.loop-at-init
 unfolding first_below
-loop-i-init c = (omega arith, c.no_clash-first.ensures)
+loop-at-init c = refl
 
-pub loop-i-preserved : goal.loop-i-preserved
-unfolding first_below
-loop-i-preserved c = (omega arith, rw (add-one, c.earlier-first.ensures, c.loop-i.invariant.1, c.word_clash.ensures))
+pub loop-at-preserved : goal.loop-at-preserved
+unfolding earlier first_below
+loop-at-preserved c = rw (add-one, c.or-first.ensures, c.loop-at.invariant, c.word_clash.ensures) refl
 
 pub returns : goal.returns
 unfolding word_clashes
-returns c =
-    let e : c.loop-i.i ≡ compared_count = omega arith in c.loop-i.invariant.1 ∙ ap (first_below _) e
+returns c = let e : c.loop-at.at-index ≡ compared_count = omega arith in c.loop-at.invariant ∙ ap (first_below _) e
