@@ -11,6 +11,8 @@ use borrow.Author.Count.{below_more}
 use borrow.Author.Tests.{eqb-true, eqb-false, eq-eqb, ne_eqb, le-leb, ltb-true, ltb-false, lt-ltb, not-false}
 use lib.Dec.{eqb, leb, ltb}
 use lib.ListN.{length, get_or, set, length-set}
+use Rattle.std.specs.Prelude.{Some, None}
+use Rattle.std.specs.Option.{unwrap_or}
 use Rattle.sheet.specs.Words.{Sheet, sheet_of, word}
 use Rattle.sheet.specs.Layout.{count, offset, start, record_words, field, number, reference, entry}
 use Rattle.sheet.specs.Fields.{programmes, objects, references, value_sets, content_list, set_list, complement_list, set_gain}
@@ -87,6 +89,14 @@ pub past : (t : List ℕ) (x : ℕ) → length t ≤ x → ◌≡◌ {A = ℕ} 0
 past [] x l = refl
 past (c ∷ t) zero l = absurd (omega arith)
 past (c ∷ t) (suc x) l = past t x (le_of_suc-le-suc l)
+
+-- what is looked up, 0 past the end
+pub looked : (t : List ℕ) (x : ℕ) → unwrap_or (cond (ltb x (length t)) (Some (get_or t x 0)) None) 0 ≡ get_or t x 0
+looked t x =
+    (elim (ltb x (length t)) as (λ b. ltb x (length t) ≡ b → unwrap_or (cond b (Some (get_or t x 0)) None) 0 ≡ get_or t x 0) [
+      | true ↦ λ e. refl
+      | false ↦ λ e. past t x (ltb-false x (length t) e)
+    ]) refl
 
 module _ (f e : ℕ → ℕ) (t₀ : List ℕ) where
   pub noted_none : Noted f e 0 t₀ t₀

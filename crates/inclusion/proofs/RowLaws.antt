@@ -95,13 +95,13 @@ module _ (s : Sheet) (t : List ℕ) (l : ℕ) (same : (i : ℕ) → i < number s
   )
 
 -- each group is kept where each row is
-pub rows_kept : (s : Sheet) (t list partners : List ℕ) (g : ℕ) → g < 65535 → RowsComplete s list partners g → ((i : ℕ) → i < g → RowKept s t (get_or list i 0) (get_or partners i 0))
+pub rows_kept : (s : Sheet) (t list partners : List ℕ) (g : ℕ) → RowsComplete s list partners g → ((i : ℕ) → i < g → RowKept s t (get_or list i 0) (get_or partners i 0))
     → (l : ℕ) → l < count s objects → GroupKept s t l
-rows_kept s t list partners g few all rows l k =
+rows_kept s t list partners g all rows l k =
     (elim (any other n) as (λ b. any other n ≡ b → GroupKept s t l) [
       | true ↦ λ e.
           let w = any_witness other n e in
-          let r = (all few).0 l k w.0 w.1 in
+          let r = all.0 l k w.0 w.1 in
           ⊎_elim
           (λ q. absurd (true≢false (sym w.2 ∙ ap not (eq-eqb _ _ (ap (λ (x : ℕ). get_or t x 0) (sym r.2) ∙ q ∙ ap (λ (x : ℕ). get_or t x 0) r.3)))))
           (λ kept. subst (λ (x : ℕ). GroupKept s t x) r.2 kept)

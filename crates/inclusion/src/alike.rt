@@ -7,19 +7,17 @@ ghost use Rattle.sheet.specs.Layout.{offset};
 ghost use Rattle.sheet.specs.Words.{sheet_of};
 ghost use Rattle.tables.specs.steps.Marks.{Standing};
 
-use crate::marks::at;
+use crate::marks::told_at;
 use crate::sets::sets_differ;
 use sheet::fields::{OBJECTS, SET_SPAN, VALUE_SETS};
 use sheet::layout::{count, field, number, offset};
-use tables::Mark;
 use tables::marks::mark_at;
 
 // The set that stands for a set.
 pub fn representative(alike: &[u16], v: u16) -> u16
     ensures { result ≡ representative alike.now v }
 {
-    let a = at(alike, v);
-    if a == 0 { v } else { a - 1 }
+    told_at(alike, v).unwrap_or(v)
 }
 
 // The first set with the words of v among the n sets of a span, of which 8 at most are tried; v where there is none. Section 7 begins at
@@ -27,19 +25,10 @@ pub fn representative(alike: &[u16], v: u16) -> u16
 fn first_alike(s: &[u8], base: u16, from: u16, n: u16, v: u16) -> u16
     ensures { (v < 65535 → result < 65535) × (base ≡ offset (sheet_of s.now) value_sets → sets_differ (sheet_of s.now) result v ≡ false) }
 {
-    if 65527 < from {
-        return v;
-    }
-    let mut i: u16 = 0;
-    while i < 8 {
-        if n <= i {
-            return v;
-        }
-        let u = from + i;
+    for u in from..from.saturating_add(n.min(8)) {
         if !sets_differ(s, base, u, v) {
             return u;
         }
-        i += 1;
     }
     v
 }
@@ -48,11 +37,10 @@ fn first_alike(s: &[u8], base: u16, from: u16, n: u16, v: u16) -> u16
 fn leader_alike(s: &[u8], base: u16, owners: &[u16], leaders: &[u16], v: u16) -> u16
     ensures { (v < 65535 → result < 65535) × (base ≡ offset (sheet_of s.now) value_sets → sets_differ (sheet_of s.now) result v ≡ false) }
 {
-    let c = at(owners, v);
-    if c == 0 {
+    let Some(owner) = told_at(owners, v) else {
         return v;
-    }
-    let l = representative(leaders, c - 1);
+    };
+    let l = representative(leaders, owner);
     first_alike(
         s,
         base,
@@ -69,11 +57,8 @@ pub fn fill_alike(s: &[u8], owners: &[u16], leaders: &[u16], table: &mut [u16])
 {
     let base = offset(s, VALUE_SETS);
     let n = count(s, VALUE_SETS);
-    let mut v: u16 = 0;
-    while v < n {
-        let u = leader_alike(s, base, owners, leaders, v);
-        let more = u + 1;
-        mark_at(table, v as u32, Mark::Store(more));
-        v += 1;
+    for v in 0..n {
+        let more = leader_alike(s, base, owners, leaders, v) + 1;
+        mark_at(table, v as u32, |_| more);
     }
 }

@@ -1,12 +1,12 @@
 // What a programme includes and the sets that it names, entered into a table by object (see groups).
-ghost use Rattle.std.specs.Prelude.{length, true, ◌≡◌};
+ghost use Rattle.std.specs.Prelude.{IsSome, length, ◌≡◌};
 ghost use Rattle.inclusion.specs.steps.Entering.{Entered, ObjectsEntered, SetsNoted, object_from, Begins};
 ghost use Rattle.sheet.specs.Words.{sheet_of};
 ghost use Rattle.tables.specs.steps.Right.{Owners};
 
-use crate::SectionOffsets;
 use crate::alike::representative;
-use crate::marks::{at, change};
+use crate::marks::{change, told_at};
+use crate::{SectionOffsets, SetTables};
 use sheet::fields::{CONTENT_LIST, PROGRAMMES, SET_LIST, VALUE_SETS};
 use sheet::layout::{count, field, number};
 use sheet::words::{word, word_count};
@@ -23,22 +23,18 @@ pub fn object_from(s: &[u8], sections: SectionOffsets, from: u16, i: u16) -> u16
 }
 
 // Marks the objects that the programme includes with 1, where 0 stood.
-fn enter_objects(s: &[u8], sections: SectionOffsets, p: u16, included: &mut [u16]) -> bool
-    ensures { (length included.new ≡ length included.old) × (result ≡ true → Begins (sheet_of s.now) sections → ObjectsEntered (sheet_of s.now) p included.old included.new) }
+fn enter_objects(s: &[u8], sections: SectionOffsets, p: u16, included: &mut [u16]) -> Option<()>
+    ensures { (length included.new ≡ length included.old) × (IsSome result → Begins (sheet_of s.now) sections → ObjectsEntered (sheet_of s.now) p included.old included.new) }
 {
     let from = field(s, PROGRAMMES, p, CONTENT_LIST);
     let n = number(s, PROGRAMMES, p, CONTENT_LIST);
     if word_count(s) < sections.references as usize + (from as usize + n as usize) {
-        return false;
+        return None;
     }
-    let mut i: u16 = 0;
-    while i < n {
-        if !change(included, object_from(s, sections, from, i), 0, 1) {
-            return false;
-        }
-        i += 1;
+    for i in 0..n {
+        change(included, object_from(s, sections, from, i), 0, 1)?;
     }
-    true
+    Some(())
 }
 
 // Notes the sets that the programme names at their objects, where 1 stood, each by the set that stands for it. Each has to be one of the
@@ -46,59 +42,45 @@ fn enter_objects(s: &[u8], sections: SectionOffsets, p: u16, included: &mut [u16
 fn enter_sets(
     s: &[u8],
     sections: SectionOffsets,
-    owners: &[u16],
-    alike: &[u16],
+    sets: &SetTables,
     p: u16,
     included: &mut [u16],
-) -> bool
-    ensures { (length included.new ≡ length included.old) × (result ≡ true → Begins (sheet_of s.now) sections → Owners (sheet_of s.now) owners.now → SetsNoted (sheet_of s.now) alike.now p included.old included.new) }
+) -> Option<()>
+    ensures { (length included.new ≡ length included.old) × (IsSome result → Begins (sheet_of s.now) sections → Owners (sheet_of s.now) sets.now.owners.now → SetsNoted (sheet_of s.now) sets.now.alike.now p included.old included.new) }
 {
     let base = sections.references as usize;
     let total = count(s, VALUE_SETS);
     let from = field(s, PROGRAMMES, p, SET_LIST) as usize;
     let n = number(s, PROGRAMMES, p, SET_LIST);
     if word_count(s) < base + (from + n as usize) {
-        return false;
+        return None;
     }
-    let mut j: u16 = 0;
-    while j < n {
+    for j in 0..n {
         let v = word(s, base + (from + j as usize));
         if total <= v {
-            return false;
+            return None;
         }
-        let c = at(owners, v);
-        if c == 0 {
-            return false;
-        }
-        let u = representative(alike, v);
-        if 65533 < u {
-            return false;
-        }
-        if !change(included, c - 1, 1, u + 2) {
-            return false;
-        }
-        j += 1;
+        let owner = told_at(sets.owners, v)?;
+        let more = representative(sets.alike, v).checked_add(2)?;
+        change(included, owner, 1, more)?;
     }
-    true
+    Some(())
 }
 
 // What the programme includes and, with `both`, the sets that it names, into a table of noughts.
 pub fn enter(
     s: &[u8],
     sections: SectionOffsets,
-    owners: &[u16],
-    alike: &[u16],
+    sets: &SetTables,
     both: bool,
     p: u16,
     included: &mut [u16],
-) -> bool
-    ensures { (length included.new ≡ length included.old) × (result ≡ true → Begins (sheet_of s.now) sections → Owners (sheet_of s.now) owners.now → Entered (sheet_of s.now) both alike.now p included.old included.new) }
+) -> Option<()>
+    ensures { (length included.new ≡ length included.old) × (IsSome result → Begins (sheet_of s.now) sections → Owners (sheet_of s.now) sets.now.owners.now → Entered (sheet_of s.now) both sets.now.alike.now p included.old included.new) }
 {
-    if !enter_objects(s, sections, p, included) {
-        return false;
-    }
+    enter_objects(s, sections, p, included)?;
     if !both {
-        return true;
+        return Some(());
     }
-    enter_sets(s, sections, owners, alike, p, included)
+    enter_sets(s, sections, sets, p, included)
 }

@@ -1,6 +1,6 @@
 // The groups of a sheet, by what a table has for their members: 0 for an object that the programme does not include, 1 for one that it
 // includes, and where it names a set for it, 2 more than the number of that set.
-ghost use Rattle.std.specs.Prelude.{ℕ, ◌+◌, ◌-◌, ◌<◌, ◌≤◌, get_or, length, false, true, ◌⊎◌, ◌≡◌};
+ghost use Rattle.std.specs.Prelude.{ℕ, Some, ◌+◌, ◌-◌, ◌<◌, ◌≤◌, get_or, length, false, true, ◌⊎◌, ◌≡◌};
 ghost use Rattle.inclusion.specs.steps.Groups.{GroupKept, ListKept, PairKept, many_listed};
 ghost use Rattle.inclusion.specs.steps.Entering.{Begins};
 ghost use Rattle.inclusion.specs.steps.Rows.{OnlyComplement, RowAdded, RowsAdded, RowsComplete};
@@ -9,10 +9,10 @@ ghost use Rattle.sheet.specs.Fields.{objects, value_sets};
 ghost use Rattle.sheet.specs.Layout.{count, offset};
 ghost use Rattle.sheet.specs.Words.{sheet_of};
 
-use crate::SectionOffsets;
 use crate::marks::at;
 use crate::sets::sets_differ;
-use relations::entries::one;
+use crate::{Rows, SectionOffsets};
+use profile::counting::how_many;
 use sheet::fields::{COMPLEMENT_LIST, OBJECTS};
 use sheet::layout::{count, entry, field, number};
 use sheet::words::{word, word_count};
@@ -50,17 +50,15 @@ fn members_kept(
     if word_count(s) < base + (first as usize + n as usize) {
         return false;
     }
-    let mut many: u32 = one(e != 0) as u32;
-    let mut noted: u32 = one(1 < e) as u32;
-    let mut i: u16 = 0;
-    while i < n {
+    let mut many = u32::from(e != 0);
+    let mut noted = u32::from(1 < e);
+    for i in 0..n {
         let c = at(included, word(s, base + (first as usize + i as usize)));
         if noted_differ(s, sets, e, c) {
             return false;
         }
-        many += one(c != 0) as u32;
-        noted += one(1 < c) as u32;
-        i += 1;
+        many += u32::from(c != 0);
+        noted += u32::from(1 < c);
     }
     let all = n as u32 + 1;
     (many == all) & ((noted == 0) | (noted == all))
@@ -99,16 +97,13 @@ pub fn group_kept(s: &[u8], sections: SectionOffsets, included: &[u16], l: u16, 
 fn one_included(s: &[u8], base: u16, first: u16, n: u16, included: &[u16], e: u16) -> bool
     ensures { result ≡ true → many_listed (sheet_of s.now) included.now base first n e ≤ 1 }
 {
-    let mut many: u32 = one(e != 0) as u32;
-    let mut i: u16 = 0;
-    while i < n {
-        let c = at(
+    let listed = how_many(n, |i| {
+        at(
             included,
             word(s, base as usize + (first as usize + i as usize)),
-        );
-        many += one(c != 0) as u32;
-        i += 1;
-    }
+        ) != 0
+    });
+    let many = u32::from(e != 0) + u32::from(listed);
     many <= 1
 }
 
@@ -130,105 +125,67 @@ fn row_kept(s: &[u8], sections: SectionOffsets, included: &[u16], l: u16, m: u16
 }
 
 // Whether a row says nothing against the group of its leader: the table has one number for both, or the group was asked for last.
-fn row_passes(included: &[u16], asked: u32, l: u16, m: u16) -> bool
-    ensures { result ≡ true → (get_or included.now l 0 ≡ get_or included.now m 0) ⊎ (l ≡ asked) }
+fn row_passes(included: &[u16], asked: Option<u16>, l: u16, m: u16) -> bool
+    ensures { result ≡ true → (get_or included.now l 0 ≡ get_or included.now m 0) ⊎ (asked ≡ Some l) }
 {
-    if at(included, l) == at(included, m) {
-        return true;
-    }
-    l as u32 == asked
+    (at(included, l) == at(included, m)) || (asked == Some(l))
 }
 
-// The groups of all leaders, by g rows, each a leader and a complement. A group is asked for only where the table has two numbers for a
-// row.
-pub fn groups_kept(
-    s: &[u8],
-    sections: SectionOffsets,
-    leading: &[u16],
-    partners: &[u16],
-    g: u16,
-    included: &[u16],
-) -> bool
-    ensures { result ≡ true → Begins (sheet_of s.now) sections → RowsComplete (sheet_of s.now) leading.now partners.now g → (l : ℕ) → l < count (sheet_of s.now) objects → GroupKept (sheet_of s.now) included.now l }
+// The groups of all leaders, by their rows. A group is asked for only where the table has two numbers for a row.
+pub fn groups_kept(s: &[u8], sections: SectionOffsets, rows: &Rows, included: &[u16]) -> bool
+    ensures { result ≡ true → Begins (sheet_of s.now) sections → RowsComplete (sheet_of s.now) rows.now.leading.now rows.now.partners.now (length rows.now.leading.now) → (l : ℕ) → l < count (sheet_of s.now) objects → GroupKept (sheet_of s.now) included.now l }
 {
-    let n = g as usize;
-    if g == 65535 {
+    let n = rows.leading.len();
+    if rows.partners.len() < n {
         return false;
     }
-    if leading.len() < n {
-        return false;
-    }
-    if partners.len() < n {
-        return false;
-    }
-    let mut asked: u32 = 65536;
-    let mut i: usize = 0;
-    while i < n {
-        let l = leading[i];
-        let m = partners[i];
+    let mut asked: Option<u16> = None;
+    for i in 0..n {
+        let l = rows.leading[i];
+        let m = rows.partners[i];
         if !row_passes(included, asked, l, m) {
             if !row_kept(s, sections, included, l, m) {
                 return false;
             }
-            asked = l as u32;
+            asked = Some(l);
         }
-        i += 1;
     }
     true
 }
 
-// Adds a row to g rows, and tells how many there are: 65535 where there is no place for it.
-fn add_row(leading: &mut [u16], partners: &mut [u16], g: u16, l: u16, m: u16) -> u16
-    ensures { (length leading.new ≡ length leading.old) × (length partners.new ≡ length partners.old) × (result < 65535 → (result ≡ g + 1) × RowAdded leading.old leading.new g l × RowAdded partners.old partners.new g m) }
+// Adds a row to g rows, where there is a place for it, and tells how many there are.
+fn add_row(leading: &mut [u16], partners: &mut [u16], g: u16, l: u16, m: u16) -> Option<u16>
+    ensures { (length leading.new ≡ length leading.old) × (length partners.new ≡ length partners.old) × ((more : ℕ) → result ≡ Some more → (more ≡ g + 1) × RowAdded leading.old leading.new g l × RowAdded partners.old partners.new g m) }
 {
     let i = g as usize;
-    if g == 65535 {
-        return g;
-    }
-    if leading.len() <= i {
-        return 65535;
-    }
-    if partners.len() <= i {
-        return 65535;
+    if (leading.len() <= i) || (partners.len() <= i) {
+        return None;
     }
     leading[i] = l;
     partners[i] = m;
-    g + 1
+    g.checked_add(1)
 }
 
 // Adds a row for each complement of an object, as long as there is place.
-fn add_rows(s: &[u8], leading: &mut [u16], partners: &mut [u16], before: u16, l: u16) -> u16
-    ensures { (length leading.new ≡ length leading.old) × (length partners.new ≡ length partners.old) × RowsAdded (sheet_of s.now) leading.old partners.old leading.new partners.new before l result }
+fn add_rows(s: &[u8], leading: &mut [u16], partners: &mut [u16], before: u16, l: u16) -> Option<u16>
+    ensures { (length leading.new ≡ length leading.old) × (length partners.new ≡ length partners.old) × ((g : ℕ) → result ≡ Some g → RowsAdded (sheet_of s.now) leading.old partners.old leading.new partners.new before l g) }
 {
     let n = number(s, OBJECTS, l, COMPLEMENT_LIST);
-    let mut g: u16 = before;
-    let mut j: u16 = 0;
-    while j < n {
-        g = add_row(
-            leading,
-            partners,
-            g,
-            l,
-            entry(s, OBJECTS, l, COMPLEMENT_LIST, j),
-        );
-        if g == 65535 {
-            return g;
-        }
-        j += 1;
+    let mut g = before;
+    for j in 0..n {
+        let m = entry(s, OBJECTS, l, COMPLEMENT_LIST, j);
+        g = add_row(leading, partners, g, l, m)?;
     }
-    g
+    Some(g)
 }
 
-// Lists each leader with each of its complements, and tells how many rows there are: 65535 where there is no place for them.
-pub fn list_leaders(s: &[u8], leading: &mut [u16], partners: &mut [u16]) -> u16
-    ensures { (length leading.new ≡ length leading.old) × (length partners.new ≡ length partners.old) × RowsComplete (sheet_of s.now) leading.new partners.new result }
+// Lists each leader with each of its complements, where there is place for them, and tells how many rows there are.
+pub fn list_leaders(s: &[u8], leading: &mut [u16], partners: &mut [u16]) -> Option<u16>
+    ensures { (length leading.new ≡ length leading.old) × (length partners.new ≡ length partners.old) × ((g : ℕ) → result ≡ Some g → RowsComplete (sheet_of s.now) leading.new partners.new g) }
 {
-    let n = count(s, OBJECTS);
     let mut g: u16 = 0;
-    let mut l: u16 = 0;
-    while l < n {
-        g = add_rows(s, leading, partners, g, l);
-        l += 1;
+    for l in 0..count(s, OBJECTS) {
+        g = add_rows(s, leading, partners, g, l)?;
     }
-    g
+    Some(g)
 }

@@ -8,10 +8,24 @@ pub mod groups;
 pub mod marks;
 pub mod sets;
 
-// Where sections 6, 2 and 7 begin.
+// Where sections 6, 2 and 7 begin. That they do stands as a premise in each contract: a public function asks nothing of its callers.
 #[derive(Clone, Copy)]
 pub struct SectionOffsets {
     pub references: u16,
     pub contents: u16,
     pub sets: u16,
+}
+
+// For each value set one more than its object, and one more than the set that stands for it.
+#[derive(Clone, Copy)]
+pub struct SetTables<'a> {
+    pub owners: &'a [u16],
+    pub alike: &'a [u16],
+}
+
+// The groups as rows, each a leader and one of its complements.
+#[derive(Clone, Copy)]
+pub struct Rows<'a> {
+    pub leading: &'a [u16],
+    pub partners: &'a [u16],
 }

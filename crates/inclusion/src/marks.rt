@@ -1,26 +1,34 @@
 // Places of a table, by number.
-ghost use Rattle.std.specs.Prelude.{◌<◌, eqb, get_or, length, cond, true, ◌≡◌};
+ghost use Rattle.std.specs.Prelude.{◌-◌, ◌<◌, ◌≤◌, IsSome, SomeIff, eqb, get_or, length, cond, ◌≡◌};
 ghost use Rattle.tables.specs.steps.Marks.{Standing};
 
+use tables::reads::look;
+
 // Writes `to` at a place where `from` stands.
-pub fn change(table: &mut [u16], x: u16, from: u16, to: u16) -> bool
-    ensures { (length table.new ≡ length table.old) × (result ≡ true → (x < length table.old) × (get_or table.old x 0 ≡ from) × Standing (λ z. cond (eqb x z) to (get_or table.old z 0)) table.new) }
+pub fn change(table: &mut [u16], x: u16, from: u16, to: u16) -> Option<()>
+    ensures { (length table.new ≡ length table.old) × (IsSome result → (x < length table.old) × (get_or table.old x 0 ≡ from) × Standing (λ z. cond (eqb x z) to (get_or table.old z 0)) table.new) }
 {
     let i = x as usize;
     if table.len() <= i {
-        return false;
+        return None;
     }
     if table[i] != from {
-        return false;
+        return None;
     }
     table[i] = to;
-    true
+    Some(())
 }
 
 // What stands at a place, 0 past the end.
 pub fn at(table: &[u16], x: u16) -> u16
     ensures { result ≡ get_or table.now x 0 }
 {
-    let i = x as usize;
-    if i < table.len() { table[i] } else { 0 }
+    look(table, x).unwrap_or(0)
+}
+
+// The number that a place tells of, one less than what stands there: none where that is 0, or past the end.
+pub fn told_at(table: &[u16], x: u16) -> Option<u16>
+    ensures { SomeIff result (1 ≤ get_or table.now x 0) (get_or table.now x 0 - 1) }
+{
+    at(table, x).checked_sub(1)
 }

@@ -12,10 +12,8 @@ fn bytes_differ(s: &[u8], a: usize, b: usize) -> bool
     ensures { result ≡ any (λ f. not (eqb (get_or s.now (a + f) 0) (get_or s.now (b + f) 0))) 14 }
 {
     let mut found = false;
-    let mut f: usize = 0;
-    while f < 14 {
-        found = found | (s[a + f] != s[b + f]);
-        f += 1;
+    for f in 0..14 {
+        found |= s[a + f] != s[b + f];
     }
     found
 }

@@ -1,7 +1,19 @@
 -- Laws of the tests on tests. Assumes nothing.
 use mathlib.Core.Path.{◌≡◌, refl, sym}
-use mathlib.Core.Bool.{Bool, true, false, true≢false, not, ◌&&◌, ◌||◌}
+use Prim.Native.Nat.{◌≤◌}
+use mathlib.Core.Bool.{Bool, true, false, true≢false, cond, not, ◌&&◌, ◌||◌}
 use mathlib.Core.Logic.{◌⊎◌, inl, inr}
+use native.Mathlib.Omega.{arith}
+use mir.Val.{bool_byte}
+
+-- a test as a number
+pub byte_cond : (b : Bool) → bool_byte b ≡ cond b 1 0
+byte_cond true = refl
+byte_cond false = refl
+
+pub byte_le : (b : Bool) → bool_byte b ≤ 1
+byte_le true = omega arith
+byte_le false = omega arith
 
 pub or_true : (b : Bool) → (b || true) ≡ true
 or_true true = refl

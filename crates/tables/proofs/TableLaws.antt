@@ -9,7 +9,8 @@ use borrow.Author.Tests.{eq-eqb, ne_eqb, lt-ltb, le-ltb, le-leb, ltb-true, ltb-f
 use mathlib.Core.List.{List}
 use lib.Dec.{eqb, leb, ltb}
 use lib.ListN.{length, get_or}
-use Rattle.std.specs.Prelude.{Some, None, drop, slice_range}
+use Rattle.std.specs.Option.{SomeIff, unwrap_or}
+use Rattle.std.specs.Prelude.{Option, Some, None, drop, slice_range}
 use Rattle.std.proofs.lemmas.List.{get_or-take, get_or-drop}
 use Rattle.std.proofs.lemmas.Option.{cond_some}
 use Rattle.sheet.specs.Words.{Sheet}
@@ -66,6 +67,12 @@ pub sum_below : (f : ℕ → ℕ) (m n : ℕ) → m ≤ n → sum f m ≤ sum f 
 unfolding sum
 sum_below f m zero l = let e : m ≡ 0 = omega arith in rw e (omega arith)
 sum_below f m (suc n) l = ⊎_elim (λ q. rw q (omega arith)) (λ k. omega (arith, sum_below f m n (omega arith))) (eq-or-lt_of_le l)
+
+-- what a number tells, by one less than it
+pub told_by : (o : Option ℕ) (d c : ℕ) → SomeIff o (1 ≤ c) (c - 1) → unwrap_or o d ≡ told d c
+unfolding told
+told_by None d c e = let z : c ≡ 0 = omega (arith, e) in rw z refl
+told_by (Some v) d c e = rw (ne_eqb c 0 (λ q. omega (arith, q, e.0))) e.1
 
 -- a place of a part of a table
 pub part_place : (t u : List ℕ) (from to : ℕ) → u ≡ slice_range t from to → (k : ℕ) → k < to - from → get_or u k 0 ≡ get_or t (from + k) 0

@@ -28,10 +28,10 @@ RowsListed s t u g l j =
     × ((i : ℕ) → i < j → HasRow t u g l (entry s objects l complement_list i))
     × ((i : ℕ) → i < g → OnlyComplement s (get_or t i 0) (get_or u i 0))
 
--- fewer than 65535 rows have all
+-- the rows have all
 abbrev pub RowsComplete : Sheet → List ℕ → List ℕ → ℕ → Type 0
-RowsComplete s t u g = g < 65535 → RowsListed s t u g (count s objects) 0
+RowsComplete s t u g = RowsListed s t u g (count s objects) 0
 
 -- the rows of object l are added to those of the objects before it
 abbrev pub RowsAdded : Sheet → List ℕ → List ℕ → List ℕ → List ℕ → ℕ → ℕ → ℕ → Type 0
-RowsAdded s t u t' u' before l g = g < 65535 → (before < 65535) × (RowsListed s t u before l 0 → RowsListed s t' u' g (l + 1) 0)
+RowsAdded s t u t' u' before l g = RowsListed s t u before l 0 → RowsListed s t' u' g (l + 1) 0

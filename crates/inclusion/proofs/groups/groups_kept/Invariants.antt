@@ -1,6 +1,5 @@
 -- The rows passed are kept. Assumes nothing.
-use Prim.Native.Nat.{ℕ, ◌-◌, ◌≤◌, ◌<◌}
-use lib.ListN.{get_or}
+use Rattle.std.proofs.Common.{ℕ, ◌<◌, ◌≡◌, Some, get_or, length}
 use Rattle.sheet.specs.Words.{sheet_of}
 use Rattle.inclusion.specs.steps.Groups.{GroupKept}
 use Rattle.inclusion.specs.steps.Entering.{Begins}
@@ -8,7 +7,8 @@ use Rattle.inclusion.specs.steps.Rows.{RowKept, RowsComplete}
 use Rattle.inclusion.proofs.groups.groups_kept.Given as goal
 
 abbrev pub invariant-loop-i : goal.invariant-loop-i
-invariant-loop-i l = (l.i ≤ l.n) × (Begins (sheet_of l.s) l.sections → RowsComplete (sheet_of l.s) l.leading l.partners l.g → (l.asked < 65536 → GroupKept (sheet_of l.s) l.included l.asked) × ((j : ℕ) → j < l.i → RowKept (sheet_of l.s) l.included (get_or l.leading j 0) (get_or l.partners j 0)))
-
-abbrev pub decreases-loop-i : goal.decreases-loop-i
-decreases-loop-i l = l.n - l.i
+invariant-loop-i l =
+    Begins (sheet_of l.s) l.sections
+    → RowsComplete (sheet_of l.s) l.rows.leading.now l.rows.partners.now (length l.rows.leading.now)
+    → ((k : ℕ) → l.asked ≡ Some k → GroupKept (sheet_of l.s) l.included k)
+    × ((j : ℕ) → j < l.i → RowKept (sheet_of l.s) l.included (get_or l.rows.leading.now j 0) (get_or l.rows.partners.now j 0))

@@ -1,18 +1,13 @@
 -- The leader is member 0, complement i the one after. Assumes nothing.
-use Rattle.std.proofs.Common.{◌≡◌, ◌<◌, Bool, true, false, cond, refl, sym, arith}
-use mir.Val.{bool_byte}
+use Rattle.std.proofs.Common.{◌<◌, sym, arith}
 use Rattle.profile.specs.Relations.{member, members}
+use Rattle.profile.proofs.BoolLaws.{byte_cond}
 use Rattle.profile.proofs.SumLaws.{how_many_shift}
 use Rattle.sheet.specs.Fields.{objects, complement_list}
 use Rattle.sheet.specs.Layout.{number}
 use Rattle.sheet.specs.Words.{sheet_of}
 use Rattle.tables.specs.steps.Members.{how_many_members}
 use Rattle.tables.proofs.members.members_passing.Goals as goal
-
--- a test as a number
-byte_cond : (b : Bool) → bool_byte b ≡ cond b 1 0
-byte_cond true = refl
-byte_cond false = refl
 
 pub returns : goal.returns
 unfolding how_many_members members member
