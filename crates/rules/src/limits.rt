@@ -26,15 +26,15 @@ pub fn rule7(s: &[u8], section: u8, k: u16) -> bool
     ensures { result ≡ rule7 (sheet_of s.now) section k }
 {
     match section {
-        1 => outside(s, PROGRAMMES_LIMIT, count(s, PROGRAMMES)),
-        2 => outside(s, CONTENTS_LIMIT, count(s, CONTENTS)),
-        3 => outside(s, OBJECTS_LIMIT, count(s, OBJECTS)),
-        4 => exceeds(
+        PROGRAMMES => outside(s, PROGRAMMES_LIMIT, count(s, PROGRAMMES)),
+        CONTENTS => outside(s, CONTENTS_LIMIT, count(s, CONTENTS)),
+        OBJECTS => outside(s, OBJECTS_LIMIT, count(s, OBJECTS)),
+        PACKS => exceeds(
             s,
             PACKS_LIMIT,
             u64::from(how_many(count(s, PACKS), |k| field(s, PACKS, k, PACK_KIND) == 3)),
         ),
-        5 => outside(s, TRACKS_LIMIT, count(s, TRACKS)),
+        TRACKS => outside(s, TRACKS_LIMIT, count(s, TRACKS)),
         _ => false,
     }
 }
@@ -43,7 +43,7 @@ pub fn rule8(s: &[u8], section: u8, k: u16) -> bool
     ensures { result ≡ rule8 (sheet_of s.now) section k }
 {
     match section {
-        1 => {
+        PROGRAMMES => {
             outside(
                 s,
                 PROGRAMME_CONTENTS_LIMIT,
@@ -58,12 +58,12 @@ pub fn rule8(s: &[u8], section: u8, k: u16) -> bool
                 number(s, PROGRAMMES, k, PROGRAMME_LABELS) as u64,
             )
         }
-        2 => exceeds(
+        CONTENTS => exceeds(
             s,
             LABELS_LIMIT,
             number(s, CONTENTS, k, CONTENT_LABELS) as u64,
         ),
-        3 => {
+        OBJECTS => {
             exceeds(s, CHILDREN_LIMIT, number(s, OBJECTS, k, CHILD_LIST) as u64)
                 | exceeds(
                     s,

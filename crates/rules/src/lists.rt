@@ -27,11 +27,11 @@ pub fn rule4(s: &[u8], section: u8, k: u16) -> bool
     ensures { result ≡ rule4 (sheet_of s.now) section k }
 {
     match section {
-        1 => beyond(s, REFERENCES, PROGRAMMES, k, CONTENT_LIST)
+        PROGRAMMES => beyond(s, REFERENCES, PROGRAMMES, k, CONTENT_LIST)
             | beyond(s, REFERENCES, PROGRAMMES, k, SET_LIST)
             | beyond(s, REFERENCES, PROGRAMMES, k, PROGRAMME_LABELS),
-        2 => beyond(s, REFERENCES, CONTENTS, k, CONTENT_LABELS),
-        3 => {
+        CONTENTS => beyond(s, REFERENCES, CONTENTS, k, CONTENT_LABELS),
+        OBJECTS => {
             beyond(s, REFERENCES, OBJECTS, k, TRACK_LIST)
                 | beyond(s, REFERENCES, OBJECTS, k, CHILD_LIST)
                 | beyond(s, REFERENCES, OBJECTS, k, COMPLEMENT_LIST)
@@ -78,16 +78,16 @@ pub fn rule5(s: &[u8], first: &[u16], second: &[u16], section: u8, k: u16) -> bo
     ensures { LacksRight (sheet_of s.now) (first_target section) first.now → LacksRight (sheet_of s.now) (second_target section) second.now → result ≡ rule5 (sheet_of s.now) section k }
 {
     match section {
-        1 => list_lacks_by(s, first, CONTENTS, PROGRAMMES, k, CONTENT_LIST)
+        PROGRAMMES => list_lacks_by(s, first, CONTENTS, PROGRAMMES, k, CONTENT_LIST)
             | list_lacks_by(s, second, VALUE_SETS, PROGRAMMES, k, SET_LIST),
-        2 => lacks(s, OBJECTS, field(s, CONTENTS, k, CONTENT_OBJECT)),
-        3 => {
+        CONTENTS => lacks(s, OBJECTS, field(s, CONTENTS, k, CONTENT_OBJECT)),
+        OBJECTS => {
             has_pack(s, k) & lacks(s, PACKS, pack_of(s, k))
                 | list_lacks_by(s, first, TRACKS, OBJECTS, k, TRACK_LIST)
                 | list_lacks_by(s, second, OBJECTS, OBJECTS, k, CHILD_LIST)
                 | list_lacks_by(s, second, OBJECTS, OBJECTS, k, COMPLEMENT_LIST)
         }
-        5 => lacks(s, PACKS, field(s, TRACKS, k, TRACK_PACK)),
+        TRACKS => lacks(s, PACKS, field(s, TRACKS, k, TRACK_PACK)),
         _ => false,
     }
 }
@@ -96,8 +96,8 @@ pub fn rule9(s: &[u8], next: &[u16], section: u8, k: u16) -> bool
     ensures { RepeatRight (sheet_of s.now) next.now → result ≡ rule9 (sheet_of s.now) section k }
 {
     match section {
-        1 => repeats_by(s, next, PROGRAMMES, k, PROGRAMME_LABELS),
-        2 => repeats_by(s, next, CONTENTS, k, CONTENT_LABELS),
+        PROGRAMMES => repeats_by(s, next, PROGRAMMES, k, PROGRAMME_LABELS),
+        CONTENTS => repeats_by(s, next, CONTENTS, k, CONTENT_LABELS),
         _ => false,
     }
 }

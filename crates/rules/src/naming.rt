@@ -14,7 +14,9 @@ use crate::repeats::repeats_by;
 use profile::counting::{any, how_many};
 use relations::entries::{lists, times};
 use relations::sets::has_set;
-use sheet::fields::{CHILD_LIST, CONTENT_LIST, CONTENT_OBJECT, CONTENTS, OBJECTS, PROGRAMMES};
+use sheet::fields::{
+    CHILD_LIST, CONTENT_LIST, CONTENT_OBJECT, CONTENTS, OBJECTS, PROGRAMMES, VALUE_SETS,
+};
 use sheet::layout::{count, field};
 
 // How often all lists at a position of the objects name x.
@@ -81,8 +83,8 @@ pub fn rule11(s: &[u8], table: &[u16], section: u8, k: u16) -> bool
     ensures { (section ≡ objects → Named (sheet_of s.now) table.now) → (section ≡ value_sets → Spanned (sheet_of s.now) table.now) → result ≡ rule11 (sheet_of s.now) section k }
 {
     match section {
-        3 => !named_once(s, table, k),
-        7 => !spanned_once(s, table, k),
+        OBJECTS => !named_once(s, table, k),
+        VALUE_SETS => !spanned_once(s, table, k),
         _ => false,
     }
 }
@@ -92,8 +94,8 @@ pub fn rule12(s: &[u8], table: &[u16], section: u8, k: u16) -> bool
     ensures { (section ≡ programmes → RepeatRight (sheet_of s.now) table.now) → (section ≡ contents → Listed (sheet_of s.now) table.now) → result ≡ rule12 (sheet_of s.now) section k }
 {
     match section {
-        1 => repeats_by(s, table, PROGRAMMES, k, CONTENT_LIST),
-        2 => !is_listed(s, table, k),
+        PROGRAMMES => repeats_by(s, table, PROGRAMMES, k, CONTENT_LIST),
+        CONTENTS => !is_listed(s, table, k),
         _ => false,
     }
 }

@@ -20,11 +20,11 @@ pub fn rule17(s: &[u8], owners: &[u16], section: u8, k: u16) -> bool
     ensures { Owners (sheet_of s.now) owners.now → result ≡ rule17 (sheet_of s.now) section k }
 {
     match section {
-        3 => {
+        OBJECTS => {
             (!is_absent(field(s, OBJECTS, k, OBJECT_OFFSET)) | object_range(s, k, Sort::Offsets))
                 & !has_front_pack(s, k)
         }
-        7 => {
+        VALUE_SETS => {
             (!is_absent(field(s, VALUE_SETS, k, SET_OFFSET)) | set_range(s, k, Sort::Offsets))
                 & !has_front_pack(s, owner_by(s, owners, k))
         }
@@ -74,8 +74,8 @@ pub fn rule18(s: &[u8], owners: &[u16], section: u8, k: u16) -> bool
     ensures { Owners (sheet_of s.now) owners.now → result ≡ rule18 (sheet_of s.now) section k }
 {
     match section {
-        3 => object_leaves(s, k, Sort::Gains) | object_leaves(s, k, Sort::Offsets),
-        7 => {
+        OBJECTS => object_leaves(s, k, Sort::Gains) | object_leaves(s, k, Sort::Offsets),
+        VALUE_SETS => {
             let o = owner_by(s, owners, k);
             set_leaves(s, o, k, Sort::Gains) | set_leaves(s, o, k, Sort::Offsets)
         }

@@ -127,7 +127,7 @@ pub fn rule6(s: &[u8], langs: &Languages, next: &[u16], section: u8, k: u16) -> 
     ensures { LanguagesRight (sheet_of s.now) langs.now next.now → result ≡ rule6 (sheet_of s.now) langs.now section k }
 {
     match section {
-        1 => bad_speech(
+        PROGRAMMES => bad_speech(
             s,
             langs,
             next,
@@ -137,7 +137,7 @@ pub fn rule6(s: &[u8], langs: &Languages, next: &[u16], section: u8, k: u16) -> 
             PROGRAMME_LABELS,
             PROGRAMME_LOUDNESS,
         ),
-        2 => bad_speech(
+        CONTENTS => bad_speech(
             s,
             langs,
             next,
@@ -147,9 +147,9 @@ pub fn rule6(s: &[u8], langs: &Languages, next: &[u16], section: u8, k: u16) -> 
             CONTENT_LABELS,
             CONTENT_LOUDNESS,
         ),
-        3 => bad_object(s, k),
-        4 => bad_pack(s, k),
-        7 => bad_set(s, k),
+        OBJECTS => bad_object(s, k),
+        PACKS => bad_pack(s, k),
+        VALUE_SETS => bad_set(s, k),
         _ => false,
     }
 }
