@@ -20,11 +20,11 @@ pub fn every<F: Fn(u16) -> bool>(n: u16, test: F) -> bool
     requires { F.IsAlwaysCallable test }
     ensures { (p : ℕ → Bool) → ComputesBelow n (F.post test) p → result ≡ every p n }
 {
-    let mut all = true;
+    let mut passing = true;
     for i in 0..n {
-        all &= test(i);
+        passing &= test(i);
     }
-    all
+    passing
 }
 
 // How many numbers below n pass.

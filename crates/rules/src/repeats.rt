@@ -9,7 +9,7 @@ ghost use Rattle.sheet.specs.Words.{sheet_of};
 ghost use Rattle.sheet.specs.Fields.{objects, programmes, set_list, track_list};
 ghost use Rattle.sheet.specs.Layout.{number};
 ghost use Rattle.tables.specs.steps.Marks.{Standing};
-ghost use Rattle.tables.specs.steps.Right.{Leaders, Owners, told};
+ghost use Rattle.tables.specs.steps.Right.{Owners, SetsTabled, told};
 
 use crate::differences::sets_differ;
 use crate::references::two_references;
@@ -20,7 +20,8 @@ use relations::programmes::named_set;
 use runs::reads::look_up;
 use sheet::fields::{OBJECTS, PROGRAMMES, SET_LIST, TRACK_LIST, TRACK_ORDINAL, TRACKS};
 use sheet::layout::{entry, field, number};
-use tables::reads::{leader_by, owner_by};
+use tables::SetTables;
+use tables::reads::owner_by;
 
 // Marks a number as seen, and tells whether it was before.
 fn see(seen: &mut [u16], x: u16) -> bool
@@ -135,12 +136,10 @@ fn first_of(first: &mut [u16], l: u16, j: u16) -> u16
 }
 
 // Whether two sets are of one group, and differ.
-fn differ_in_one_group(s: &[u8], owners: &[u16], leaders: &[u16], u: u16, v: u16) -> bool
-    ensures { Owners (sheet_of s.now) owners.now → Leaders (sheet_of s.now) leaders.now → result ≡ differ_in_one_group (sheet_of s.now) u v }
+fn differ_in_one_group(s: &[u8], tables: &SetTables, u: u16, v: u16) -> bool
+    ensures { SetsTabled (sheet_of s.now) tables.now → result ≡ differ_in_one_group (sheet_of s.now) u v }
 {
-    if leader_by(s, leaders, owner_by(s, owners, u))
-        == leader_by(s, leaders, owner_by(s, owners, v))
-    {
+    if tables.leader_of_set(s, u) == tables.leader_of_set(s, v) {
         sets_differ(s, u, v)
     } else {
         false
@@ -148,27 +147,27 @@ fn differ_in_one_group(s: &[u8], owners: &[u16], leaders: &[u16], u: u16, v: u16
 }
 
 // Whether the sets that a programme names differ within a group, pair by pair.
-fn group_pairs_differ(s: &[u8], owners: &[u16], leaders: &[u16], p: u16) -> bool
-    ensures { Owners (sheet_of s.now) owners.now → Leaders (sheet_of s.now) leaders.now → result ≡ sets_differ_in_group (sheet_of s.now) p }
+fn group_pairs_differ(s: &[u8], tables: &SetTables, p: u16) -> bool
+    ensures { SetsTabled (sheet_of s.now) tables.now → result ≡ sets_differ_in_group (sheet_of s.now) p }
 {
     let n = number(s, PROGRAMMES, p, SET_LIST);
     two_references(s, field(s, PROGRAMMES, p, SET_LIST), n, |u, v| {
-        differ_in_one_group(s, owners, leaders, u, v)
+        differ_in_one_group(s, tables, u, v)
     })
 }
 
 // The same for a long list: each is compared with the first of its group. No sheet has more than 2,046 objects; a larger number would
 // be past the table.
-fn differ_from_first(s: &[u8], owners: &[u16], leaders: &[u16], p: u16) -> bool
-    ensures { Owners (sheet_of s.now) owners.now → Leaders (sheet_of s.now) leaders.now → result ≡ sets_differ_in_group (sheet_of s.now) p }
+fn differ_from_first(s: &[u8], tables: &SetTables, p: u16) -> bool
+    ensures { SetsTabled (sheet_of s.now) tables.now → result ≡ sets_differ_in_group (sheet_of s.now) p }
 {
     let n = number(s, PROGRAMMES, p, SET_LIST);
     let mut first: [u16; 2048] = [0; 2048];
     for j in 0..n {
         let v = named_set(s, p, j);
-        let l = leader_by(s, leaders, owner_by(s, owners, v));
+        let l = tables.leader_of_set(s, v);
         if 2048 <= l {
-            return group_pairs_differ(s, owners, leaders, p);
+            return group_pairs_differ(s, tables, p);
         }
         let i = first_of(&mut first, l, j);
         if sets_differ(s, named_set(s, p, i), v) {
@@ -179,12 +178,12 @@ fn differ_from_first(s: &[u8], owners: &[u16], leaders: &[u16], p: u16) -> bool
 }
 
 // A short list by its pairs, a long one by a table.
-pub fn differ_in_group(s: &[u8], owners: &[u16], leaders: &[u16], p: u16) -> bool
-    ensures { Owners (sheet_of s.now) owners.now → Leaders (sheet_of s.now) leaders.now → result ≡ sets_differ_in_group (sheet_of s.now) p }
+pub fn differ_in_group(s: &[u8], tables: &SetTables, p: u16) -> bool
+    ensures { SetsTabled (sheet_of s.now) tables.now → result ≡ sets_differ_in_group (sheet_of s.now) p }
 {
     if number(s, PROGRAMMES, p, SET_LIST) <= SHORT {
-        group_pairs_differ(s, owners, leaders, p)
+        group_pairs_differ(s, tables, p)
     } else {
-        differ_from_first(s, owners, leaders, p)
+        differ_from_first(s, tables, p)
     }
 }

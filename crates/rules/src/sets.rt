@@ -3,7 +3,7 @@ ghost use Rattle.std.specs.Prelude.{◌≡◌};
 ghost use Rattle.profile.specs.Rules.{rule22};
 ghost use Rattle.rules.specs.steps.Loops.{partly_set};
 ghost use Rattle.sheet.specs.Words.{sheet_of};
-ghost use Rattle.tables.specs.steps.Right.{Included, Leaders, NamedSets, Owners};
+ghost use Rattle.tables.specs.steps.Right.{Included, NamedSets, SetsTabled};
 
 use crate::references::any_reference;
 use crate::repeats::{differ_in_group, one_owner};
@@ -12,6 +12,7 @@ use relations::groups::members;
 use relations::objects::leader;
 use sheet::fields::{OBJECTS, PROGRAMMES, SET_LIST};
 use sheet::layout::{count, field, number};
+use tables::SetTables;
 use tables::marks::mark_named_sets;
 use tables::members::members_passing;
 use tables::reads::{included_by, names_set_by, owner_by};
@@ -32,21 +33,20 @@ fn partly_set(s: &[u8], p: u16, marks: &[u16], sets: &[u16], l: u16) -> bool
     }
 }
 
-pub fn rule22(s: &[u8], owners: &[u16], leaders: &[u16], marks: &[u16], section: u8, p: u16) -> bool
-    ensures { Owners (sheet_of s.now) owners.now → Leaders (sheet_of s.now) leaders.now → Included (sheet_of s.now) p marks.now → result ≡ rule22 (sheet_of s.now) section p }
+pub fn rule22(s: &[u8], tables: &SetTables, marks: &[u16], section: u8, p: u16) -> bool
+    ensures { SetsTabled (sheet_of s.now) tables.now → Included (sheet_of s.now) p marks.now → result ≡ rule22 (sheet_of s.now) section p }
 {
     let first = field(s, PROGRAMMES, p, SET_LIST);
     let n = number(s, PROGRAMMES, p, SET_LIST);
     if any_reference(s, first, n, |v| {
-        !included_by(s, p, marks, owner_by(s, owners, v))
+        !included_by(s, p, marks, owner_by(s, tables.owners, v))
     }) {
         return true;
     }
-    if one_owner(s, owners, p) {
+    if one_owner(s, tables.owners, p) {
         return true;
     }
     let mut sets: [u16; 4680] = [0; 4680];
     mark_named_sets(s, p, &mut sets);
-    any(count(s, OBJECTS), |l| partly_set(s, p, marks, &sets, l))
-        | differ_in_group(s, owners, leaders, p)
+    any(count(s, OBJECTS), |l| partly_set(s, p, marks, &sets, l)) | differ_in_group(s, tables, p)
 }

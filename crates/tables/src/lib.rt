@@ -36,3 +36,10 @@ pub struct ObjectTables<'a> {
     pub tops: &'a [u16],
     pub complements: &'a [u16],
 }
+
+// Whose each value set is, and the leader of each object's group, as far as the tables reach.
+#[derive(Clone, Copy)]
+pub struct SetTables<'a> {
+    pub owners: &'a [u16],
+    pub leaders: &'a [u16],
+}

@@ -9,4 +9,4 @@ loop-i-init g c = λ p h. refl
 
 pub loop-i-preserved : goal.loop-i-preserved
 unfolding every
-loop-i-preserved g c = λ p h. rw (add-one, c.loop-i.invariant p h, h _ _ c.loop-i-test.true c.test-all.ensures) refl
+loop-i-preserved g c = λ p h. rw (add-one, c.loop-i.invariant p h, h _ _ c.loop-i-test.true c.test-passing.ensures) refl

@@ -16,10 +16,10 @@ use Rattle.rules.proofs.repeats.differ_from_first.Goals as goal
 pub loop-j-init : goal.loop-j-init
 loop-j-init c =
     let a = c.args in let s = sheet_of a.s.now in
-    (length-replicate {A = ℕ} 2048 0, λ owners leaders. (firsts_none s (named_set s a.p) (λ i. leader_of s (owner s (named_set s a.p i))) 2048, below_none _))
+    (length-replicate {A = ℕ} 2048 0, λ right. (firsts_none s (named_set s a.p) (λ i. leader_of s (owner s (named_set s a.p i))) 2048, below_none _))
 
 pub returns-then-l-ge2048 : goal.returns-then-l-ge2048
-returns-then-l-ge2048 c = λ owners leaders. c.group_pairs_differ.ensures owners leaders
+returns-then-l-ge2048 c = λ right. c.group_pairs_differ.ensures right
 
 pub first_of-i-requires : goal.first_of-i-requires
 first_of-i-requires c = (c.loop-j.invariant.0, omega (arith, c.if-l-ge2048.false), omega (arith, c.loop-j-test.true))
@@ -28,20 +28,20 @@ pub returns-then-sets_differ : goal.returns-then-sets_differ
 unfolding two_of named_set entry
 returns-then-sets_differ c =
     let a = c.args in let s = sheet_of a.s.now in
-    let e = named_set s a.p in let g : ℕ → ℕ = λ i. leader_of s (owner s (e i)) in let l = c.loop-j in let set = c.named_set-v.ensures in let lead = c.leader_by-l in let place = c.first_of-i in let inside : lead.result < length l.first = omega (arith, l.invariant.0, c.if-l-ge2048.false) in
+    let e = named_set s a.p in let g : ℕ → ℕ = λ i. leader_of s (owner s (e i)) in let l = c.loop-j in let set = c.named_set-v.ensures in let lead = c.leader_of_set-l in let place = c.first_of-i in let inside : lead.result < length l.first = omega (arith, l.invariant.0, c.if-l-ge2048.false) in
     let test = sym (c.sets_differ.ensures ∙ ap₂ (sets_differ s) c.named_set.ensures set) in
     let below : l.j < number s programmes a.p set_list = omega (arith, c.loop-j-test.true, c.number-n.ensures) in
-    λ owners leaders. sym (any_one (λ m. any (λ i. differ s e g i m) m) _ l.j below (found_next s e g l.first l.j lead.result place.result (l.invariant.1 owners leaders).0 (lead.ensures leaders ∙ ap (leader_of s) (c.owner_by.ensures owners ∙ ap (owner s) set)) inside place.ensures.1 (l.invariant.1 owners leaders).1 (test ∙ c.if-sets_differ.true)))
+    λ right. sym (any_one (λ m. any (λ i. differ s e g i m) m) _ l.j below (found_next s e g l.first l.j lead.result place.result (l.invariant.1 right).0 (lead.ensures right ∙ ap (λ v. leader_of s (owner s v)) set) inside place.ensures.1 (l.invariant.1 right).1 (test ∙ c.if-sets_differ.true)))
 
 pub loop-j-preserved : goal.loop-j-preserved
 loop-j-preserved c =
     let a = c.args in let s = sheet_of a.s.now in
-    let e = named_set s a.p in let g : ℕ → ℕ = λ i. leader_of s (owner s (e i)) in let l = c.loop-j in let set = c.named_set-v.ensures in let lead = c.leader_by-l in let place = c.first_of-i in let inside : lead.result < length l.first = omega (arith, l.invariant.0, c.if-l-ge2048.false) in
+    let e = named_set s a.p in let g : ℕ → ℕ = λ i. leader_of s (owner s (e i)) in let l = c.loop-j in let set = c.named_set-v.ensures in let lead = c.leader_of_set-l in let place = c.first_of-i in let inside : lead.result < length l.first = omega (arith, l.invariant.0, c.if-l-ge2048.false) in
     let test = sym (c.sets_differ.ensures ∙ ap₂ (sets_differ s) c.named_set.ensures set) in
-    (place.ensures.0, λ owners leaders. firsts_next s e g l.first l.j lead.result place.result (l.invariant.1 owners leaders).0 (lead.ensures leaders ∙ ap (leader_of s) (c.owner_by.ensures owners ∙ ap (owner s) set)) inside place.ensures.1 (l.invariant.1 owners leaders).1 (test ∙ c.if-sets_differ.false) place.new.first (place.ensures.0 ∙ sym l.invariant.0) place.ensures.2)
+    (place.ensures.0, λ right. firsts_next s e g l.first l.j lead.result place.result (l.invariant.1 right).0 (lead.ensures right ∙ ap (λ v. leader_of s (owner s v)) set) inside place.ensures.1 (l.invariant.1 right).1 (test ∙ c.if-sets_differ.false) place.new.first (place.ensures.0 ∙ sym l.invariant.0) place.ensures.2)
 
 pub returns : goal.returns
 unfolding two_of named_set entry
 returns c =
     let a = c.args in let s = sheet_of a.s.now in let e = named_set s a.p in let g : ℕ → ℕ = λ i. leader_of s (owner s (e i)) in
-    λ owners leaders. sym (any_nowhere (λ m. any (λ i. differ s e g i m) m) (number s programmes a.p set_list) (λ m l. (c.loop-j.invariant.1 owners leaders).1 m (omega (arith, l, c.loop-j-test.false, c.number-n.ensures))))
+    λ right. sym (any_nowhere (λ m. any (λ i. differ s e g i m) m) (number s programmes a.p set_list) (λ m l. (c.loop-j.invariant.1 right).1 m (omega (arith, l, c.loop-j-test.false, c.number-n.ensures))))
