@@ -1,3 +1,3 @@
 mod PlaceLaws
 mod NamedLaws
-mod SameLaws
+pub mod SameLaws

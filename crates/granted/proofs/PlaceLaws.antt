@@ -1,12 +1,12 @@
 -- The place of a named set comes to the definitions of the profile. Assumes nothing.
-use Prim.Native.Nat.{ℕ, ◌+◌, ◌<◌, ◌≤◌}
+use Prim.Native.Nat.{ℕ, ◌<◌, ◌≤◌}
 use mathlib.Core.Path.{◌≡◌, refl, sym, ◌∙◌}
-use mathlib.Core.Bool.{true, false, ◌&&◌}
+use mathlib.Core.Bool.{true, false}
 use borrow.Author.Tests.{lt-ltb, le-ltb}
-use lib.Dec.{leb, ltb}
+use lib.Dec.{ltb}
 use Rattle.sheet.specs.Words.{Sheet}
-use Rattle.sheet.specs.Layout.{field, number, reference, entry}
-use Rattle.sheet.specs.Fields.{programmes, objects, set_list, set_span}
+use Rattle.sheet.specs.Layout.{number}
+use Rattle.sheet.specs.Fields.{programmes, set_list}
 use Rattle.profile.specs.Relations.{has_set, named_set, names_set, set_for}
 use Rattle.tables.proofs.TableLaws.{lowest_any}
 use Rattle.granted.specs.steps.NamedSet.{set_place}
@@ -27,9 +27,3 @@ module _ (s : Sheet) (p o : ℕ) where
   pub place_set : named_set s p (set_place s p o) ≡ set_for s p o
   unfolding set_place set_for
   place_set = refl
-
-  -- a set of the list is the object's
-  pub place_has : (i from many list v : ℕ) → from ≡ field s objects o set_span → many ≡ number s objects o set_span → list ≡ field s programmes p set_list
-      → v ≡ reference s (list + i) → (leb from v && ltb v (from + many)) ≡ has_set s o (named_set s p i)
-  unfolding has_set named_set entry
-  place_has i from many list v a b c d = rw (d, a, b, c) refl

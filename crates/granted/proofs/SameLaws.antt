@@ -1,4 +1,6 @@
--- Two numbers have the same bits where neither is above the other. Assumes nothing.
+-- Two numbers have the same bits where neither is above the other, and two gains are equal so. Assumes nothing.
+use Rattle.std.proofs.Common.{arith}
+use Rattle.std.proofs.lemmas.Int.{ints}
 use mathlib.Core.Path.{◌≡◌, refl, sym, ap, ◌∙◌}
 use mathlib.Core.Bool.{true, false, ◌&&◌, true≢false}
 use native.Mathlib.Nat.{le_refl, le_antisymm}
@@ -9,6 +11,11 @@ use lib.Signed.{le_z}
 use mir.Syntax.{w16}
 use mir.Val.{to_z, of_z}
 use Rattle.profile.proofs.BoolLaws.{and_both}
+use Rattle.values.specs.Gain.{at_most}
+use Rattle.values.specs.declared.Gain.{Gain}
+use Rattle.values.specs.declared.Gain.TheVariants.{Silent, Tenths}
+use Rattle.values.specs.contracts.GainPartialEq.TheImpl.{eq-value}
+use Rattle.granted.specs.Fitting.{same_gain}
 
 le_self : (x : ℤ) → le_z x x ≡ true
 le_self (pos n) = le-leb n n (le_refl n)
@@ -36,3 +43,11 @@ same_bits x y p q =
           | true ↦ λ f. let parts = and_both (le_z x y) (le_z y x) f in absurd (n (le_both x y parts.0 parts.1))
           | false ↦ λ f. refl
         ]) refl
+
+-- the derived equality of gains
+pub eq_gain : (a b : Gain) → eq-value.it a b ≡ same_gain a b
+unfolding same_gain at_most
+eq_gain Silent Silent = refl
+eq_gain Silent (Tenths y) = refl
+eq_gain (Tenths x) Silent = refl
+eq_gain (Tenths x) (Tenths y) = grind (arith, ints)

@@ -2,3 +2,4 @@
 -- not read these. Assumes nothing.
 pub mod NamedSet
 pub mod Flags
+pub mod Tables

@@ -6,16 +6,16 @@ pub mod fitting;
 pub mod included;
 pub mod programme;
 
-// The set that a programme names for an object, where it names one.
-#[derive(Clone, Copy)]
-pub struct Named {
-    pub any: bool,
-    pub set: u16,
-}
-
 // An interaction range by its words.
 #[derive(Clone, Copy)]
 pub struct Range {
     pub minimum: u16,
     pub maximum: u16,
+}
+
+// Tables that a programme's objects are looked up in: `leaders` has the leader of each object's group, `included` what the programme includes.
+#[derive(Clone, Copy)]
+pub struct ProgrammeTables<'a> {
+    pub leaders: &'a [u16],
+    pub included: &'a [u16],
 }

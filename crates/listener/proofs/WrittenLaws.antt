@@ -25,8 +25,8 @@ unfolding concat_below
 concat_fits zero f k l = absurd (omega arith)
 concat_fits (suc n) f k l =
     ⊎_elim
-    (λ q. let z : length (concat_below f k) + length (f k) ≡ length (concat_below f n) + length (f n) = ap (λ (j : ℕ). length (concat_below f j) + length (f j)) q in rw length-append (omega arith))
-    (λ m. rw length-append (omega (arith, concat_fits n f k m)))
+    (λ (q : k ≡ n). let z : length (concat_below f k) + length (f k) ≡ length (concat_below f n) + length (f n) = ap (λ (j : ℕ). length (concat_below f j) + length (f j)) q in rw length-append (omega arith))
+    (λ (m : k < n). rw length-append (omega (arith, concat_fits n f k m)))
     (eq-or-lt_of_le (le_of_suc-le-suc l))
 
 -- the first k runs of n are written, from `from` on

@@ -1,28 +1,28 @@
 // Opening and the four calls: methods by value, each with the refusals of document 01 in its checking order.
 ghost use Rattle.std.specs.Prelude.{[], ◌∷◌, ◌≡◌};
 ghost use Rattle.listener.specs.Calls.{answer_by, chosen_object, chosen_programme, gain_set, moved, not_open, not_sound, object_answer, offset_set, opened, opens, programme_answer, reply_by, value_answer, with_setting};
-ghost use Rattle.granted.specs.Fitting.{gain_fits, offset_fits};
+ghost use Rattle.granted.specs.steps.NamedSet.{granted_range};
 ghost use Rattle.listener.specs.declared.Setting.{Setting};
 ghost use Rattle.listener.specs.State.{resting_state, setting};
 ghost use Rattle.listener.specs.steps.Settings.{moved_from};
 ghost use Rattle.sheet.specs.Words.{sheet_of, words};
 ghost use Rattle.tables.specs.steps.Right.{Leaders};
-ghost use Rattle.values.specs.declared.Sort.TheVariants.{Gains, Offsets};
 
 use crate::programme::started;
 use crate::settings::resting;
 use crate::sounding::sound;
 use crate::{Refusal, Reply, STATE_OBJECTS, Setting, State};
 use checker::search::check;
-use granted::fitting::{gain_within, is_range, offset_within};
-use granted::included::find_leaders;
+use granted::fitting::Value;
 use granted::programme::{granted_range, in_whole_group};
 use profile::Verdict;
 use relations::programmes::includes;
 use sheet::fields::PROGRAMMES;
 use sheet::layout::{count, level};
+use tables::Naming;
+use tables::marks::first_namers;
 use tables::reads::leader_by;
-use values::{Gain, Sort};
+use values::Gain;
 
 // Whether the sheet is accepted under the lent list of languages, and not of level 0.
 pub fn opens(s: &[u8], langs: &[u8]) -> bool
@@ -102,38 +102,25 @@ fn object_answer(s: &[u8], langs: &[u8], state: &State, o: u16) -> Result<(), Re
 }
 
 // Then 28, 30 and 31.
-fn gain_answer(s: &[u8], langs: &[u8], state: &State, o: u16, gain: Gain) -> Result<(), Refusal>
-    ensures { result ≡ value_answer (sheet_of s.now) (words langs.now) state.now o Gains (gain_fits (sheet_of s.now) state.now.programme o gain) }
+fn value_answer<V: Value>(
+    s: &[u8],
+    langs: &[u8],
+    state: &State,
+    o: u16,
+    value: V,
+) -> Result<(), Refusal>
+    ensures { result ≡ value_answer (sheet_of s.now) (words langs.now) state.now o V.SORT (V.within (granted_range (sheet_of s.now) state.now.programme o V.SORT) value) }
 {
     sound_answer(s, langs, state)?;
     let p = state.programme;
     if !includes(s, p, o) {
         return Err(Refusal::NotIncluded);
     }
-    let range = granted_range(s, p, o, Sort::Gains);
-    if !is_range(range) {
+    let range = granted_range(s, p, o, V::SORT);
+    if !range.is_there() {
         return Err(Refusal::NoRange);
     }
-    if !gain_within(range, gain) {
-        return Err(Refusal::Outside);
-    }
-    Ok(())
-}
-
-// The same of an offset.
-fn offset_answer(s: &[u8], langs: &[u8], state: &State, o: u16, offset: i16) -> Result<(), Refusal>
-    ensures { result ≡ value_answer (sheet_of s.now) (words langs.now) state.now o Offsets (offset_fits (sheet_of s.now) state.now.programme o offset) }
-{
-    sound_answer(s, langs, state)?;
-    let p = state.programme;
-    if !includes(s, p, o) {
-        return Err(Refusal::NotIncluded);
-    }
-    let range = granted_range(s, p, o, Sort::Offsets);
-    if !is_range(range) {
-        return Err(Refusal::NoRange);
-    }
-    if !offset_within(range, offset) {
+    if !value.within(range) {
         return Err(Refusal::Outside);
     }
     Ok(())
@@ -157,7 +144,7 @@ fn moved(s: &[u8], state: &State, o: u16) -> State
     ensures { result ≡ moved (sheet_of s.now) state.now o }
 {
     let mut leaders: [u16; STATE_OBJECTS] = [0; STATE_OBJECTS];
-    find_leaders(s, &mut leaders);
+    first_namers(s, Naming::Complements, &mut leaders);
     let mut objects = [resting(); STATE_OBJECTS];
     for q in 0..STATE_OBJECTS {
         objects[q] = moved_setting(s, &leaders, o, q as u16, state.objects[q]);
@@ -195,7 +182,7 @@ impl State {
     pub fn set_gain(self, s: &[u8], langs: &[u8], o: u16, gain: Gain) -> Reply
         ensures { result ≡ gain_set (sheet_of s.now) (words langs.now) self o gain }
     {
-        let answer = gain_answer(s, langs, &self, o, gain);
+        let answer = value_answer(s, langs, &self, o, gain);
         self.changed(answer, o, |x| Setting { gain, ..x })
     }
 
@@ -203,7 +190,7 @@ impl State {
     pub fn set_offset(self, s: &[u8], langs: &[u8], o: u16, offset: i16) -> Reply
         ensures { result ≡ offset_set (sheet_of s.now) (words langs.now) self o offset }
     {
-        let answer = offset_answer(s, langs, &self, o, offset);
+        let answer = value_answer(s, langs, &self, o, offset);
         self.changed(answer, o, |x| Setting { offset, ..x })
     }
 

@@ -2,25 +2,27 @@
 ghost use Rattle.std.specs.Prelude.{◌≡◌};
 ghost use Rattle.listener.specs.Programme.{start_setting, started};
 ghost use Rattle.sheet.specs.Words.{sheet_of};
-ghost use Rattle.tables.specs.steps.Right.{Included, Leaders};
+ghost use Rattle.granted.specs.steps.Tables.{ProgrammeTabled};
 
 use crate::settings::resting;
 use crate::sounding::enter_included;
 use crate::{STATE_OBJECTS, Setting, State};
-use granted::included::find_leaders;
-use granted::programme::{start_value, starts_active};
+use granted::ProgrammeTables;
+use granted::programme::start_value;
+use tables::Naming;
+use tables::marks::first_namers;
 use tables::reads::included_by;
 use values::Sort;
 use values::gains::gain_of;
 use values::signed::signed;
 
 // What choosing a programme gives an object.
-fn start_setting(s: &[u8], p: u16, leaders: &[u16], marks: &[u16], o: u16) -> Setting
-    ensures { Leaders (sheet_of s.now) leaders.now → Included (sheet_of s.now) p marks.now → result ≡ start_setting (sheet_of s.now) p o }
+fn start_setting(s: &[u8], p: u16, tables: ProgrammeTables, o: u16) -> Setting
+    ensures { ProgrammeTabled (sheet_of s.now) p tables.entry → result ≡ start_setting (sheet_of s.now) p o }
 {
-    if included_by(s, p, marks, o) {
+    if included_by(s, p, tables.included, o) {
         Setting {
-            active: starts_active(s, p, leaders, marks, o),
+            active: tables.starts_active(s, p, o),
             gain: gain_of(start_value(s, p, o, Sort::Gains)),
             offset: signed(start_value(s, p, o, Sort::Offsets)),
         }
@@ -34,12 +36,16 @@ pub fn started(s: &[u8], p: u16) -> State
     ensures { result ≡ started (sheet_of s.now) p }
 {
     let mut leaders: [u16; STATE_OBJECTS] = [0; STATE_OBJECTS];
-    find_leaders(s, &mut leaders);
+    first_namers(s, Naming::Complements, &mut leaders);
     let mut marks: [u16; STATE_OBJECTS] = [0; STATE_OBJECTS];
     let n = enter_included(s, p, &mut marks);
+    let tables = ProgrammeTables {
+        leaders: &leaders,
+        included: &marks,
+    };
     let mut objects = [resting(); STATE_OBJECTS];
     for o in 0..n {
-        objects[o as usize] = start_setting(s, p, &leaders, &marks, o);
+        objects[o as usize] = start_setting(s, p, tables, o);
     }
     State {
         programme: p,

@@ -3,7 +3,6 @@ ghost use Rattle.std.specs.Prelude.{◌≡◌};
 ghost use Rattle.listener.specs.State.{is_resting, resting};
 
 use crate::Setting;
-use granted::fitting::{same_gain, same_offset};
 use values::Gain;
 
 // "inactive, 0, 0"
@@ -21,7 +20,5 @@ pub fn resting() -> Setting
 pub fn is_resting(x: Setting) -> bool
     ensures { result ≡ is_resting x }
 {
-    let gain = x.gain;
-    let offset = x.offset;
-    !x.active & same_gain(gain, Gain::Tenths(0)) & same_offset(offset, 0)
+    !x.active & (x.gain == Gain::Tenths(0)) & (x.offset == 0)
 }

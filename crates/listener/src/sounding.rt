@@ -6,17 +6,17 @@ ghost use Rattle.listener.specs.steps.Settings.{flagged_sound};
 ghost use Rattle.profile.specs.Relations.{includes};
 ghost use Rattle.sheet.specs.Words.{sheet_of};
 ghost use Rattle.tables.specs.steps.Marks.{Standing};
-ghost use Rattle.tables.specs.steps.Right.{Included, Leaders};
+ghost use Rattle.granted.specs.steps.Tables.{ProgrammeTabled};
+ghost use Rattle.tables.specs.steps.Right.{Included};
 
 use crate::settings::is_resting;
 use crate::{STATE_END, STATE_OBJECTS, Setting, State};
-use granted::activity::sound_activity;
+use granted::ProgrammeTables;
 use granted::fitting::sound_values;
-use granted::included::find_leaders;
 use sheet::fields::{CONTENT_LIST, CONTENT_OBJECT, CONTENTS, PROGRAMMES};
 use sheet::layout::{count, entry, field, number};
-use tables::Mark;
-use tables::marks::mark_at;
+use tables::Naming;
+use tables::marks::{first_namers, mark_at};
 use tables::reads::included_by;
 
 // Writes 1 for the objects that the programme includes, into a table of noughts. Gives one more than the highest number of one below `state_objects`,
@@ -28,7 +28,7 @@ pub fn enter_included(s: &[u8], p: u16, marks: &mut [u16]) -> u16
     for i in 0..number(s, PROGRAMMES, p, CONTENT_LIST) {
         let c = entry(s, PROGRAMMES, p, CONTENT_LIST, i);
         let o = field(s, CONTENTS, c, CONTENT_OBJECT);
-        mark_at(marks, o as u32, Mark::Store(1));
+        mark_at(marks, u32::from(o), |_| 1);
         if o < STATE_END {
             past = past.max(o + 1);
         }
@@ -37,21 +37,13 @@ pub fn enter_included(s: &[u8], p: u16, marks: &mut [u16]) -> u16
 }
 
 // One object of a sound state, by its setting.
-fn sound_at(
-    s: &[u8],
-    p: u16,
-    leaders: &[u16],
-    marks: &[u16],
-    active: &[u16],
-    o: u16,
-    x: Setting,
-) -> bool
-    ensures { Leaders (sheet_of s.now) leaders.now → Included (sheet_of s.now) p marks.now → result ≡ flagged_sound (sheet_of s.now) p active.now o x }
+fn sound_at(s: &[u8], p: u16, tables: ProgrammeTables, active: &[u16], o: u16, x: Setting) -> bool
+    ensures { ProgrammeTabled (sheet_of s.now) p tables.entry → result ≡ flagged_sound (sheet_of s.now) p active.now o x }
 {
-    if included_by(s, p, marks, o) {
+    if included_by(s, p, tables.included, o) {
         let gain = x.gain;
         let offset = x.offset;
-        sound_activity(s, p, leaders, marks, active, o) & sound_values(s, p, o, gain, offset)
+        tables.sound_activity(s, p, active, o) & sound_values(s, p, o, gain, offset)
     } else {
         is_resting(x)
     }
@@ -67,24 +59,20 @@ pub fn sound(s: &[u8], state: State) -> bool
         return false;
     }
     let mut leaders: [u16; STATE_OBJECTS] = [0; STATE_OBJECTS];
-    find_leaders(s, &mut leaders);
+    first_namers(s, Naming::Complements, &mut leaders);
     let mut marks: [u16; STATE_OBJECTS] = [0; STATE_OBJECTS];
     let n = enter_included(s, p, &mut marks);
+    let tables = ProgrammeTables {
+        leaders: &leaders,
+        included: &marks,
+    };
     let mut active: [u16; STATE_OBJECTS] = [0; STATE_OBJECTS];
     for o in 0..n {
         active[o as usize] = u16::from(state.objects[o as usize].active);
     }
     let mut good = true;
     for o in 0..n {
-        good &= sound_at(
-            s,
-            p,
-            &leaders,
-            &marks,
-            &active,
-            o,
-            state.objects[o as usize],
-        );
+        good &= sound_at(s, p, tables, &active, o, state.objects[o as usize]);
     }
     for o in n..STATE_END {
         good &= is_resting(state.objects[o as usize]);

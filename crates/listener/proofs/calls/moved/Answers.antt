@@ -16,7 +16,7 @@ pub loop-q-preserved : goal.loop-q-preserved
 unfolding moved_setting moved_from
 loop-q-preserved c =
     let l = c.loop-q in let i = c.loop-q-test.true in let a = c.args in let s = sheet_of a.s.now in
-    filled_more _ l.invariant i (c.moved_setting.ensures (leaders_made s state_objects c.find_leaders.new.table c.find_leaders.ensures.1) ∙ ap (moved_from s a.o l.q) (element_setting a.state.now l.q i))
+    filled_more _ l.invariant i (c.moved_setting.ensures (leaders_made s state_objects c.first_namers.new.table c.first_namers.ensures.1) ∙ ap (moved_from s a.o l.q) (element_setting a.state.now l.q i))
 
 pub returns : goal.returns
 unfolding moved

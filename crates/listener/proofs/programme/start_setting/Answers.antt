@@ -7,8 +7,8 @@ use Rattle.listener.proofs.programme.start_setting.Goals as goal
 
 pub returns-then-included_by : goal.returns-then-included_by
 unfolding start_setting
-returns-then-included_by c = λ led right. rw (c.signed.ensures, kept c.start_value-then-included_by.result (search rules)) (simp (sym (c.included_by.ensures right) ∙ c.if-included_by.true, c.start_value-then-included_by.ensures, c.gain_of.ensures, c.start_value.ensures, c.starts_active.ensures led right))
+returns-then-included_by c = λ right. rw (c.signed.ensures, kept c.start_value-then-included_by.result (search rules)) (simp (sym (c.included_by.ensures right.1) ∙ c.if-included_by.true, c.start_value-then-included_by.ensures, c.gain_of.ensures, c.start_value.ensures, c.starts_active.ensures right))
 
 pub returns-else-included_by : goal.returns-else-included_by
 unfolding start_setting
-returns-else-included_by c = λ led right. simp (sym (c.included_by.ensures right) ∙ c.if-included_by.false, c.resting.ensures)
+returns-else-included_by c = λ right. simp (sym (c.included_by.ensures right.1) ∙ c.if-included_by.false, c.resting.ensures)

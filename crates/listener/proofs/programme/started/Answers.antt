@@ -17,9 +17,9 @@ bounds-objects-o c = omega (arith, c.loop-o-test.true, c.enter_included-n.ensure
 
 pub loop-o-preserved : goal.loop-o-preserved
 loop-o-preserved c =
-    let f = c.find_leaders in let s = sheet_of c.args.s.now in
+    let f = c.first_namers in let s = sheet_of c.args.s.now in
     begun_more _ c.loop-o.invariant (omega (arith, c.loop-o-test.true, c.enter_included-n.ensures.1))
-    (c.start_setting.ensures (leaders_made s state_objects f.new.table f.ensures.1) (c.enter_included-n.ensures.3 (λ x l. nought state_objects x)))
+    (c.start_setting.ensures (leaders_made s state_objects f.new.table f.ensures.1, c.enter_included-n.ensures.3 (λ x l. nought state_objects x)))
 
 pub returns : goal.returns
 unfolding started

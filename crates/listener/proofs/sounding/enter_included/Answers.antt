@@ -9,10 +9,9 @@ use Rattle.sheet.specs.Layout.{field, number}
 use Rattle.sheet.specs.Fields.{programmes, contents, content_list, content_object}
 use Rattle.profile.specs.Counting.{any, how_many}
 use Rattle.profile.specs.Relations.{includes}
-use Rattle.tables.specs.declared.Mark.TheVariants.{Store}
 use Rattle.tables.specs.declared.Naming.TheVariants.{Included}
 use Rattle.tables.specs.steps.Namings.{item}
-use Rattle.tables.specs.steps.Marks.{marked, repeat, times_by}
+use Rattle.tables.specs.steps.Marks.{repeat, times_by}
 use Rattle.tables.proofs.MarkLaws.{items_more}
 use Rattle.tables.proofs.TableLaws.{included_marked}
 use Rattle.listener.specs.State.{state_objects}
@@ -26,7 +25,7 @@ loop-i-init c = (search rules, λ o a b. refl, refl, λ x l. refl)
 
 pub loop-i-preserved : goal.loop-i-preserved
 loop-i-preserved c =
-    let m = c.mark_at in let l = c.loop-i in let a = c.args in let g = item (sheet_of a.s.now) Included a.p in
+    let m = c.mark_at.ensures (λ x. 1) (λ i r l q. search rules) in let l = c.loop-i in let a = c.args in let g = item (sheet_of a.s.now) Included a.p in
     let o = c.field-o.result in
     let named : o ≡ g l.i = c.field-o.ensures ∙ ap (λ (x : ℕ). field (sheet_of a.s.now) contents x content_object) c.entry-c.ensures in
     let raised : (c.if-o-lt-STATE_END.past ≤ state_objects) × Past g (l.i + 1) c.if-o-lt-STATE_END.past =
@@ -36,8 +35,8 @@ loop-i-preserved c =
     ] in (
       raised.0,
       raised.1,
-      m.ensures.0 ∙ l.invariant.2,
-      items_more (marked (Store 1)) a.marks.now l.marks m.new.table m.ensures.0 g l.i o named l.invariant.3 m.ensures.1,
+      m.0 ∙ l.invariant.2,
+      items_more (λ x. 1) a.marks.now l.marks c.mark_at.new.table m.0 g l.i c.from.result (c.from.ensures ∙ named) l.invariant.3 m.1,
     )
 
 pub shape_of-marks : goal.shape_of-marks
@@ -53,7 +52,7 @@ returns c =
       l.invariant.0,
       λ o i m. ap (any (λ k. eqb (g k) o)) (sym e) ∙ l.invariant.1 o i m,
       λ z x i. l.invariant.3 x i
-          ∙ ap (λ (n : ℕ). repeat (marked (Store 1)) (how_many (λ j. eqb (g j) x) n) (get_or a.marks.now x 0)) e
-          ∙ ap (repeat (marked (Store 1)) (times_by s Included a.p x)) (z x (rw l.invariant.2 at i))
+          ∙ ap (λ (n : ℕ). repeat (λ x. 1) (how_many (λ j. eqb (g j) x) n) (get_or a.marks.now x 0)) e
+          ∙ ap (repeat (λ x. 1) (times_by s Included a.p x)) (z x (rw l.invariant.2 at i))
           ∙ included_marked s a.p x,
     )

@@ -49,8 +49,8 @@ bounds-state-o-in-loop-o-2 c = omega (arith, c.loop-o-2-test.true, c.enter_inclu
 pub loop-o-2-preserved : goal.loop-o-2-preserved
 unfolding every
 loop-o-2-preserved c =
-    let l = c.loop-o-2 in let f = c.find_leaders in let a = c.args in let i : l.o < state_objects = omega (arith, c.loop-o-2-test.true, c.enter_included-n.ensures.1) in
-    rw (add-one, l.invariant, c.sound_at-good.ensures (leaders_made (sheet_of a.s.now) state_objects f.new.table f.ensures.1) (c.enter_included-n.ensures.3 (λ x l. nought state_objects x)), element_setting a.state l.o i)
+    let l = c.loop-o-2 in let f = c.first_namers in let a = c.args in let i : l.o < state_objects = omega (arith, c.loop-o-2-test.true, c.enter_included-n.ensures.1) in
+    rw (add-one, l.invariant, c.sound_at-good.ensures (leaders_made (sheet_of a.s.now) state_objects f.new.table f.ensures.1, c.enter_included-n.ensures.3 (λ x l. nought state_objects x)), element_setting a.state l.o i)
 
 pub loop-o-3-init : goal.loop-o-3-init
 loop-o-3-init c = from_none _ _ _

@@ -9,8 +9,8 @@ use Rattle.listener.proofs.sounding.sound_at.Goals as goal
 
 pub returns-then-included_by : goal.returns-then-included_by
 unfolding flagged_sound
-returns-then-included_by c = λ led right. let p : to_z w16 (of_z w16 c.args.x.offset) ≡ c.args.x.offset = search rules in simp (p, c.sound_values.ensures, c.sound_activity.ensures led right, and_assoc) (simp (sym (c.included_by.ensures right) ∙ c.if-included_by.true))
+returns-then-included_by c = λ right. let p : to_z w16 (of_z w16 c.args.x.offset) ≡ c.args.x.offset = search rules in simp (p, c.sound_values.ensures, c.sound_activity.ensures right, and_assoc) (simp (sym (c.included_by.ensures right.1) ∙ c.if-included_by.true))
 
 pub returns-else-included_by : goal.returns-else-included_by
 unfolding flagged_sound
-returns-else-included_by c = λ led right. simp (sym (c.included_by.ensures right) ∙ c.if-included_by.false, c.is_resting.ensures)
+returns-else-included_by c = λ right. simp (sym (c.included_by.ensures right.1) ∙ c.if-included_by.false, c.is_resting.ensures)

@@ -1,6 +1,6 @@
 -- Legal, and in the range. Assumes nothing.
 use Rattle.granted.specs.steps.NamedSet.{gain_within}
-use Rattle.granted.proofs.fitting.gain_within.Goals as goal
+use Rattle.granted.proofs.fitting.GainValue.within.Goals as goal
 
 pub returns : goal.returns
 unfolding gain_within
