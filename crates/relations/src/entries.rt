@@ -14,10 +14,8 @@ pub fn how_many_entries<F: Fn(u16) -> bool>(s: &[u8], section: u8, k: u16, at: u
     ensures counted { (p : ℕ → Bool) → ComputesBelow 65536 (F.post test) p → result ≡ how_many (λ i. p (entry (sheet_of s.now) section k at i)) (number (sheet_of s.now) section k at) }
     ensures at_most { result ≤ number (sheet_of s.now) section k at }
 {
-    how_many(
-        number(s, section, k, at),
-        |i| test(entry(s, section, k, at, i)),
-    )
+    let n = number(s, section, k, at);
+    how_many(n, |i| test(entry(s, section, k, at, i)))
 }
 
 // Whether some entry passes.
@@ -25,10 +23,8 @@ pub fn any_entry<F: Fn(u16) -> bool>(s: &[u8], section: u8, k: u16, at: u8, test
     requires { F.IsAlwaysCallable test }
     ensures { (p : ℕ → Bool) → ComputesBelow 65536 (F.post test) p → result ≡ any (λ i. p (entry (sheet_of s.now) section k at i)) (number (sheet_of s.now) section k at) }
 {
-    any(
-        number(s, section, k, at),
-        |i| test(entry(s, section, k, at, i)),
-    )
+    let n = number(s, section, k, at);
+    any(n, |i| test(entry(s, section, k, at, i)))
 }
 
 // Whether the list has x.

@@ -9,7 +9,7 @@ ghost use Rattle.sheet.specs.Words.{sheet_of};
 ghost use Rattle.sheet.specs.Fields.{objects, programmes, set_list, track_list};
 ghost use Rattle.sheet.specs.Layout.{number};
 ghost use Rattle.tables.specs.steps.Marks.{Standing};
-ghost use Rattle.tables.specs.steps.Right.{Owners, SetsTabled, told};
+ghost use Rattle.tables.specs.steps.Right.{Owners, GroupsTabled, told};
 
 use crate::differences::sets_differ;
 use crate::references::two_references;
@@ -20,7 +20,7 @@ use relations::programmes::named_set;
 use runs::reads::look_up;
 use sheet::fields::{OBJECTS, PROGRAMMES, SET_LIST, TRACK_LIST, TRACK_ORDINAL, TRACKS};
 use sheet::layout::{entry, field, number};
-use tables::SetTables;
+use tables::GroupTables;
 use tables::reads::owner_by;
 
 // Marks a number as seen, and tells whether it was before.
@@ -136,8 +136,8 @@ fn first_of(first: &mut [u16], l: u16, j: u16) -> u16
 }
 
 // Whether two sets are of one group, and differ.
-fn differ_in_one_group(s: &[u8], tables: &SetTables, u: u16, v: u16) -> bool
-    ensures { SetsTabled (sheet_of s.now) tables.now → result ≡ differ_in_one_group (sheet_of s.now) u v }
+fn differ_in_one_group(s: &[u8], tables: &GroupTables, u: u16, v: u16) -> bool
+    ensures { GroupsTabled (sheet_of s.now) tables.now → result ≡ differ_in_one_group (sheet_of s.now) u v }
 {
     if tables.leader_of_set(s, u) == tables.leader_of_set(s, v) {
         sets_differ(s, u, v)
@@ -147,8 +147,8 @@ fn differ_in_one_group(s: &[u8], tables: &SetTables, u: u16, v: u16) -> bool
 }
 
 // Whether the sets that a programme names differ within a group, pair by pair.
-fn group_pairs_differ(s: &[u8], tables: &SetTables, p: u16) -> bool
-    ensures { SetsTabled (sheet_of s.now) tables.now → result ≡ sets_differ_in_group (sheet_of s.now) p }
+fn group_pairs_differ(s: &[u8], tables: &GroupTables, p: u16) -> bool
+    ensures { GroupsTabled (sheet_of s.now) tables.now → result ≡ sets_differ_in_group (sheet_of s.now) p }
 {
     let n = number(s, PROGRAMMES, p, SET_LIST);
     two_references(s, field(s, PROGRAMMES, p, SET_LIST), n, |u, v| {
@@ -158,8 +158,8 @@ fn group_pairs_differ(s: &[u8], tables: &SetTables, p: u16) -> bool
 
 // The same for a long list: each is compared with the first of its group. No sheet has more than 2,046 objects; a larger number would
 // be past the table.
-fn differ_from_first(s: &[u8], tables: &SetTables, p: u16) -> bool
-    ensures { SetsTabled (sheet_of s.now) tables.now → result ≡ sets_differ_in_group (sheet_of s.now) p }
+fn differ_from_first(s: &[u8], tables: &GroupTables, p: u16) -> bool
+    ensures { GroupsTabled (sheet_of s.now) tables.now → result ≡ sets_differ_in_group (sheet_of s.now) p }
 {
     let n = number(s, PROGRAMMES, p, SET_LIST);
     let mut first: [u16; 2048] = [0; 2048];
@@ -178,8 +178,8 @@ fn differ_from_first(s: &[u8], tables: &SetTables, p: u16) -> bool
 }
 
 // A short list by its pairs, a long one by a table.
-pub fn differ_in_group(s: &[u8], tables: &SetTables, p: u16) -> bool
-    ensures { SetsTabled (sheet_of s.now) tables.now → result ≡ sets_differ_in_group (sheet_of s.now) p }
+pub fn differ_in_group(s: &[u8], tables: &GroupTables, p: u16) -> bool
+    ensures { GroupsTabled (sheet_of s.now) tables.now → result ≡ sets_differ_in_group (sheet_of s.now) p }
 {
     if number(s, PROGRAMMES, p, SET_LIST) <= SHORT {
         group_pairs_differ(s, tables, p)

@@ -3,7 +3,7 @@ ghost use Rattle.std.specs.Prelude.{◌≡◌};
 ghost use Rattle.profile.specs.Rules.{rule22};
 ghost use Rattle.rules.specs.steps.Loops.{partly_set};
 ghost use Rattle.sheet.specs.Words.{sheet_of};
-ghost use Rattle.tables.specs.steps.Right.{Included, NamedSets, SetsTabled};
+ghost use Rattle.tables.specs.steps.Right.{Included, NamedSets, GroupsTabled};
 
 use crate::references::any_reference;
 use crate::repeats::{differ_in_group, one_owner};
@@ -12,7 +12,7 @@ use relations::groups::members;
 use relations::objects::leader;
 use sheet::fields::{OBJECTS, PROGRAMMES, SET_LIST};
 use sheet::layout::{count, field, number};
-use tables::SetTables;
+use tables::GroupTables;
 use tables::marks::mark_named_sets;
 use tables::members::members_passing;
 use tables::reads::{included_by, names_set_by, owner_by};
@@ -33,8 +33,8 @@ fn partly_set(s: &[u8], p: u16, marks: &[u16], sets: &[u16], l: u16) -> bool
     }
 }
 
-pub fn rule22(s: &[u8], tables: &SetTables, marks: &[u16], section: u8, p: u16) -> bool
-    ensures { SetsTabled (sheet_of s.now) tables.now → Included (sheet_of s.now) p marks.now → result ≡ rule22 (sheet_of s.now) section p }
+pub fn rule22(s: &[u8], tables: &GroupTables, marks: &[u16], section: u8, p: u16) -> bool
+    ensures { GroupsTabled (sheet_of s.now) tables.now → Included (sheet_of s.now) p marks.now → result ≡ rule22 (sheet_of s.now) section p }
 {
     let first = field(s, PROGRAMMES, p, SET_LIST);
     let n = number(s, PROGRAMMES, p, SET_LIST);

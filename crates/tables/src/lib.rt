@@ -39,7 +39,7 @@ pub struct ObjectTables<'a> {
 
 // Whose each value set is, and the leader of each object's group, as far as the tables reach.
 #[derive(Clone, Copy)]
-pub struct SetTables<'a> {
+pub struct GroupTables<'a> {
     pub owners: &'a [u16],
     pub leaders: &'a [u16],
 }

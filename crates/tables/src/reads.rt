@@ -3,9 +3,9 @@ ghost use Rattle.std.specs.Prelude.{ℕ, ◌<◌, Some, None, cond, eqb, ltb, ge
 ghost use Rattle.profile.specs.Counting.{any};
 ghost use Rattle.profile.specs.Relations.{complement, includes, leader_of, lone, names_set, owner, top};
 ghost use Rattle.sheet.specs.Words.{sheet_of};
-ghost use Rattle.tables.specs.steps.Right.{Complemented, Included, Leaders, NamedSets, ObjectsTabled, Owners, SetsTabled, Tops, told};
+ghost use Rattle.tables.specs.steps.Right.{Complemented, Included, Leaders, NamedSets, ObjectsTabled, Owners, GroupsTabled, Tops, told};
 
-use crate::{ObjectTables, SetTables};
+use crate::{ObjectTables, GroupTables};
 use relations::groups::leader_of;
 use relations::objects::leader;
 use relations::programmes::{includes, names_set};
@@ -76,10 +76,10 @@ pub fn owner_by(s: &[u8], owners: &[u16], v: u16) -> u16
     }
 }
 
-impl<'a> SetTables<'a> {
+impl<'a> GroupTables<'a> {
     // The leader of the group of the object whose set v is.
     pub fn leader_of_set(&self, s: &[u8], v: u16) -> u16
-        ensures { SetsTabled (sheet_of s.now) self.now → result ≡ leader_of (sheet_of s.now) (owner (sheet_of s.now) v) }
+        ensures { GroupsTabled (sheet_of s.now) self.now → result ≡ leader_of (sheet_of s.now) (owner (sheet_of s.now) v) }
     {
         leader_by(s, self.leaders, owner_by(s, self.owners, v))
     }

@@ -7,7 +7,7 @@ use Rattle.profile.specs.Counting.{how_many}
 use Rattle.profile.specs.Relations.{lists, includes, has_set, namings}
 use Rattle.tables.specs.declared.Naming.TheVariants.{ContentObjects, Complements, ContentLists, SetSpans}
 use Rattle.tables.specs.declared.ObjectTables.{ObjectTables}
-use Rattle.tables.specs.declared.SetTables.{SetTables}
+use Rattle.tables.specs.declared.GroupTables.{GroupTables}
 use Rattle.tables.specs.steps.Marks.{Standing, counted_once, repeat, named_by, first_by}
 
 -- a number as a place has it: 0, 1, or 2 for two or more
@@ -58,6 +58,6 @@ Included s p = Standing (λ o. cond (includes s p o) 1 0)
 abbrev pub ObjectsTabled : Sheet → ObjectTables → Type 0
 ObjectsTabled s t = Tops s t.tops.now × Complemented s t.complements.now
 
--- the tables of the value sets are
-abbrev pub SetsTabled : Sheet → SetTables → Type 0
-SetsTabled s t = Owners s t.owners.now × Leaders s t.leaders.now
+-- the tables of value sets and groups are
+abbrev pub GroupsTabled : Sheet → GroupTables → Type 0
+GroupsTabled s t = Owners s t.owners.now × Leaders s t.leaders.now
