@@ -375,3 +375,7 @@ module _ (s : Sheet) (p q : ℕ) where
       let lists = and_both (same_list s p q content_list) (not both || same_list s p q set_list) e in
       let same = same_words s p q content_list lists.0 in
       (same_repeats same ∙ kept.0, same_21 same ∙ kept.1, λ b. same_22 same (same_words s p q set_list (rw b at lists.1)) ∙ kept.2 b)
+
+-- a programme more, which has the lists of the one before it
+pub repeated_kept : (s : Sheet) (both : Bool) (from p : ℕ) → (from < p) × (same_lists s both p (p - 1) ≡ true) → KeptTo s both p → KeptTo s both (p + 1)
+repeated_kept s both from p same before = below_more (ProgrammeKept s both) p before (same_kept s p (p - 1) both same.1 (before (p - 1) (omega (arith, same.0))))

@@ -16,8 +16,7 @@ use Rattle.profile.specs.Counting.{how_many}
 use Rattle.profile.specs.Relations.{leader, leader_of, member, members, includes}
 use Rattle.profile.proofs.SumLaws.{how_many_eq}
 use Rattle.tables.specs.declared.Naming.TheVariants.{Included}
-use Rattle.tables.specs.declared.Mark.TheVariants.{Store}
-use Rattle.tables.specs.steps.Marks.{Standing, marked, repeat, times_by}
+use Rattle.tables.specs.steps.Marks.{Standing, repeat, times_by}
 use Rattle.tables.proofs.MarkLaws.{repeat_store}
 use Rattle.tables.proofs.TableLaws.{included_marked}
 use Rattle.grouping.specs.steps.Leaders.{AllAsked, Asked, AskedFor, Ready, UpTo, group_at}
@@ -141,7 +140,7 @@ lies_inside h l some =
 
 -- nothing stands in the table once the places of what the programme includes have 0
 module _ (s : Sheet) (p : ℕ) (t t' : List ℕ) (long : length t' ≡ length t) (tells : (x : ℕ) → includes s p x ≡ not (eqb (get_or t x 0) 0))
-    (now : Standing (λ x. repeat (marked (Store 0)) (times_by s Included p x) (get_or t x 0)) t') where
+    (now : Standing (λ x. repeat (λ (c : ℕ). 0) (times_by s Included p x) (get_or t x 0)) t') where
   -- what is never named is not included
   unnamed : (x : ℕ) → eqb (times_by s Included p x) 0 ≡ true → get_or t x 0 ≡ 0
   unnamed x e =
@@ -176,5 +175,9 @@ module _ (s : Sheet) (both : Bool) (owners alike : List ℕ) (p : ℕ) (t t' h h
       (asked_kept s p t' apart (entries_apart s p both alike t t' ready.1 entered) tells (2 * p) h h' ready.3 (long ∙ ready.2) asked)
 
   pub led_ready : (q : ℕ) (t'' : List ℕ) → p < q → length t' ≡ length t → length t'' ≡ length t'
-      → Standing (λ x. repeat (marked (Store 0)) (times_by s Included p x) (get_or t' x 0)) t'' → Ready s q t'' h'
+      → Standing (λ x. repeat (λ (c : ℕ). 0) (times_by s Included p x) (get_or t' x 0)) t'' → Ready s q t'' h'
   led_ready q t'' more same cleared now = (cleared ∙ same ∙ ready.0, left_empty s p t' t'' cleared tells now, long ∙ ready.2, λ x l. omega (arith, (asked ready.3).0 x l))
+
+-- with one that is passed over, the tables are ready for the next
+pub ready_later : (s : Sheet) (p : ℕ) (t h : List ℕ) → Ready s p t h → Ready s (p + 1) t h
+ready_later s p t h ready = (ready.0, ready.1, ready.2, λ x l. omega (arith, ready.3 x l))

@@ -1,7 +1,7 @@
 // The groups of a programme by the leaders of its objects: what this takes goes with the programme's lists, not with the sheet's objects.
 // A table has for each leader what was seen of its group: up to a number `seen` nothing in this programme, one more for one object of
 // it, two more where the group was asked for.
-ghost use Rattle.std.specs.Prelude.{◌<◌, length, true, ◌≡◌};
+ghost use Rattle.std.specs.Prelude.{◌<◌, IsSome, length, ◌≡◌};
 ghost use Rattle.grouping.specs.steps.Leaders.{AllAsked, AskedFor};
 ghost use Rattle.inclusion.specs.steps.Entering.{Begins};
 ghost use Rattle.sheet.specs.Words.{sheet_of};
@@ -24,13 +24,13 @@ fn group_asked(
     seen: u16,
     l: u16,
     groups: &mut [u16],
-) -> bool
+) -> Option<()>
     requires { seen < 65534 }
-    ensures { (length groups.new ≡ length groups.old) × (result ≡ true → Begins (sheet_of s.now) sections → AskedFor (sheet_of s.now) included.now seen l groups.old groups.new) }
+    ensures { (length groups.new ≡ length groups.old) × (IsSome result → Begins (sheet_of s.now) sections → AskedFor (sheet_of s.now) included.now seen l groups.old groups.new) }
 {
     let h = at(groups, l);
     if seen + 1 < h {
-        return true;
+        return Some(());
     }
     if h <= seen {
         return change(groups, l, h, seen + 1);
@@ -42,7 +42,7 @@ fn group_asked(
         l,
         entry(s, OBJECTS, l, COMPLEMENT_LIST, 0),
     ) {
-        return false;
+        return None;
     }
     change(groups, l, h, seen + 2)
 }
@@ -56,22 +56,18 @@ pub fn groups_asked(
     p: u16,
     included: &[u16],
     groups: &mut [u16],
-) -> bool
-    ensures { (length groups.new ≡ length groups.old) × (result ≡ true → Begins (sheet_of s.now) sections → Leaders (sheet_of s.now) leaders.now → AllAsked (sheet_of s.now) p included.now groups.old groups.new) }
+) -> Option<()>
+    ensures { (length groups.new ≡ length groups.old) × (IsSome result → Begins (sheet_of s.now) sections → Leaders (sheet_of s.now) leaders.now → AllAsked (sheet_of s.now) p included.now groups.old groups.new) }
 {
     if 32766 < p {
-        return false;
+        return None;
     }
     let seen = 2 * p;
     let from = field(s, PROGRAMMES, p, CONTENT_LIST);
     let n = number(s, PROGRAMMES, p, CONTENT_LIST);
-    let mut i: u16 = 0;
-    while i < n {
+    for i in 0..n {
         let l = leader_by(s, leaders, object_from(s, sections, from, i));
-        if !group_asked(s, sections, included, seen, l, groups) {
-            return false;
-        }
-        i += 1;
+        group_asked(s, sections, included, seen, l, groups)?;
     }
-    true
+    Some(())
 }

@@ -9,7 +9,9 @@ use native.Mathlib.Nat.{le_of_suc-le-suc}
 use borrow.Author.Count.{below_more}
 use borrow.Author.Tests.{eqb-true, eq-eqb, not-false}
 use lib.Dec.{eqb, leb, ltb}
-use lib.ListN.{get_or}
+use lib.ListN.{length, get_or, take}
+use lib.Seq.{length-take-le}
+use Rattle.std.proofs.lemmas.List.{get_or-take}
 use Rattle.sheet.specs.Words.{Sheet}
 use Rattle.sheet.specs.Layout.{count, number, entry}
 use Rattle.sheet.specs.Fields.{objects, complement_list}
@@ -20,7 +22,7 @@ use Rattle.profile.proofs.CountingLaws.{any_none}
 use Rattle.profile.proofs.GroupLaws.{any_witness}
 use Rattle.profile.proofs.SumLaws.{how_many_eq}
 use Rattle.inclusion.specs.steps.Groups.{GroupKept, PairKept, group_whole, many_in, sets_in}
-use Rattle.inclusion.specs.steps.Rows.{HasRow, OnlyComplement, RowAdded, RowKept, RowsComplete, RowsListed}
+use Rattle.inclusion.specs.steps.Rows.{HasRow, OnlyComplement, Placed, RowAdded, RowKept, RowsComplete, RowsListed}
 use Rattle.inclusion.proofs.PassLaws.{pair_group, sets_own}
 
 -- a row more
@@ -50,6 +52,15 @@ listed_next s t u g l j z before = (
   λ i h. absurd (omega arith),
   before.2,
 )
+
+-- the lists cut to their rows
+pub rows_cut : (s : Sheet) (t u : List ℕ) (g : ℕ) → Placed t u g → RowsComplete s t u g → RowsComplete s (take g t) (take g u) (length (take g t))
+rows_cut s t u g placed rows =
+    rw (length-take-le g t placed.0) (
+      λ k l i h. let r = rows.0 k l i h in (r.0, r.1, get_or-take g t r.0 0 r.1 ∙ r.2, get_or-take g u r.0 0 r.1 ∙ r.3),
+      λ i h. absurd (omega arith),
+      λ i h. rw (get_or-take g t i 0 h, get_or-take g u i 0 h) (rows.2 i h),
+    )
 
 -- the group of a leader with one complement
 pub led_pair : (s : Sheet) (t : List ℕ) (l m : ℕ) → number s objects l complement_list ≡ 1 → OnlyComplement s l m → PairKept s (get_or t l 0) (get_or t m 0) → GroupKept s t l

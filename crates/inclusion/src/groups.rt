@@ -3,7 +3,7 @@
 ghost use Rattle.std.specs.Prelude.{ℕ, Some, ◌+◌, ◌-◌, ◌<◌, ◌≤◌, get_or, length, false, true, ◌⊎◌, ◌≡◌};
 ghost use Rattle.inclusion.specs.steps.Groups.{GroupKept, ListKept, PairKept, many_listed};
 ghost use Rattle.inclusion.specs.steps.Entering.{Begins};
-ghost use Rattle.inclusion.specs.steps.Rows.{OnlyComplement, RowAdded, RowsAdded, RowsComplete};
+ghost use Rattle.inclusion.specs.steps.Rows.{OnlyComplement, Placed, RowAdded, RowsAdded, RowsComplete};
 ghost use Rattle.profile.specs.Rules.{sets_differ};
 ghost use Rattle.sheet.specs.Fields.{objects, value_sets};
 ghost use Rattle.sheet.specs.Layout.{count, offset};
@@ -155,7 +155,7 @@ pub fn groups_kept(s: &[u8], sections: SectionOffsets, rows: &Rows, included: &[
 
 // Adds a row to g rows, where there is a place for it, and tells how many there are.
 fn add_row(leading: &mut [u16], partners: &mut [u16], g: u16, l: u16, m: u16) -> Option<u16>
-    ensures { (length leading.new ≡ length leading.old) × (length partners.new ≡ length partners.old) × ((more : ℕ) → result ≡ Some more → (more ≡ g + 1) × RowAdded leading.old leading.new g l × RowAdded partners.old partners.new g m) }
+    ensures { (length leading.new ≡ length leading.old) × (length partners.new ≡ length partners.old) × ((more : ℕ) → result ≡ Some more → (more ≡ g + 1) × Placed leading.new partners.new more × RowAdded leading.old leading.new g l × RowAdded partners.old partners.new g m) }
 {
     let i = g as usize;
     if (leading.len() <= i) || (partners.len() <= i) {
@@ -181,7 +181,7 @@ fn add_rows(s: &[u8], leading: &mut [u16], partners: &mut [u16], before: u16, l:
 
 // Lists each leader with each of its complements, where there is place for them, and tells how many rows there are.
 pub fn list_leaders(s: &[u8], leading: &mut [u16], partners: &mut [u16]) -> Option<u16>
-    ensures { (length leading.new ≡ length leading.old) × (length partners.new ≡ length partners.old) × ((g : ℕ) → result ≡ Some g → RowsComplete (sheet_of s.now) leading.new partners.new g) }
+    ensures { (length leading.new ≡ length leading.old) × (length partners.new ≡ length partners.old) × ((g : ℕ) → result ≡ Some g → Placed leading.new partners.new g × RowsComplete (sheet_of s.now) leading.new partners.new g) }
 {
     let mut g: u16 = 0;
     for l in 0..count(s, OBJECTS) {

@@ -1,5 +1,5 @@
 -- The groups as rows of two lists, each a leader and a complement. Assumes nothing.
-use Rattle.std.specs.Prelude.{ℕ, ◌+◌, ◌<◌, ◌≡◌, List, ◌⊎◌, get_or}
+use Rattle.std.specs.Prelude.{ℕ, ◌+◌, ◌<◌, ◌≤◌, ◌≡◌, List, ◌⊎◌, length, get_or}
 use Rattle.sheet.specs.Words.{Sheet}
 use Rattle.sheet.specs.Layout.{count, number, entry}
 use Rattle.sheet.specs.Fields.{objects, complement_list}
@@ -28,10 +28,14 @@ RowsListed s t u g l j =
     × ((i : ℕ) → i < j → HasRow t u g l (entry s objects l complement_list i))
     × ((i : ℕ) → i < g → OnlyComplement s (get_or t i 0) (get_or u i 0))
 
+-- two lists have places for g rows
+abbrev pub Placed : List ℕ → List ℕ → ℕ → Type 0
+Placed t u g = (g ≤ length t) × (g ≤ length u)
+
 -- the rows have all
 abbrev pub RowsComplete : Sheet → List ℕ → List ℕ → ℕ → Type 0
 RowsComplete s t u g = RowsListed s t u g (count s objects) 0
 
 -- the rows of object l are added to those of the objects before it
 abbrev pub RowsAdded : Sheet → List ℕ → List ℕ → List ℕ → List ℕ → ℕ → ℕ → ℕ → Type 0
-RowsAdded s t u t' u' before l g = RowsListed s t u before l 0 → RowsListed s t' u' g (l + 1) 0
+RowsAdded s t u t' u' before l g = (Placed t u before → Placed t' u' g) × (RowsListed s t u before l 0 → RowsListed s t' u' g (l + 1) 0)

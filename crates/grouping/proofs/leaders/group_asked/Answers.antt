@@ -1,7 +1,6 @@
 -- By what the table has for the group. Assumes nothing.
 use Prim.Native.Nat.{◌+◌, ◌<◌}
-use mathlib.Core.Path.{refl, sym}
-use mathlib.Core.Bool.{true≢false}
+use mathlib.Core.Path.{refl}
 use mathlib.Core.Logic.{inl, inr}
 use native.Mathlib.Omega.{arith}
 use lib.ListN.{get_or}
@@ -21,9 +20,6 @@ returns-then-h-seen c =
           let now = changed.ensures.1 e in
           (now.0, others a.groups.now changed.new.table a.l (a.seen + 1) changed.ensures.0 now.2, inl (omega (arith, c.at-h.ensures, c.if-h-seen.true), put a.groups.now changed.new.table a.l (a.seen + 1) changed.ensures.0 now.2 now.0)),
     )
-
-pub returns-then-not-group_kept : goal.returns-then-not-group_kept
-returns-then-not-group_kept c = (refl, λ e. absurd (true≢false (sym e)))
 
 pub returns : goal.returns
 returns c =

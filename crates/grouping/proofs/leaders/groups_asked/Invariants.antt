@@ -1,7 +1,4 @@
 -- The contents passed are asked for. Assumes nothing.
-use Prim.Native.Nat.{◌-◌, ◌≤◌}
-use mathlib.Core.Path.{◌≡◌}
-use lib.ListN.{length}
 use Rattle.sheet.specs.Words.{sheet_of}
 use Rattle.tables.specs.steps.Right.{Leaders}
 use Rattle.inclusion.specs.steps.Entering.{Begins}
@@ -9,7 +6,4 @@ use Rattle.grouping.specs.steps.Leaders.{Asked}
 use Rattle.grouping.proofs.leaders.groups_asked.Given as goal
 
 abbrev pub invariant-loop-i : goal.invariant-loop-i
-invariant-loop-i l = (l.i ≤ l.n) × (length l.groups ≡ length l.initial.groups) × (Begins (sheet_of l.s) l.sections → Leaders (sheet_of l.s) l.leaders → Asked (sheet_of l.s) l.p l.included l.seen l.i l.initial.groups l.groups)
-
-abbrev pub decreases-loop-i : goal.decreases-loop-i
-decreases-loop-i l = l.n - l.i
+invariant-loop-i l = Begins (sheet_of l.s) l.sections → Leaders (sheet_of l.s) l.leaders → Asked (sheet_of l.s) l.p l.included l.seen l.i l.initial.groups l.groups

@@ -1,85 +1,38 @@
-use mathlib.Core.Path.{refl, ap, ◌∙◌}
-use native.Mathlib.Omega.{arith}
+use Rattle.std.proofs.Common.{rules, ℕ, ◌+◌, not, ap, ◌∙◌, arith}
 use Rattle.sheet.specs.Words.{sheet_of}
 use Rattle.tables.specs.declared.Naming.TheVariants.{Complements}
 use Rattle.tables.specs.steps.Marks.{first_by}
 use Rattle.tables.specs.steps.Right.{Leaders}
-use Rattle.grouping.proofs.LeaderLaws.{led_more, led_ready}
+use Rattle.grouping.proofs.KeptLaws.{repeated_kept}
+use Rattle.grouping.proofs.LeaderLaws.{led_more, led_ready, ready_later}
 use Rattle.grouping.proofs.programmes.leaders_from.Goals as goal
 
 pub loop-p-init : goal.loop-p-init
-loop-p-init c = (refl, refl, λ pass apart a b before. ((b, c.clear-3.ensures.1, a, λ x l. omega (arith, c.clear-2.ensures.1 x l)), before))
+loop-p-init c = λ pass apart a b before. ((b, c.clear-3.ensures.1, a, λ x l. omega (arith, c.clear-2.ensures.1 x l)), before)
 
-pub shape_of-leaders-then-not-enter : goal.shape_of-leaders-then-not-enter
-shape_of-leaders-then-not-enter c =
-    c.first_namers.ensures.0 ∙ c.clear.ensures.0
-
-pub shape_of-groups-then-not-enter : goal.shape_of-groups-then-not-enter
-shape_of-groups-then-not-enter c = c.loop-p.invariant.0 ∙ c.clear-2.ensures.0
-
-pub shape_of-included-then-not-enter : goal.shape_of-included-then-not-enter
-shape_of-included-then-not-enter c = c.enter.ensures.0 ∙ c.loop-p.invariant.1 ∙ c.clear-3.ensures.0
-
-pub returns-then-not-enter : goal.returns-then-not-enter
-returns-then-not-enter c =
-    record {
-      first = c.first_namers.ensures.0 ∙ c.clear.ensures.0;
-      second = c.loop-p.invariant.0 ∙ c.clear-2.ensures.0;
-      third = c.enter.ensures.0 ∙ c.loop-p.invariant.1 ∙ c.clear-3.ensures.0;
-      kept = λ pass full apart before. (c.loop-p.invariant.2 pass apart (c.clear-2.ensures.0 ∙ full.1) (c.clear-3.ensures.0 ∙ full.2) before).1;
-    }
-
-pub shape_of-leaders-then-not-groups_asked : goal.shape_of-leaders-then-not-groups_asked
-shape_of-leaders-then-not-groups_asked c =
-    c.first_namers.ensures.0 ∙ c.clear.ensures.0
-
-pub shape_of-groups-then-not-groups_asked : goal.shape_of-groups-then-not-groups_asked
-shape_of-groups-then-not-groups_asked c =
-    c.groups_asked.ensures.0 ∙ c.loop-p.invariant.0 ∙ c.clear-2.ensures.0
-
-pub shape_of-included-then-not-groups_asked : goal.shape_of-included-then-not-groups_asked
-shape_of-included-then-not-groups_asked c =
-    c.enter.ensures.0 ∙ c.loop-p.invariant.1 ∙ c.clear-3.ensures.0
-
-pub returns-then-not-groups_asked : goal.returns-then-not-groups_asked
-returns-then-not-groups_asked c =
-    record {
-      first = c.first_namers.ensures.0 ∙ c.clear.ensures.0;
-      second = c.groups_asked.ensures.0 ∙ c.loop-p.invariant.0 ∙ c.clear-2.ensures.0;
-      third = c.enter.ensures.0 ∙ c.loop-p.invariant.1 ∙ c.clear-3.ensures.0;
-      kept = λ pass full apart before. (c.loop-p.invariant.2 pass apart (c.clear-2.ensures.0 ∙ full.1) (c.clear-3.ensures.0 ∙ full.2) before).1;
-    }
-
-pub loop-p-smaller : goal.loop-p-smaller
-loop-p-smaller c = omega (arith, c.next_other-p.ensures.0, c.loop-p-test.true)
+pub loop-p-preserved-then-repeats_before : goal.loop-p-preserved-then-repeats_before
+loop-p-preserved-then-repeats_before c = λ pass apart full full₂ before.
+    let s = sheet_of c.args.s.now in let here = c.loop-p in let so = here.invariant pass apart full full₂ before in
+    (ready_later s here.p here.included here.groups so.0, repeated_kept s c.args.wanted.both c.args.wanted.from here.p (c.repeats_before.ensures c.if-repeats_before.true) so.1)
 
 pub loop-p-preserved : goal.loop-p-preserved
-loop-p-preserved c =
-    let a = c.args in let here = c.loop-p in let named = c.first_namers in let enter = c.enter in let asked = c.groups_asked in let cleared = c.mark_objects in let at = c.section_offsets-sections.ensures in let led : Leaders (sheet_of a.s.now) named.new.table = λ x l. named.ensures.1 x l ∙ ap (first_by (sheet_of a.s.now) Complements x) (c.clear.ensures.1 x (rw named.ensures.0 at l)) in (
-      asked.ensures.0 ∙ here.invariant.0,
-      cleared.ensures.0 ∙ enter.ensures.0 ∙ here.invariant.1,
-      λ pass apart full full₂ before.
-          let so = here.invariant.2 pass apart full full₂ before in let entered = enter.ensures.1 c.if-not-enter.false at pass.0 in let groups = asked.ensures.1 c.if-not-groups_asked.false at led in (
-            led_ready (sheet_of a.s.now) a.wanted.both a.owners.now a.alike.now here.p here.included enter.new.included here.groups asked.new.groups pass entered so.0 groups asked.ensures.0 c.next_other-p.result cleared.new.table c.next_other-p.ensures.0 enter.ensures.0 cleared.ensures.0 cleared.ensures.1,
-            c.next_other-p.ensures.1 (led_more (sheet_of a.s.now) a.wanted.both a.owners.now a.alike.now here.p here.included enter.new.included here.groups asked.new.groups pass entered so.0 groups asked.ensures.0 apart so.1),
-          ),
+loop-p-preserved c = λ pass apart full full₂ before.
+    let a = c.args in let s = sheet_of a.s.now in let both = a.wanted.both in let owners = a.sets.now.owners.now in let alike = a.sets.now.alike.now in
+    let here = c.loop-p in let named = c.first_namers in let enter = c.enter in let asked = c.groups_asked in let at = c.section_offsets-sections.ensures in
+    let led : Leaders s named.new.table = λ x l. named.ensures.1 x l ∙ ap (first_by s Complements x) (c.clear.ensures.1 x (rw named.ensures.0 at l)) in
+    let cleared = c.mark_objects.ensures (λ (k : ℕ). 0) (λ i r b q. search rules) in
+    let so = here.invariant pass apart full full₂ before in
+    let entered = enter.ensures.1 (c.is_none.ensures ∙ ap not c.if-is_none.false) at pass.0 in
+    let groups = asked.ensures.1 (c.is_none-in-loop-p.ensures ∙ ap not c.if-is_none-2.false) at led in (
+      led_ready s both owners alike here.p here.included enter.new.included here.groups asked.new.groups pass entered so.0 groups asked.ensures.0 (here.p + 1) c.mark_objects.new.table (omega arith) enter.ensures.0 cleared.0 cleared.1,
+      led_more s both owners alike here.p here.included enter.new.included here.groups asked.new.groups pass entered so.0 groups asked.ensures.0 apart so.1,
     )
-
-pub shape_of-leaders : goal.shape_of-leaders
-shape_of-leaders c =
-    c.first_namers.ensures.0 ∙ c.clear.ensures.0
-
-pub shape_of-groups : goal.shape_of-groups
-shape_of-groups c = c.loop-p.invariant.0 ∙ c.clear-2.ensures.0
-
-pub shape_of-included : goal.shape_of-included
-shape_of-included c = c.loop-p.invariant.1 ∙ c.clear-3.ensures.0
 
 pub returns : goal.returns
 returns c =
     record {
       first = c.first_namers.ensures.0 ∙ c.clear.ensures.0;
-      second = c.loop-p.invariant.0 ∙ c.clear-2.ensures.0;
-      third = c.loop-p.invariant.1 ∙ c.clear-3.ensures.0;
-      kept = λ pass full apart before. (c.loop-p.invariant.2 pass apart (c.clear-2.ensures.0 ∙ full.1) (c.clear-3.ensures.0 ∙ full.2) before).1;
+      second = c.loop-p.auto.groups ∙ c.clear-2.ensures.0;
+      third = c.loop-p.auto.included ∙ c.clear-3.ensures.0;
+      kept = λ pass full apart before q l. (c.loop-p.invariant pass apart (c.clear-2.ensures.0 ∙ full.1) (c.clear-3.ensures.0 ∙ full.2) before).1 q (omega (arith, l, c.max.ensures));
     }

@@ -1,7 +1,5 @@
 -- The programmes passed are kept, and the tables are ready for the next. Assumes nothing.
-use Prim.Native.Nat.{◌-◌}
-use mathlib.Core.Path.{◌≡◌}
-use lib.ListN.{length}
+use Rattle.std.proofs.Common.{length, ◌≡◌}
 use Rattle.sheet.specs.Words.{sheet_of}
 use Rattle.sheet.specs.Layout.{count}
 use Rattle.sheet.specs.Fields.{objects}
@@ -11,7 +9,10 @@ use Rattle.grouping.specs.steps.Leaders.{Ready}
 use Rattle.grouping.proofs.programmes.leaders_from.Given as goal
 
 abbrev pub invariant-loop-p : goal.invariant-loop-p
-invariant-loop-p l = (length l.groups ≡ length l.initial.groups) × (length l.included ≡ length l.initial.included) × (Passing (sheet_of l.s) l.both l.owners l.alike → GroupsApart (sheet_of l.s) → length l.initial.groups ≡ count (sheet_of l.s) objects → length l.initial.included ≡ count (sheet_of l.s) objects → KeptTo (sheet_of l.s) l.both l.initial.p → Ready (sheet_of l.s) l.p l.included l.groups × KeptTo (sheet_of l.s) l.both l.p)
-
-abbrev pub decreases-loop-p : goal.decreases-loop-p
-decreases-loop-p l = l.n - l.p
+invariant-loop-p l =
+    Passing (sheet_of l.s) l.wanted.both l.sets.owners.now l.sets.alike.now
+    → GroupsApart (sheet_of l.s)
+    → length l.initial.groups ≡ count (sheet_of l.s) objects
+    → length l.initial.included ≡ count (sheet_of l.s) objects
+    → KeptTo (sheet_of l.s) l.wanted.both l.wanted.from
+    → Ready (sheet_of l.s) l.p l.included l.groups × KeptTo (sheet_of l.s) l.wanted.both l.p

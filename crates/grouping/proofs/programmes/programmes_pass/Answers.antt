@@ -1,6 +1,5 @@
 -- The part of each table that has as many places as there are objects; no set stands for another. Assumes nothing.
-use mathlib.Core.Path.{refl, sym, ◌∙◌}
-use mathlib.Core.Bool.{true≢false}
+use mathlib.Core.Path.{◌∙◌}
 use native.Mathlib.Omega.{arith}
 use lib.Seq.{length-take-le}
 use borrow.Author.Tests.{eqb-true}
@@ -8,24 +7,6 @@ use Rattle.sheet.specs.Words.{sheet_of}
 use Rattle.inclusion.proofs.AlikeLaws.{alike_empty}
 use borrow.Author.Rules.{rules}
 use Rattle.grouping.proofs.programmes.programmes_pass.Goals as goal
-
-pub returns-then-included-n : goal.returns-then-included-n
-returns-then-included-n c = (refl, refl, refl, λ e. absurd (true≢false (sym e)))
-
-pub returns-then-first-n : goal.returns-then-first-n
-returns-then-first-n c = (refl, refl, refl, λ e. absurd (true≢false (sym e)))
-
-pub returns-then-second-n : goal.returns-then-second-n
-returns-then-second-n c = (refl, refl, refl, λ e. absurd (true≢false (sym e)))
-
-pub slice_bounds-kept_from-end-3 : goal.slice_bounds-kept_from-end-3
-slice_bounds-kept_from-end-3 c = sym (length-take-le c.count-n.result c.args.first.now c.if-first-n.false)
-
-pub slice_bounds-kept_from-end-5 : goal.slice_bounds-kept_from-end-5
-slice_bounds-kept_from-end-5 c = sym (length-take-le c.count-n.result c.args.second.now c.if-second-n.false)
-
-pub slice_bounds-kept_from-end-7 : goal.slice_bounds-kept_from-end-7
-slice_bounds-kept_from-end-7 c = sym (length-take-le c.count-n.result c.args.included.now c.if-included-n.false)
 
 pub returns : goal.returns
 returns c =

@@ -1,62 +1,28 @@
-use mathlib.Core.Path.{refl, ◌∙◌}
-use native.Mathlib.Omega.{arith}
+use Rattle.std.proofs.Common.{not, refl, ap, ◌∙◌, arith}
 use Rattle.sheet.specs.Words.{sheet_of}
-use Rattle.grouping.proofs.KeptLaws.{programme_more}
+use Rattle.inclusion.proofs.RowLaws.{rows_cut}
+use Rattle.grouping.proofs.KeptLaws.{programme_more, repeated_kept}
 use Rattle.grouping.proofs.programmes.rows_from.Goals as goal
 
+pub slice_bounds-rows-end : goal.slice_bounds-rows-end
+slice_bounds-rows-end c = (c.in-Some.ensures.2 c.in-Some.g refl).0.0
+
 pub loop-p-init : goal.loop-p-init
-loop-p-init c = (refl, λ pass full before. before)
+loop-p-init c = λ pass full before. before
 
-pub shape_of-leading-then-not-enter : goal.shape_of-leading-then-not-enter
-shape_of-leading-then-not-enter c = c.list_leaders-g.ensures.0
-
-pub shape_of-partners-then-not-enter : goal.shape_of-partners-then-not-enter
-shape_of-partners-then-not-enter c = c.list_leaders-g.ensures.1
-
-pub shape_of-included-then-not-enter : goal.shape_of-included-then-not-enter
-shape_of-included-then-not-enter c = c.enter.ensures.0 ∙ c.clear.ensures.0 ∙ c.loop-p.invariant.0
-
-pub returns-then-not-enter : goal.returns-then-not-enter
-returns-then-not-enter c =
-    let rows = c.list_leaders-g.ensures in record { first = rows.0; second = rows.1; third = c.enter.ensures.0 ∙ c.clear.ensures.0 ∙ c.loop-p.invariant.0; kept = λ pass full apart. c.loop-p.invariant.1 pass full.2 }
-
-pub shape_of-leading-then-not-groups_kept : goal.shape_of-leading-then-not-groups_kept
-shape_of-leading-then-not-groups_kept c = c.list_leaders-g.ensures.0
-
-pub shape_of-partners-then-not-groups_kept : goal.shape_of-partners-then-not-groups_kept
-shape_of-partners-then-not-groups_kept c = c.list_leaders-g.ensures.1
-
-pub shape_of-included-then-not-groups_kept : goal.shape_of-included-then-not-groups_kept
-shape_of-included-then-not-groups_kept c =
-    c.enter.ensures.0 ∙ c.clear.ensures.0 ∙ c.loop-p.invariant.0
-
-pub returns-then-not-groups_kept : goal.returns-then-not-groups_kept
-returns-then-not-groups_kept c =
-    let rows = c.list_leaders-g.ensures in record { first = rows.0; second = rows.1; third = c.enter.ensures.0 ∙ c.clear.ensures.0 ∙ c.loop-p.invariant.0; kept = λ pass full apart. c.loop-p.invariant.1 pass full.2 }
-
-pub loop-p-smaller : goal.loop-p-smaller
-loop-p-smaller c = omega (arith, c.next_other-p.ensures.0, c.loop-p-test.true)
+pub loop-p-preserved-then-repeats_before : goal.loop-p-preserved-then-repeats_before
+loop-p-preserved-then-repeats_before c = λ pass full before.
+    repeated_kept (sheet_of c.args.s.now) c.args.wanted.both c.args.wanted.from c.loop-p.p (c.repeats_before.ensures c.if-repeats_before.true) (c.loop-p.invariant pass full before)
 
 pub loop-p-preserved : goal.loop-p-preserved
-loop-p-preserved c =
-    let a = c.args in let here = c.loop-p in let cleared = c.clear in let enter = c.enter in let at = c.section_offsets-sections.ensures in (
-      enter.ensures.0 ∙ cleared.ensures.0 ∙ here.invariant.0,
-      λ pass full before.
-          c.next_other-p.ensures.1
-          (programme_more (sheet_of a.s.now) a.wanted.both a.owners.now a.alike.now here.p cleared.new.table enter.new.included pass
-          (enter.ensures.1 c.if-not-enter.false at pass.0) cleared.ensures.1 (cleared.ensures.0 ∙ here.invariant.0 ∙ full)
-          (c.groups_kept.ensures c.if-not-groups_kept.false at c.list_leaders-g.ensures.2) (here.invariant.1 pass full before)),
-    )
-
-pub shape_of-leading : goal.shape_of-leading
-shape_of-leading c = c.list_leaders-g.ensures.0
-
-pub shape_of-partners : goal.shape_of-partners
-shape_of-partners c = c.list_leaders-g.ensures.1
-
-pub shape_of-included : goal.shape_of-included
-shape_of-included c = c.loop-p.invariant.0
+loop-p-preserved c = λ pass full before.
+    let a = c.args in let here = c.loop-p in let cleared = c.clear in let enter = c.enter in let at = c.section_offsets-sections.ensures in
+    let rows = c.in-Some.ensures.2 c.in-Some.g refl in
+    let entered = enter.ensures.1 (c.is_none.ensures ∙ ap not c.if-is_none.false) at pass.0 in
+    programme_more (sheet_of a.s.now) a.wanted.both a.sets.now.owners.now a.sets.now.alike.now here.p cleared.new.table enter.new.included pass
+    entered cleared.ensures.1 (cleared.ensures.0 ∙ here.auto.included ∙ full)
+    (c.groups_kept.ensures c.if-not-groups_kept.false at (rows_cut (sheet_of a.s.now) c.list_leaders.new.leading c.list_leaders.new.partners c.in-Some.g rows.0 rows.1)) (here.invariant pass full before)
 
 pub returns : goal.returns
 returns c =
-    let rows = c.list_leaders-g.ensures in record { first = rows.0; second = rows.1; third = c.loop-p.invariant.0; kept = λ pass full apart. c.loop-p.invariant.1 pass full.2 }
+    let rows = c.list_leaders.ensures in record { first = rows.0; second = rows.1; third = c.loop-p.auto.included; kept = λ pass full apart before q l. c.loop-p.invariant pass full.2 before q (omega (arith, l, c.max.ensures)) }

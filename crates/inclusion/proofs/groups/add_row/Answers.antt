@@ -13,5 +13,7 @@ returns c =
     let a = c.args in let t = a.leading.now in let u = a.partners.now in (
       length-set t a.g a.l,
       length-set u a.g a.m,
-      λ more e. ((rw e at c.checked_add.ensures).1, (before t a.g a.l, get_or-set_same t a.g a.l 0 c.if-leading-i.false), (before u a.g a.m, get_or-set_same u a.g a.m 0 c.if-partners-i.false)),
+      λ more e.
+          let next = (rw e at c.checked_add.ensures).1 in
+          (next, (omega (arith, next, length-set t a.g a.l, c.if-leading-i.false), omega (arith, next, length-set u a.g a.m, c.if-partners-i.false)), (before t a.g a.l, get_or-set_same t a.g a.l 0 c.if-leading-i.false), (before u a.g a.m, get_or-set_same u a.g a.m 0 c.if-partners-i.false)),
     )
