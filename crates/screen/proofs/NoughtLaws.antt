@@ -6,8 +6,7 @@ use lib.ListN.{length, get_or}
 use Rattle.sheet.specs.Words.{Sheet}
 use Rattle.tables.specs.declared.Naming.{Naming}
 use Rattle.tables.specs.declared.Naming.TheVariants.{ContentObjects, Children, SetSpans}
-use Rattle.tables.specs.declared.Mark.TheVariants.{Count}
-use Rattle.tables.specs.steps.Marks.{Standing, marked, repeat, named_by}
+use Rattle.tables.specs.steps.Marks.{Standing, counted_once, repeat, named_by}
 use Rattle.tables.specs.steps.Right.{counted, Named, Listed, Spanned}
 use Rattle.tables.proofs.TableLaws.{namings_added, span_namings, counted_one, listed_counted}
 use mathlib.Core.Bool.{true, false, not}
@@ -20,19 +19,19 @@ use Rattle.profile.specs.Relations.{has_set, lists, namings}
 use Rattle.profile.specs.Rules.{rule11, rule12}
 
 module _ (s : Sheet) (t₀ t : List ℕ) (nought : Standing (λ x. 0) t₀) (long : length t ≡ length t₀) where
-  pub counts_made : (kind : Naming) → Standing (λ x. repeat (marked Count) (named_by s kind x) (get_or t₀ x 0)) t → Standing (λ x. counted (named_by s kind x)) t
+  pub counts_made : (kind : Naming) → Standing (λ x. repeat counted_once (named_by s kind x) (get_or t₀ x 0)) t → Standing (λ x. counted (named_by s kind x)) t
   unfolding counted
-  counts_made kind h x l = h x l ∙ ap (repeat (marked Count) (named_by s kind x)) (nought x (rw long at l))
+  counts_made kind h x l = h x l ∙ ap (repeat counted_once (named_by s kind x)) (nought x (rw long at l))
 
-  pub spans_made : Standing (λ x. repeat (marked Count) (named_by s SetSpans x) (get_or t₀ x 0)) t → Spanned s t
+  pub spans_made : Standing (λ x. repeat counted_once (named_by s SetSpans x) (get_or t₀ x 0)) t → Spanned s t
   spans_made h x l = counts_made SetSpans h x l ∙ ap counted (span_namings s x)
 
 pub named_made : (s : Sheet) (t₀ t u : List ℕ) → Standing (λ x. 0) t₀ → length t ≡ length t₀ → length u ≡ length t
-    → Standing (λ x. repeat (marked Count) (named_by s ContentObjects x) (get_or t₀ x 0)) t
-    → Standing (λ x. repeat (marked Count) (named_by s Children x) (get_or t x 0)) u → Named s u
+    → Standing (λ x. repeat counted_once (named_by s ContentObjects x) (get_or t₀ x 0)) t
+    → Standing (λ x. repeat counted_once (named_by s Children x) (get_or t x 0)) u → Named s u
 named_made s t₀ t u nought long e h k x l =
     k x l
-    ∙ ap (repeat (marked Count) (named_by s Children x)) (h x (rw e at l) ∙ ap (repeat (marked Count) (named_by s ContentObjects x)) (nought x (rw (e, long) at l)))
+    ∙ ap (repeat counted_once (named_by s Children x)) (h x (rw e at l) ∙ ap (repeat counted_once (named_by s ContentObjects x)) (nought x (rw (e, long) at l)))
     ∙ namings_added s x
 
 -- a set that the table has once is in one span

@@ -19,11 +19,11 @@ use Rattle.profile.proofs.BoolLaws.{or_false, or_none, or_none_3, or_none_4, and
 use Rattle.profile.proofs.CountingLaws.{any_none}
 use Rattle.profile.proofs.SumLaws.{any_nowhere, how_many_eq}
 use Rattle.lists.specs.steps.Entries.{entry_at, bad_child_at, out_of_order_at}
-use Rattle.lists.proofs.LimitLaws.{and_nothing}
-use Rattle.screen.specs.steps.Values.{values_at, has_range, none_present, words_broken, value_leaves, set_words_broken, set_broken}
+use Rattle.std.proofs.Math.Bool.{and-false}
+use Rattle.screen.specs.steps.Values.{values_at, has_range, none_present, own_leaves, words_broken, value_leaves, set_words_broken, set_broken}
 use Rattle.screen.specs.declared.Values.{Values}
 use Rattle.screen.specs.declared.ObjectValues.{ObjectValues}
-use Rattle.screen.specs.steps.Objects.{object_lists_broken, object_gains, object_offsets, object_values, gains_broken, offsets_broken, values_broken, children_broken, tracks_broken, source_kept, complement_broken, complements_kept, sets_broken, is_plain, rest_kept, object_broken}
+use Rattle.screen.specs.steps.Objects.{object_lists_broken, object_gains, object_offsets, object_values, sort_broken, offsets_broken, values_broken, children_broken, tracks_broken, source_kept, complement_broken, complements_kept, sets_broken, is_plain, rest_kept, object_broken}
 
 -- two tests of each number below n
 module _ (p q : ℕ → Bool) (n : ℕ) (e : any (λ i. p i || q i) n ≡ false) where
@@ -73,16 +73,16 @@ pub values_kept : (s : Sheet) (o : ℕ) → values_broken (object_values s o) �
     × (rule17 s objects o ≡ false)
     × (rule18 s objects o ≡ false)
     × ((eqb (field s objects o interact) 0 && (object_range s o Gains || object_range s o Offsets)) ≡ false)
-unfolding values_broken gains_broken offsets_broken object_values values_at has_range words_broken bad_object bad_object_words rule17 rule18 object_leaves own_value object_range field
+unfolding values_broken sort_broken own_leaves offsets_broken object_values values_at has_range words_broken bad_object bad_object_words rule17 rule18 object_leaves own_value object_range field
 values_kept s o e =
-    let p = or_none_3 (ltb 1 (field s objects o interact)) (gains_broken (object_values s o)) (offsets_broken (object_values s o)) e in
+    let p = or_none_3 (ltb 1 (field s objects o interact)) (sort_broken Gains (object_values s o) (object_gains s (start s objects o))) (offsets_broken (object_values s o)) e in
     let g = or_none_3 (bad_object_words s o Gains) (eqb (field s objects o interact) 0 && object_range s o Gains) (object_leaves s o Gains) p.1 in
     let f = or_none_4
     (bad_object_words s o Offsets)
     (eqb (field s objects o interact) 0 && object_range s o Offsets)
-    ((not (is_absent (field s objects o object_offset)) || object_range s o Offsets) && not (has_front_pack s o))
-    (object_leaves s o Offsets) p.2 in
-    (simp (p.0, g.0, f.0, or_false), simp (f.2, or_false), simp (g.2, f.3, or_false), neither (eqb (field s objects o interact) 0) (object_range s o Gains) (object_range s o Offsets) g.1 f.1)
+    (object_leaves s o Offsets)
+    ((not (is_absent (field s objects o object_offset)) || object_range s o Offsets) && not (has_front_pack s o)) p.2 in
+    (simp (p.0, g.0, f.0, or_false), simp (f.3, or_false), simp (g.2, f.2, or_false), neither (eqb (field s objects o interact) 0) (object_range s o Gains) (object_range s o Offsets) g.1 f.1)
   where
     neither : (a b c : Bool) → (a && b) ≡ false → (a && c) ≡ false → (a && (b || c)) ≡ false
     neither true b c h k = rw (h, k) refl
@@ -192,7 +192,7 @@ all_absent v e =
 
 -- a plain object
 pub plain_kept : (s : Sheet) (o : ℕ) → is_plain s o ≡ true → rest_kept s o
-unfolding any is_plain sets_broken leader rule15 values_broken gains_broken offsets_broken object_values values_at has_range words_broken bad_words leaves object_range field
+unfolding any is_plain sets_broken leader rule15 values_broken sort_broken own_leaves offsets_broken object_values values_at has_range words_broken bad_words leaves object_range field
 plain_kept s o e =
     let offset = and_both _ (none_present (object_offsets s (start s objects o))) e in
     let gain = and_both _ (none_present (object_gains s (start s objects o))) offset.0 in
@@ -206,7 +206,7 @@ plain_kept s o e =
       simp (off, g.0, g.1, g.2, f.0, f.1, f.2),
       simp sets,
       no_complements s o complements,
-      simp (complements, sets, off, g.0, g.1, g.2, f.0, f.1, f.2, and_nothing),
+      simp (complements, sets, off, g.0, g.1, g.2, f.0, f.1, f.2, and-false),
     )
 
 -- complements that pass
@@ -271,5 +271,5 @@ object_kept s o lists source rest once =
 
 -- no offset and no range of one
 pub no_offset : (v : ObjectValues) → none_present v.offsets ≡ true → offsets_broken v ≡ false
-unfolding offsets_broken has_range words_broken bad_words leaves
-no_offset v e = let p = all_absent v.offsets e in simp (p.0, p.1, p.2, and_nothing)
+unfolding offsets_broken sort_broken own_leaves has_range words_broken bad_words leaves
+no_offset v e = let p = all_absent v.offsets e in simp (p.0, p.1, p.2, and-false)

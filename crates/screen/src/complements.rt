@@ -3,91 +3,73 @@ ghost use Rattle.std.specs.Prelude.{◌+◌, eqb, false, not, ◌≡◌};
 ghost use Rattle.profile.specs.Counting.{any};
 ghost use Rattle.lists.specs.steps.Entries.{entry_at};
 ghost use Rattle.screen.specs.steps.Objects.{complement_broken, complements_kept};
-ghost use Rattle.sheet.specs.Fields.{interact, objects, references};
-ghost use Rattle.sheet.specs.Layout.{field, offset, start};
-ghost use Rattle.sheet.specs.Words.{sheet_of, word};
-ghost use Rattle.tables.specs.steps.Right.{Complemented, Tops};
+ghost use Rattle.sheet.specs.Fields.{interact, objects};
+ghost use Rattle.sheet.specs.Layout.{field};
+ghost use Rattle.sheet.specs.Words.{sheet_of};
+ghost use Rattle.tables.specs.steps.Right.{ObjectsTabled};
 
-use lists::entries::entry_at;
-use lists::words::{number_at, record_at, word_at};
+use crate::object_words::ObjectWords;
+use lists::entries::Entries;
+use profile::counting::any;
 use relations::objects::{kind, lacks};
-use rules::loops::bad_complement;
+use rules::groups::bad_complement;
 use sheet::fields::{
     COMPLEMENT_LIST, INTERACT, OBJECT_GAIN, OBJECT_GAIN_MAXIMUM, OBJECT_GAIN_MINIMUM,
-    OBJECT_OFFSET, OBJECT_OFFSET_MAXIMUM, OBJECT_OFFSET_MINIMUM, OBJECTS, REFERENCES,
+    OBJECT_OFFSET, OBJECT_OFFSET_MAXIMUM, OBJECT_OFFSET_MINIMUM, OBJECTS,
 };
-use sheet::layout::offset;
+use tables::ObjectTables;
 
-// Whether two objects, whose words begin at these indices, differ in the word at a position.
-fn word_differs(s: &[u8], at: u32, from: u32, position: u8) -> bool
-    ensures { result ≡ not (eqb (word (sheet_of s.now) (at + position)) (word (sheet_of s.now) (from + position))) }
-{
-    word_at(s, at, position) != word_at(s, from, position)
-}
-
-// Whether they differ in interact, gain, offset or the four range words.
-fn words_differ(s: &[u8], at: u32, from: u32, l: u16, q: u16) -> bool
-    requires { (at ≡ start (sheet_of s.now) objects l) × (from ≡ start (sheet_of s.now) objects q) }
-    ensures { result ≡ any (λ f. not (eqb (field (sheet_of s.now) objects l (interact + f)) (field (sheet_of s.now) objects q (interact + f)))) 7 }
-{
-    word_differs(s, at, from, INTERACT)
-        | word_differs(s, at, from, OBJECT_GAIN)
-        | word_differs(s, at, from, OBJECT_GAIN_MINIMUM)
-        | word_differs(s, at, from, OBJECT_GAIN_MAXIMUM)
-        | word_differs(s, at, from, OBJECT_OFFSET)
-        | word_differs(s, at, from, OBJECT_OFFSET_MINIMUM)
-        | word_differs(s, at, from, OBJECT_OFFSET_MAXIMUM)
-}
-
-// Whether a complement of leader l, whose words begin at an index, may break one of them.
-fn complement_breaks(s: &[u8], tops: &[u16], complements: &[u16], at: u32, l: u16, q: u16) -> bool
-    requires { at ≡ start (sheet_of s.now) objects l }
-    ensures { Tops (sheet_of s.now) tops.now → Complemented (sheet_of s.now) complements.now → result ≡ complement_broken (sheet_of s.now) l q }
-{
-    lacks(s, OBJECTS, q)
-        | bad_complement(s, tops, complements, q)
-        | (words_differ(s, at, record_at(s, OBJECTS, q), l, q) | (kind(s, l) != kind(s, q)))
-}
-
-// Whether some entry of a list of n complements does.
-fn any_complement_breaks(
-    s: &[u8],
-    tops: &[u16],
-    complements: &[u16],
-    at: u32,
-    l: u16,
-    first: u16,
-    n: u16,
-) -> bool
-    requires { at ≡ start (sheet_of s.now) objects l }
-    ensures { Tops (sheet_of s.now) tops.now → Complemented (sheet_of s.now) complements.now → result ≡ any (λ i. complement_broken (sheet_of s.now) l (entry_at (sheet_of s.now) (offset (sheet_of s.now) references) first i)) n }
-{
-    let base = offset(s, REFERENCES);
-    let mut found = false;
-    let mut i: u16 = 0;
-    while i < n {
-        found = found | complement_breaks(s, tops, complements, at, l, entry_at(s, base, first, i));
-        i += 1;
+impl<'a> ObjectWords<'a> {
+    // Whether two objects differ in the word at a position.
+    fn word_differs(&self, other: &ObjectWords, position: u8) -> bool
+        ensures { result ≡ not (eqb (field (sheet_of self.now.s.now) objects self.now.o position) (field (sheet_of other.now.s.now) objects other.now.o position)) }
+    {
+        self.word(position) != other.word(position)
     }
-    found
+
+    // Whether they differ in interact, gain, offset or the four range words.
+    #[tactic(auto, unfolding(profile::specs::Counting::any))]
+    fn words_differ(&self, other: &ObjectWords) -> bool
+        ensures { result ≡ any (λ f. not (eqb (field (sheet_of self.now.s.now) objects self.now.o (interact + f)) (field (sheet_of other.now.s.now) objects other.now.o (interact + f)))) 7 }
+    {
+        self.word_differs(other, INTERACT)
+            | self.word_differs(other, OBJECT_GAIN)
+            | self.word_differs(other, OBJECT_GAIN_MINIMUM)
+            | self.word_differs(other, OBJECT_GAIN_MAXIMUM)
+            | self.word_differs(other, OBJECT_OFFSET)
+            | self.word_differs(other, OBJECT_OFFSET_MINIMUM)
+            | self.word_differs(other, OBJECT_OFFSET_MAXIMUM)
+    }
+
+    // Whether a complement of this leader may break one of them.
+    #[tactic(auto, unfolding(crate::specs::steps::Objects::complement_broken, profile::specs::Rules::differs))]
+    fn complement_breaks(&self, tables: &ObjectTables, q: u16) -> bool
+        ensures { ObjectsTabled (sheet_of self.now.s.now) tables.now → result ≡ complement_broken (sheet_of self.now.s.now) self.now.o q }
+    {
+        let s = self.s;
+        lacks(s, OBJECTS, q)
+            | bad_complement(s, tables, q)
+            | (self.words_differ(&ObjectWords::new(s, q)) | (kind(s, self.o) != kind(s, q)))
+    }
+
+    // Whether some entry of a list of complements does.
+    fn any_complement_breaks(&self, tables: &ObjectTables, list: Entries) -> bool
+        ensures { ObjectsTabled (sheet_of self.now.s.now) tables.now → result ≡ any (λ i. complement_broken (sheet_of self.now.s.now) self.now.o (entry_at (sheet_of self.now.s.now) list.base list.list.first i)) list.list.count }
+    {
+        any(list.list.count, |i| {
+            self.complement_breaks(tables, list.at(self.s, i))
+        })
+    }
 }
 
 // Whether an object may break rule 19 or 20, or rule 5 by a complement.
-pub fn complements_break(s: &[u8], tops: &[u16], complements: &[u16], o: u16) -> bool
-    ensures { result ≡ false → Tops (sheet_of s.now) tops.now → Complemented (sheet_of s.now) complements.now → complements_kept (sheet_of s.now) o }
+pub fn complements_break(s: &[u8], tables: &ObjectTables, o: u16) -> bool
+    ensures { result ≡ false → ObjectsTabled (sheet_of s.now) tables.now → complements_kept (sheet_of s.now) o }
 {
-    let at = record_at(s, OBJECTS, o);
-    let n = number_at(s, at, COMPLEMENT_LIST);
-    if n == 0 {
+    let object = ObjectWords::new(s, o);
+    let list = object.span(COMPLEMENT_LIST);
+    if list.count == 0 {
         return false;
     }
-    any_complement_breaks(
-        s,
-        tops,
-        complements,
-        at,
-        o,
-        word_at(s, at, COMPLEMENT_LIST),
-        n,
-    )
+    object.any_complement_breaks(tables, list.entries(s))
 }

@@ -3,11 +3,14 @@
 #![tactic(auto)]
 
 pub mod complements;
+pub mod object_words;
 pub mod objects;
 pub mod records;
 pub mod screening;
 pub mod sets;
 pub mod totals;
+
+use tables::ObjectTables;
 
 // A gain with its range, or an offset with its range: three words.
 #[derive(Clone, Copy)]
@@ -32,4 +35,13 @@ pub struct SheetTotals {
     pub groups: u32,
     pub lone: u32,
     pub tracks: u64,
+}
+
+// The tables that the records are tested with: how often contents and child lists name each object, how often content lists name each
+// content, and those of the objects.
+#[derive(Clone, Copy)]
+pub struct RecordTables<'a> {
+    pub named: &'a [u16],
+    pub listed: &'a [u16],
+    pub objects: ObjectTables<'a>,
 }

@@ -1,25 +1,32 @@
 // The screening: a sheet that passes it is accepted. One that doesn't may be accepted too.
-ghost use Rattle.std.specs.Prelude.{◌≤◌, false, true, ◌≡◌};
+ghost use Rattle.std.specs.Prelude.{◌^◌, ◌<◌, false, true, ◌≡◌};
 ghost use Rattle.profile.specs.Verdict.{verdict};
 ghost use Rattle.profile.specs.declared.Verdict.TheVariants.{Accepted};
-ghost use Rattle.screen.specs.steps.Screened.{TablesFilled, Noughts, RecordsAndTotalsKept, RecordsTabled, header_broken};
+ghost use Rattle.screen.specs.steps.Screened.{Noughts, RecordsAndTotalsKept, RecordsTabled, header_broken};
 ghost use Rattle.sheet.specs.Words.{sheet_of};
 ghost use Rattle.tables.specs.steps.Right.{Spanned};
 
+use crate::RecordTables;
 use crate::records::{header_breaks, records_pass};
 use crate::totals::totals_break;
 use grouping::programmes::programmes_pass;
 use languages::list::Languages;
 use sheet::fields::{CONTENTS, OBJECTS, PROGRAMMES, VALUE_SETS};
 use sheet::layout::count;
-use tables::entry_counts::fewer_entries;
+use tables::entry_counts::{fewer_entries, list_entries};
+use tables::namings::items;
 use tables::passes::{count_contents, count_lists, count_tops};
 use tables::reads::all_once;
-use tables::{CountedEntries, Naming};
+use tables::{Naming, ObjectTables};
 
 // The lists of a section that have more entries together, twice as many as section 6 can have, are left to the search: where many records
 // share long lists, walking them takes too long, and for nothing where the sheet doesn't pass.
 const MANY_ENTRIES: u32 = 65536;
+
+// By how many entries the lists of a section are fewer than a number.
+fn fewer_in(s: &[u8], section: u8, most: u32) -> u32 {
+    fewer_entries(count(s, section), most, |k| list_entries(s, section, k))
+}
 
 // Whether each section's lists, with the spans of the objects, have few entries together, as they have in a short sheet. Nothing rests on
 // this but time.
@@ -28,10 +35,12 @@ fn few_entries(s: &[u8]) -> bool {
         return true;
     }
     let most = MANY_ENTRIES + 1;
-    let left = fewer_entries(s, CountedEntries::Lists(OBJECTS), most);
-    (fewer_entries(s, CountedEntries::Lists(PROGRAMMES), most) != 0)
-        & (fewer_entries(s, CountedEntries::Lists(CONTENTS), most) != 0)
-        & (fewer_entries(s, CountedEntries::Namings(Naming::SetSpans), left) != 0)
+    let left = fewer_in(s, OBJECTS, most);
+    (fewer_in(s, PROGRAMMES, most) != 0)
+        & (fewer_in(s, CONTENTS, most) != 0)
+        & (fewer_entries(count(s, OBJECTS), left, |o| {
+            u32::from(items(s, Naming::SetSpans, o))
+        }) != 0)
 }
 
 // Whether the header and the sections keep rules 1, 2, 3 and 7, and the lists have few entries.
@@ -47,57 +56,38 @@ fn header_passes(s: &[u8]) -> bool
     few_entries(s)
 }
 
-// Fills tables of noughts: how often each object and content is named, in how many spans each value set is, and whose it is.
-fn fill_tables(
-    s: &[u8],
-    named: &mut [u16],
-    spanned: &mut [u16],
-    listed: &mut [u16],
-    tops: &mut [u16],
-    complements: &mut [u16],
-    owners: &mut [u16],
-)
-    requires { Noughts named.old spanned.old listed.old tops.old complements.old owners.old }
-    ensures { TablesFilled (sheet_of s.now) named.old spanned.old listed.old tops.old complements.old owners.old named.new spanned.new listed.new tops.new complements.new owners.new }
-{
-    count_tops(s, tops, named);
-    count_lists(s, named, complements, spanned, owners);
-    count_contents(s, listed);
-}
-
 // Whether the records keep rules 4 to 20, each value set is in one span, and the sheet keeps rules 23 and 24.
 fn records_and_totals_pass(
     s: &[u8],
     langs: &Languages,
-    named: &[u16],
+    tables: &RecordTables,
     spanned: &[u16],
-    listed: &[u16],
-    tops: &[u16],
-    complements: &[u16],
 ) -> bool
-    ensures { result ≡ true → RecordsTabled (sheet_of s.now) named.now listed.now tops.now complements.now → Spanned (sheet_of s.now) spanned.now → RecordsAndTotalsKept (sheet_of s.now) langs.now }
+    ensures { result ≡ true → RecordsTabled (sheet_of s.now) tables.now → Spanned (sheet_of s.now) spanned.now → RecordsAndTotalsKept (sheet_of s.now) langs.now }
 {
-    if !records_pass(s, langs, named, listed, tops, complements) {
+    if !records_pass(s, langs, tables) {
         return false;
     }
     if !all_once(spanned, count(s, VALUE_SETS)) {
         return false;
     }
-    !totals_break(s, tops, complements)
+    !totals_break(s, &tables.objects)
+}
+
+// The tables of the screening: how often each object and content is named, in how many spans each value set is, and whose it is.
+#[derive(Drop)]
+struct SheetTables<'a> {
+    named: &'a mut [u16],
+    spanned: &'a mut [u16],
+    listed: &'a mut [u16],
+    tops: &'a mut [u16],
+    complements: &'a mut [u16],
+    owners: &'a mut [u16],
 }
 
 // With tables of noughts. Those of the objects serve the programmes as well, once the records are tested.
-fn screened(
-    s: &[u8],
-    langs: &Languages,
-    named: &mut [u16],
-    spanned: &mut [u16],
-    listed: &mut [u16],
-    tops: &mut [u16],
-    complements: &mut [u16],
-    owners: &mut [u16],
-) -> bool
-    requires { Noughts named.old spanned.old listed.old tops.old complements.old owners.old }
+fn screened(s: &[u8], langs: &Languages, tables: SheetTables) -> bool
+    requires { Noughts tables }
     ensures { result ≡ true → verdict (sheet_of s.now) langs.now ≡ Accepted }
 {
     if !langs.rises() {
@@ -106,87 +96,74 @@ fn screened(
     if !header_passes(s) {
         return false;
     }
-    fill_tables(s, named, spanned, listed, tops, complements, owners);
-    if !records_and_totals_pass(s, langs, named, spanned, listed, tops, complements) {
+    let SheetTables {
+        named,
+        spanned,
+        listed,
+        tops,
+        complements,
+        owners,
+    } = tables;
+    count_tops(s, tops, named);
+    count_lists(s, named, complements, spanned, owners);
+    count_contents(s, listed);
+    let filled = RecordTables {
+        named,
+        listed,
+        objects: ObjectTables { tops, complements },
+    };
+    if !records_and_totals_pass(s, langs, &filled, spanned) {
         return false;
     }
     programmes_pass(s, owners, named, tops, complements)
 }
 
-// A sheet under 1,024 bytes has at most 30 objects, 99 contents and 70 value sets.
+// With tables for so many objects, contents and value sets.
+fn passes<const MOST_OBJECTS: usize, const MOST_CONTENTS: usize, const MOST_SETS: usize>(
+    s: &[u8],
+    langs: &Languages,
+) -> bool
+    requires { (MOST_OBJECTS < 2 ^ 62) × (MOST_CONTENTS < 2 ^ 62) × (MOST_SETS < 2 ^ 62) }
+    ensures { result ≡ true → verdict (sheet_of s.now) langs.now ≡ Accepted }
+{
+    let mut named = [0; MOST_OBJECTS];
+    let mut spanned = [0; MOST_SETS];
+    let mut listed = [0; MOST_CONTENTS];
+    let mut tops = [0; MOST_OBJECTS];
+    let mut complements = [0; MOST_OBJECTS];
+    let mut owners = [0; MOST_SETS];
+    screened(
+        s,
+        langs,
+        SheetTables {
+            named: &mut named,
+            spanned: &mut spanned,
+            listed: &mut listed,
+            tops: &mut tops,
+            complements: &mut complements,
+            owners: &mut owners,
+        },
+    )
+}
+
+// Whether the sheet can be seen to be accepted, as far as small tables reach: one under 1,024 bytes has at most 30 objects, 99 contents and
+// 70 value sets. The sizes have names because no public function has a `requires`.
 pub fn small_passes(s: &[u8], langs: &Languages) -> bool
     ensures { result ≡ true → verdict (sheet_of s.now) langs.now ≡ Accepted }
 {
-    let mut named: [u16; 32] = [0; 32];
-    let mut spanned: [u16; 72] = [0; 72];
-    let mut listed: [u16; 104] = [0; 104];
-    let mut tops: [u16; 32] = [0; 32];
-    let mut complements: [u16; 32] = [0; 32];
-    let mut owners: [u16; 72] = [0; 72];
-    screened(
-        s,
-        langs,
-        &mut named,
-        &mut spanned,
-        &mut listed,
-        &mut tops,
-        &mut complements,
-        &mut owners,
-    )
+    passes::<32, 104, 72>(s, langs)
 }
 
 // One under 16,384 bytes has at most 511 objects, 1,635 contents and 1,168 value sets.
-fn middling_passes(s: &[u8], langs: &Languages) -> bool
+pub fn middling_passes(s: &[u8], langs: &Languages) -> bool
     ensures { result ≡ true → verdict (sheet_of s.now) langs.now ≡ Accepted }
 {
-    let mut named: [u16; 512] = [0; 512];
-    let mut spanned: [u16; 1168] = [0; 1168];
-    let mut listed: [u16; 1640] = [0; 1640];
-    let mut tops: [u16; 512] = [0; 512];
-    let mut complements: [u16; 512] = [0; 512];
-    let mut owners: [u16; 1168] = [0; 1168];
-    screened(
-        s,
-        langs,
-        &mut named,
-        &mut spanned,
-        &mut listed,
-        &mut tops,
-        &mut complements,
-        &mut owners,
-    )
+    passes::<512, 1640, 1168>(s, langs)
 }
 
 // No sheet has more than 2,046 objects, 6,550 contents or 4,678 value sets.
-fn large_passes(s: &[u8], langs: &Languages) -> bool
+pub fn large_passes(s: &[u8], langs: &Languages) -> bool
     ensures { result ≡ true → verdict (sheet_of s.now) langs.now ≡ Accepted }
 {
-    let mut named: [u16; 2048] = [0; 2048];
-    let mut spanned: [u16; 4680] = [0; 4680];
-    let mut listed: [u16; 6552] = [0; 6552];
-    let mut tops: [u16; 2048] = [0; 2048];
-    let mut complements: [u16; 2048] = [0; 2048];
-    let mut owners: [u16; 4680] = [0; 4680];
-    screened(
-        s,
-        langs,
-        &mut named,
-        &mut spanned,
-        &mut listed,
-        &mut tops,
-        &mut complements,
-        &mut owners,
-    )
-}
-
-// Whether the sheet can be seen to be accepted, with these tables: 1 for a sheet under 16,384 bytes, 2 for any. With another number it is
-// not screened.
-pub fn passes(s: &[u8], langs: &Languages, tables: u8) -> bool
-    ensures { result ≡ true → verdict (sheet_of s.now) langs.now ≡ Accepted }
-{
-    match tables {
-        1 => middling_passes(s, langs),
-        2 => large_passes(s, langs),
-        _ => false,
-    }
+    passes::<2048, 6552, 4680>(s, langs)
 }

@@ -3,14 +3,15 @@ use Rattle.std.specs.Prelude.{ℕ, ◌+◌, Bool, false, not, ◌&&◌, ◌||◌
 use Rattle.sheet.specs.Words.{Sheet}
 use Rattle.sheet.specs.Layout.{count, offset, start, field, first, number}
 use Rattle.sheet.specs.Fields.{objects, packs, tracks, references, value_sets, track_list, child_list, complement_list, interact, object_gain, object_gain_minimum, object_gain_maximum, object_offset, object_offset_minimum, object_offset_maximum, set_span, no_pack, pack_kind, pack_channels, pack_front}
+use Rattle.values.specs.declared.Sort.{Sort}
 use Rattle.values.specs.declared.Sort.TheVariants.{Gains, Offsets}
-use Rattle.values.specs.Values.{is_absent, or_else}
+use Rattle.values.specs.Values.{is_absent}
 use Rattle.profile.specs.Counting.{any}
 use Rattle.profile.specs.Limits.{exceeds, children_limit, complements_limit, span_limit}
 use Rattle.profile.specs.Relations.{has_pack, pack_of, has_front_pack}
-use Rattle.profile.specs.Rules.{lacks, list_lacks, leaves, bad_object, bad_complement, differs, rule4, rule5, rule8, rule11, rule13, rule14, rule15, rule16, rule17, rule18, rule19, rule20}
+use Rattle.profile.specs.Rules.{lacks, list_lacks, bad_object, bad_complement, differs, rule4, rule5, rule8, rule11, rule13, rule14, rule15, rule16, rule17, rule18, rule19, rule20}
 use Rattle.lists.specs.steps.Entries.{bad_child_at, out_of_order_at}
-use Rattle.screen.specs.steps.Values.{values_at, has_range, none_present, words_broken, set_broken}
+use Rattle.screen.specs.steps.Values.{values_at, has_range, none_present, own_leaves, words_broken, set_broken}
 use Rattle.screen.specs.declared.Values.{Values}
 use Rattle.screen.specs.declared.ObjectValues.{ObjectValues}
 
@@ -46,24 +47,17 @@ object_values s o =
       offsets = object_offsets s (start s objects o);
     }
 
--- a gain with its range that breaks rule 6, 16 or 18
-unfoldable pub gains_broken : ObjectValues → Bool
-gains_broken v =
-    words_broken Gains v.gains
-    || eqb v.interact 0 && has_range v.gains
-    || leaves Gains (or_else v.gains.value 0) v.gains.minimum v.gains.maximum
+-- a value of an object with its range that breaks rule 6, 16 or 18
+unfoldable pub sort_broken : Sort → ObjectValues → Values → Bool
+sort_broken t v values = words_broken t values || eqb v.interact 0 && has_range values || own_leaves t values
 
 -- an offset with its range that breaks rule 6, 16, 17 or 18
 unfoldable pub offsets_broken : ObjectValues → Bool
-offsets_broken v =
-    words_broken Offsets v.offsets
-    || eqb v.interact 0 && has_range v.offsets
-    || (not (is_absent v.offsets.value) || has_range v.offsets) && not v.front
-    || leaves Offsets (or_else v.offsets.value 0) v.offsets.minimum v.offsets.maximum
+offsets_broken v = sort_broken Offsets v v.offsets || (not (is_absent v.offsets.value) || has_range v.offsets) && not v.front
 
 -- values that break rule 6, 16, 17 or 18
 unfoldable pub values_broken : ObjectValues → Bool
-values_broken v = ltb 1 v.interact || gains_broken v || offsets_broken v
+values_broken v = ltb 1 v.interact || sort_broken Gains v v.gains || offsets_broken v
 
 -- an object without a pack: no children, or a track, or a child that is no object with a pack of kind 3
 unfoldable pub children_broken : Sheet → ℕ → Bool

@@ -1,12 +1,14 @@
 -- What the screening of a sheet tests of a record. Assumes nothing.
-use Rattle.std.specs.Prelude.{ℕ, ◌<◌, Bool, false, ◌||◌, ◌≡◌, List, length}
+use Rattle.std.specs.Prelude.{ℕ, ◌<◌, Bool, false, ◌||◌, ◌≡◌, List}
 use Rattle.sheet.specs.Words.{Sheet}
 use Rattle.sheet.specs.Layout.{count}
 use Rattle.sheet.specs.Fields.{programmes, contents, objects, packs, tracks, value_sets}
 use Rattle.profile.specs.Counting.{any}
 use Rattle.profile.specs.Rules.{bad_pack, rule1, rule2, rule3, rule5, rule7, rule10, rule11, rule12, rule23, rule24}
 use Rattle.tables.specs.steps.Marks.{Standing}
-use Rattle.tables.specs.steps.Right.{Named, Listed, Tops, Complemented, Spanned, Owners}
+use Rattle.tables.specs.steps.Right.{Named, Listed, ObjectsTabled}
+use Rattle.screen.specs.declared.RecordTables.{RecordTables}
+use Rattle.screen.specs.declared.screening.SheetTables.{SheetTables}
 use Rattle.lists.specs.steps.Speech.{content_broken, programme_broken}
 use Rattle.screen.specs.steps.Objects.{object_broken}
 
@@ -37,11 +39,8 @@ pub record RecordsKept (s : Sheet) (langs : List ℕ) : Type 0 where
   pub tracks_kept : any (rule5 s tracks) (count s tracks) ≡ false
 
 -- the tables that the records are tested with are right
-pub record RecordsTabled (s : Sheet) (named listed tops complements : List ℕ) : Type 0 where
-  pub named_right : Named s named
-  pub listed_right : Listed s listed
-  pub tops_right : Tops s tops
-  pub complements_right : Complemented s complements
+abbrev pub RecordsTabled : Sheet → RecordTables → Type 0
+RecordsTabled s t = Named s t.named.now × Listed s t.listed.now × ObjectsTabled s t.objects
 
 -- they do, each value set is in one span, and the whole sheet keeps rules 23 and 24
 pub record RecordsAndTotalsKept (s : Sheet) (langs : List ℕ) : Type 0 where
@@ -51,22 +50,11 @@ pub record RecordsAndTotalsKept (s : Sheet) (langs : List ℕ) : Type 0 where
   pub tracks : rule24 s 0 0 ≡ false
 
 -- the six tables that the screening begins with have only noughts
-pub record Noughts (named spanned listed tops complements owners : List ℕ) : Type 0 where
-  pub named_nought : Standing (λ x. 0) named
-  pub spanned_nought : Standing (λ x. 0) spanned
-  pub listed_nought : Standing (λ x. 0) listed
-  pub tops_nought : Standing (λ x. 0) tops
-  pub complements_nought : Standing (λ x. 0) complements
-  pub owners_nought : Standing (λ x. 0) owners
-
--- they are filled: as long as before, and right
-pub record TablesFilled (s : Sheet) (named₀ spanned₀ listed₀ tops₀ complements₀ owners₀ named spanned listed tops complements owners : List ℕ) : Type 0 where
-  pub named_long : length named ≡ length named₀
-  pub spanned_long : length spanned ≡ length spanned₀
-  pub listed_long : length listed ≡ length listed₀
-  pub tops_long : length tops ≡ length tops₀
-  pub complements_long : length complements ≡ length complements₀
-  pub owners_long : length owners ≡ length owners₀
-  pub tabled : RecordsTabled s named listed tops complements
-  pub spanned_right : Spanned s spanned
-  pub owners_right : Owners s owners
+abbrev pub Noughts : SheetTables → Type 0
+Noughts t =
+    Standing (λ x. 0) t.named.now
+    × Standing (λ x. 0) t.spanned.now
+    × Standing (λ x. 0) t.listed.now
+    × Standing (λ x. 0) t.tops.now
+    × Standing (λ x. 0) t.complements.now
+    × Standing (λ x. 0) t.owners.now

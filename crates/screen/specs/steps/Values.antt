@@ -21,6 +21,10 @@ has_range v = not (is_absent v.minimum) || not (is_absent v.maximum)
 unfoldable pub none_present : Values → Bool
 none_present v = is_absent v.value && not (has_range v)
 
+-- a value, 0 where it is absent, leaves its range
+unfoldable pub own_leaves : Sort → Values → Bool
+own_leaves t v = leaves t (or_else v.value 0) v.minimum v.maximum
+
 -- a set's value leaves its effective range, or where it is the set's own, the object's range
 unfoldable pub value_leaves : Sort → Bool → Values → Values → Bool
 value_leaves t own set object =
@@ -55,7 +59,7 @@ unfoldable pub gain_broken : Values → ObjectValues → Bool
 gain_broken gains v =
     words_broken Gains gains
     || value_leaves Gains false gains v.gains
-    || leaves Offsets (or_else v.offsets.value 0) v.offsets.minimum v.offsets.maximum
+    || own_leaves Offsets v.offsets
 
 -- the set whose words begin at an index does
 unfoldable pub set_broken : Sheet → ObjectValues → ℕ → Bool

@@ -1,11 +1,7 @@
 -- The words are those of the pack. Assumes nothing.
-use mathlib.Core.Bool.{true≢false}
 use Rattle.sheet.specs.Words.{sheet_of}
-use Rattle.screen.proofs.PackLaws.{three_kept, one_kept}
+use Rattle.screen.proofs.PackLaws.{one_kept, three_kept}
 use Rattle.screen.proofs.records.pack_breaks.Goals as goal
-
-pub returns-then-ends_before : goal.returns-then-ends_before
-returns-then-ends_before c = λ e. absurd (true≢false e)
 
 pub returns-then-kind-eq3 : goal.returns-then-kind-eq3
 returns-then-kind-eq3 c =
@@ -13,4 +9,5 @@ returns-then-kind-eq3 c =
 
 pub returns : goal.returns
 returns c =
-    let a = c.args in λ e. one_kept (sheet_of a.s.now) a.k c.record_at-at.result c.record_at-at.ensures c.word_at-kind.ensures c.word_at-channels.ensures c.word_at-front.ensures (rw c.exceeds.ensures at e)
+    let a = c.args in
+    λ e. one_kept (sheet_of a.s.now) a.k c.record_at-at.result c.record_at-at.ensures c.word_at-kind.ensures c.word_at-channels.ensures c.word_at-front.ensures (rw (c.exceeds.ensures, c.from.ensures) at e)

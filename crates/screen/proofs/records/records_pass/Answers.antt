@@ -1,27 +1,15 @@
 -- Section by section. Assumes nothing.
-use mathlib.Core.Path.{sym}
-use mathlib.Core.Bool.{true≢false}
+use Rattle.std.proofs.Common.{rules}
+use Rattle.profile.proofs.SumLaws.{any_nowhere}
 use Rattle.screen.proofs.records.records_pass.Goals as goal
-
-pub returns-then-not-programmes_keep : goal.returns-then-not-programmes_keep
-returns-then-not-programmes_keep c = λ e. absurd (true≢false (sym e))
-
-pub returns-then-not-contents_keep : goal.returns-then-not-contents_keep
-returns-then-not-contents_keep c = λ e. absurd (true≢false (sym e))
-
-pub returns-then-not-objects_keep : goal.returns-then-not-objects_keep
-returns-then-not-objects_keep c = λ e. absurd (true≢false (sym e))
-
-pub returns-then-not-packs_keep : goal.returns-then-not-packs_keep
-returns-then-not-packs_keep c = λ e. absurd (true≢false (sym e))
 
 pub returns : goal.returns
 returns c =
     λ e t.
     record {
-      programmes_kept = c.programmes_keep.ensures c.if-not-programmes_keep.false;
-      contents_kept = c.contents_keep.ensures c.if-not-contents_keep.false t.listed_right;
-      objects_kept = c.objects_keep.ensures c.if-not-objects_keep.false t.named_right t.tops_right t.complements_right;
-      packs_kept = c.packs_keep.ensures c.if-not-packs_keep.false;
-      tracks_kept = c.tracks_keep.ensures e;
+      programmes_kept = any_nowhere _ _ (λ k l. let p = c.all.ensures.each c.if-not-all.false k (rw c.count.ensures l) in search rules);
+      contents_kept = any_nowhere _ _ (λ k l. let p = c.all-2.ensures.each c.if-not-all-2.false k (rw c.count-2.ensures l) in let right = t.1 in search rules);
+      objects_kept = any_nowhere _ _ (λ k l. let p = c.all-3.ensures.each c.if-not-all-3.false k (rw c.count-3.ensures l) in let named = t.0 in let right = t.2 in search rules);
+      packs_kept = any_nowhere _ _ (λ k l. let p = c.all-4.ensures.each c.if-not-all-4.false k (rw c.count-4.ensures l) in search rules);
+      tracks_kept = any_nowhere _ _ (λ k l. let p = c.all-5.ensures.each e k (rw c.count-5.ensures l) in search rules);
     }
