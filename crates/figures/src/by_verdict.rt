@@ -30,6 +30,7 @@ fn figures_of(s: &[u8], rule: u8, place: Place) -> Figures
     ensures { result ≡ first_figures no_figures (figures_of (sheet_of s.now) rule place) }
 {
     let k = place_record(place) as u16;
+    // the rules have document 01's numbers, as in the verdict
     match rule {
         18 => clash_figures(range_clashes(s, section(place), k)),
         20 => clash_figures(leader_clash(s, k)),

@@ -42,6 +42,7 @@ pub struct Clash {
 pub const MOST_FIGURES: usize = 16;
 
 // The first `count` figures are there, in the order in which they are told.
+// A number beside an array, since there is no heap; the methods of `lists` keep both.
 #[derive(Clone, Copy)]
 pub struct Figures {
     pub count: usize,

@@ -6,7 +6,6 @@ use mathlib.Core.List.{List}
 use native.Mathlib.Omega.{arith}
 use borrow.Author.Tests.{lt-ltb, ltb-true, ltb-false}
 use lib.Dec.{eqb, ltb}
-use mir.Val.{bool_byte}
 use lib.ListN.{length, get_or, replicate, get_or-eq_default}
 use Rattle.sheet.specs.Words.{Sheet}
 use Rattle.profile.specs.Counting.{every, tabulate}
@@ -29,15 +28,6 @@ use Rattle.listener.specs.steps.Settings.{flagged_sound}
 -- a pass over a table of noughts
 pub leaders_made : (s : Sheet) (n : ℕ) (t : List ℕ) → Standing (λ x. first_by s Complements x (get_or (replicate n 0) x 0)) t → Leaders s t
 leaders_made s n t h x l = h x l ∙ ap (first_by s Complements x) (nought n x)
-
--- a flag as a number
-pub byte_cond : (b : Bool) → bool_byte b ≡ cond b 1 0
-byte_cond true = refl
-byte_cond false = refl
-
-pub and_assoc : (a b c : Bool) → ((a && b) && c) ≡ (a && (b && c))
-and_assoc false b c = refl
-and_assoc true b c = refl
 
 -- a test, and another that is known only behind it
 pub and_behind : (a b r : Bool) → (r ≡ true → a ≡ b) → (a && r) ≡ (r && b)

@@ -24,6 +24,8 @@ use tables::marks::first_namers;
 use tables::reads::leader_by;
 use values::Gain;
 
+// The sheet and the list stand apart in all calls, and not in one struct: most functions need the sheet alone, and each contract names both.
+
 // Whether the sheet is accepted under the lent list of languages, and not of level 0.
 pub fn opens(s: &[u8], langs: &[u8]) -> bool
     ensures { result ≡ opens (sheet_of s.now) (words langs.now) }

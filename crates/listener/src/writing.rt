@@ -37,7 +37,8 @@ fn state_number(s: &[u8], state: &State) -> u64
     total
 }
 
-// Writes an object's own tracks from a place on.
+// Writes an object's own tracks from a place on, and gives the place behind them.
+// The place stands beside the words: with a part `&mut buffer[n..]` in its stead n would be added up all the same.
 fn write_own(s: &[u8], o: u16, buffer: &mut [u16], at: usize) -> usize
     requires { at + length (own_tracks (sheet_of s.now) o) ≤ length buffer.old }
     ensures { (result ≡ at + length (own_tracks (sheet_of s.now) o)) × (buffer.new ≡ sets buffer.old at (own_tracks (sheet_of s.now) o)) }

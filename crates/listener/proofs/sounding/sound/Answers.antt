@@ -10,13 +10,15 @@ use Rattle.sheet.specs.Words.{sheet_of}
 use Rattle.sheet.specs.Layout.{count}
 use Rattle.sheet.specs.Fields.{programmes}
 use Rattle.profile.specs.Counting.{every, tabulate}
+use Rattle.std.proofs.Math.Bool.{and_assoc}
+use Rattle.profile.proofs.BoolLaws.{byte_cond}
 use Rattle.tables.proofs.MarkLaws.{nought}
 use Rattle.listener.specs.declared.Setting.{Setting}
 use Rattle.listener.specs.State.{state_objects, setting, active as is_active, is_resting}
 use Rattle.listener.specs.Sound.{sound, sound_at}
 use Rattle.listener.specs.steps.Settings.{flagged_sound, resting_from}
 use Rattle.listener.proofs.FillLaws.{begun_none, begun_more, begun_all}
-use Rattle.listener.proofs.StepLaws.{byte_cond, and_assoc, and_behind, leaders_made, element_setting, all_flags}
+use Rattle.listener.proofs.StepLaws.{and_behind, leaders_made, element_setting, all_flags}
 use Rattle.listener.proofs.RestLaws.{from_none, sound_parts, rest_inactive}
 use Rattle.listener.proofs.sounding.sound.Goals as goal
 

@@ -3,7 +3,7 @@ use mathlib.Core.Path.{◌≡◌, sym, ◌∙◌}
 use mir.Val.{to_z, of_z}
 use mir.Syntax.{w16}
 use Rattle.listener.specs.steps.Settings.{flagged_sound}
-use Rattle.listener.proofs.StepLaws.{and_assoc}
+use Rattle.std.proofs.Math.Bool.{and_assoc}
 use borrow.Author.Rules.{rules}
 use Rattle.listener.proofs.sounding.sound_at.Goals as goal
 
