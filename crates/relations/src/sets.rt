@@ -1,7 +1,10 @@
 // Value sets: whose they are, and the effective values and ranges.
-ghost use Rattle.std.specs.Prelude.{◌≡◌};
+ghost use Rattle.std.specs.Prelude.{not, ◌||◌, ◌≡◌};
 ghost use Rattle.profile.specs.Relations.{effective_maximum, effective_minimum, effective_value, has_set, object_maximum, object_minimum, object_value, own_value, set_maximum, set_minimum, set_value};
+ghost use Rattle.sheet.specs.Fields.{objects, value_sets};
+ghost use Rattle.sheet.specs.Layout.{field};
 ghost use Rattle.sheet.specs.Words.{sheet_of};
+ghost use Rattle.values.specs.Values.{is_absent};
 
 use sheet::fields::{
     OBJECT_GAIN, OBJECT_GAIN_MAXIMUM, OBJECT_GAIN_MINIMUM, OBJECT_OFFSET, OBJECT_OFFSET_MAXIMUM,
@@ -10,62 +13,104 @@ use sheet::fields::{
 };
 use sheet::layout::{field, number};
 use values::Sort;
-use values::values::or_else;
+use values::values::{is_absent, or_else};
 
-// Where an object has the value of a sort.
-pub fn object_value(sort: Sort) -> u8
-    ensures { result ≡ object_value sort }
-{
-    match sort {
-        Sort::Gains => OBJECT_GAIN,
-        Sort::Offsets => OBJECT_OFFSET,
+// Where a record has the value of a sort, and the ends of its range.
+#[derive(Clone, Copy)]
+pub struct Positions {
+    pub value: u8,
+    pub minimum: u8,
+    pub maximum: u8,
+}
+
+// A value of one sort with its range: three words, each of which may be absent.
+#[derive(Clone, Copy)]
+pub struct Values {
+    pub value: u16,
+    pub minimum: u16,
+    pub maximum: u16,
+}
+
+impl Positions {
+    // In an object.
+    pub fn in_object(sort: Sort) -> Positions
+        ensures value { result.value ≡ object_value sort }
+        ensures minimum { result.minimum ≡ object_minimum sort }
+        ensures maximum { result.maximum ≡ object_maximum sort }
+    {
+        match sort {
+            Sort::Gains => Positions {
+                value: OBJECT_GAIN,
+                minimum: OBJECT_GAIN_MINIMUM,
+                maximum: OBJECT_GAIN_MAXIMUM,
+            },
+            Sort::Offsets => Positions {
+                value: OBJECT_OFFSET,
+                minimum: OBJECT_OFFSET_MINIMUM,
+                maximum: OBJECT_OFFSET_MAXIMUM,
+            },
+        }
+    }
+
+    // In a value set.
+    pub fn in_set(sort: Sort) -> Positions
+        ensures value { result.value ≡ set_value sort }
+        ensures minimum { result.minimum ≡ set_minimum sort }
+        ensures maximum { result.maximum ≡ set_maximum sort }
+    {
+        match sort {
+            Sort::Gains => Positions {
+                value: SET_GAIN,
+                minimum: SET_GAIN_MINIMUM,
+                maximum: SET_GAIN_MAXIMUM,
+            },
+            Sort::Offsets => Positions {
+                value: SET_OFFSET,
+                minimum: SET_OFFSET_MINIMUM,
+                maximum: SET_OFFSET_MAXIMUM,
+            },
+        }
     }
 }
 
-pub fn object_minimum(sort: Sort) -> u8
-    ensures { result ≡ object_minimum sort }
-{
-    match sort {
-        Sort::Gains => OBJECT_GAIN_MINIMUM,
-        Sort::Offsets => OBJECT_OFFSET_MINIMUM,
+impl Values {
+    // Whether a minimum or a maximum is present.
+    pub fn has_range(self) -> bool
+        ensures { result ≡ (not (is_absent self.minimum) || not (is_absent self.maximum)) }
+    {
+        !is_absent(self.minimum) | !is_absent(self.maximum)
     }
 }
 
-pub fn object_maximum(sort: Sort) -> u8
-    ensures { result ≡ object_maximum sort }
+// The words at three positions of a record.
+fn values_at(s: &[u8], section: u8, k: u16, at: Positions) -> Values
+    ensures value { result.value ≡ field (sheet_of s.now) section k at.value }
+    ensures minimum { result.minimum ≡ field (sheet_of s.now) section k at.minimum }
+    ensures maximum { result.maximum ≡ field (sheet_of s.now) section k at.maximum }
 {
-    match sort {
-        Sort::Gains => OBJECT_GAIN_MAXIMUM,
-        Sort::Offsets => OBJECT_OFFSET_MAXIMUM,
+    Values {
+        value: field(s, section, k, at.value),
+        minimum: field(s, section, k, at.minimum),
+        maximum: field(s, section, k, at.maximum),
     }
 }
 
-// Where a value set has it.
-pub fn set_value(sort: Sort) -> u8
-    ensures { result ≡ set_value sort }
+// An object's own.
+pub fn object_values(s: &[u8], o: u16, sort: Sort) -> Values
+    ensures value { result.value ≡ field (sheet_of s.now) objects o (object_value sort) }
+    ensures minimum { result.minimum ≡ field (sheet_of s.now) objects o (object_minimum sort) }
+    ensures maximum { result.maximum ≡ field (sheet_of s.now) objects o (object_maximum sort) }
 {
-    match sort {
-        Sort::Gains => SET_GAIN,
-        Sort::Offsets => SET_OFFSET,
-    }
+    values_at(s, OBJECTS, o, Positions::in_object(sort))
 }
 
-pub fn set_minimum(sort: Sort) -> u8
-    ensures { result ≡ set_minimum sort }
+// A value set's own.
+pub fn set_values(s: &[u8], v: u16, sort: Sort) -> Values
+    ensures value { result.value ≡ field (sheet_of s.now) value_sets v (set_value sort) }
+    ensures minimum { result.minimum ≡ field (sheet_of s.now) value_sets v (set_minimum sort) }
+    ensures maximum { result.maximum ≡ field (sheet_of s.now) value_sets v (set_maximum sort) }
 {
-    match sort {
-        Sort::Gains => SET_GAIN_MINIMUM,
-        Sort::Offsets => SET_OFFSET_MINIMUM,
-    }
-}
-
-pub fn set_maximum(sort: Sort) -> u8
-    ensures { result ≡ set_maximum sort }
-{
-    match sort {
-        Sort::Gains => SET_GAIN_MAXIMUM,
-        Sort::Offsets => SET_OFFSET_MAXIMUM,
-    }
+    values_at(s, VALUE_SETS, v, Positions::in_set(sort))
 }
 
 // Value set v is in the span of object o.
@@ -81,36 +126,28 @@ pub fn has_set(s: &[u8], o: u16, v: u16) -> bool
 pub fn own_value(s: &[u8], o: u16, sort: Sort) -> u16
     ensures { result ≡ own_value (sheet_of s.now) o sort }
 {
-    or_else(field(s, OBJECTS, o, object_value(sort)), 0)
+    or_else(object_values(s, o, sort).value, 0)
 }
 
 // "For a set, the effective gain and offset are its own, else the object's, else 0"
 pub fn effective_value(s: &[u8], o: u16, v: u16, sort: Sort) -> u16
     ensures { result ≡ effective_value (sheet_of s.now) o v sort }
 {
-    or_else(
-        field(s, VALUE_SETS, v, set_value(sort)),
-        own_value(s, o, sort),
-    )
+    or_else(set_values(s, v, sort).value, own_value(s, o, sort))
 }
 
-// "its effective ranges are its own four words where own is 1, else the object's"
-pub fn effective_minimum(s: &[u8], o: u16, v: u16, sort: Sort) -> u16
-    ensures { result ≡ effective_minimum (sheet_of s.now) o v sort }
+// "For a set, the effective gain and offset are its own, else the object's, else 0; its effective ranges are its own four words where own
+// is 1, else the object's"
+pub fn effective_values(s: &[u8], o: u16, v: u16, sort: Sort) -> Values
+    ensures value { result.value ≡ effective_value (sheet_of s.now) o v sort }
+    ensures minimum { result.minimum ≡ effective_minimum (sheet_of s.now) o v sort }
+    ensures maximum { result.maximum ≡ effective_maximum (sheet_of s.now) o v sort }
 {
-    if field(s, VALUE_SETS, v, SET_OWN) == 1 {
-        field(s, VALUE_SETS, v, set_minimum(sort))
+    let value = effective_value(s, o, v, sort);
+    let ranged = if field(s, VALUE_SETS, v, SET_OWN) == 1 {
+        set_values(s, v, sort)
     } else {
-        field(s, OBJECTS, o, object_minimum(sort))
-    }
-}
-
-pub fn effective_maximum(s: &[u8], o: u16, v: u16, sort: Sort) -> u16
-    ensures { result ≡ effective_maximum (sheet_of s.now) o v sort }
-{
-    if field(s, VALUE_SETS, v, SET_OWN) == 1 {
-        field(s, VALUE_SETS, v, set_maximum(sort))
-    } else {
-        field(s, OBJECTS, o, object_maximum(sort))
-    }
+        object_values(s, o, sort)
+    };
+    Values { value, ..ranged }
 }

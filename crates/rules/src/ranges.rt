@@ -6,10 +6,7 @@ ghost use Rattle.tables.specs.steps.Right.{Owners};
 
 use crate::words::{object_range, set_range};
 use relations::objects::has_front_pack;
-use relations::sets::{
-    effective_maximum, effective_minimum, effective_value, object_maximum, object_minimum,
-    own_value, set_value,
-};
+use relations::sets::{Values, effective_values, object_values, own_value, set_values};
 use sheet::fields::{OBJECT_OFFSET, OBJECTS, SET_OFFSET, VALUE_SETS};
 use sheet::layout::field;
 use tables::reads::owner_by;
@@ -33,41 +30,36 @@ pub fn rule17(s: &[u8], owners: &[u16], section: u8, k: u16) -> bool
 }
 
 // A value leaves a range, which has no bounds where it is absent.
-pub fn leaves(sort: Sort, value: u16, minimum: u16, maximum: u16) -> bool
-    ensures { result ≡ leaves sort value minimum maximum }
+pub fn leaves(sort: Sort, v: Values) -> bool
+    ensures { result ≡ leaves sort v.value v.minimum v.maximum }
 {
-    !is_absent(minimum) & !in_range(sort, minimum, value, maximum)
+    !is_absent(v.minimum) & !in_range(sort, v.minimum, v.value, v.maximum)
 }
 
 // An object's own value leaves its range.
 fn object_leaves(s: &[u8], o: u16, sort: Sort) -> bool
     ensures { result ≡ object_leaves (sheet_of s.now) o sort }
 {
-    leaves(
-        sort,
-        own_value(s, o, sort),
-        field(s, OBJECTS, o, object_minimum(sort)),
-        field(s, OBJECTS, o, object_maximum(sort)),
-    )
+    let value = own_value(s, o, sort);
+    let object = object_values(s, o, sort);
+    leaves(sort, Values { value, ..object })
 }
 
 // Set v of object o: its effective value leaves the effective range, or its own one the object's range.
 fn set_leaves(s: &[u8], o: u16, v: u16, sort: Sort) -> bool
     ensures { result ≡ set_leaves (sheet_of s.now) o v sort }
 {
-    let own = field(s, VALUE_SETS, v, set_value(sort));
-    leaves(
-        sort,
-        effective_value(s, o, v, sort),
-        effective_minimum(s, o, v, sort),
-        effective_maximum(s, o, v, sort),
-    ) | !is_absent(own)
-        & leaves(
-            sort,
-            own,
-            field(s, OBJECTS, o, object_minimum(sort)),
-            field(s, OBJECTS, o, object_maximum(sort)),
-        )
+    let own = set_values(s, v, sort).value;
+    let object = object_values(s, o, sort);
+    leaves(sort, effective_values(s, o, v, sort))
+        | !is_absent(own)
+            & leaves(
+                sort,
+                Values {
+                    value: own,
+                    ..object
+                },
+            )
 }
 
 pub fn rule18(s: &[u8], owners: &[u16], section: u8, k: u16) -> bool

@@ -6,9 +6,7 @@ ghost use Rattle.sheet.specs.Words.{sheet_of};
 
 use languages::list::Languages;
 use relations::labels::bad_label;
-use relations::sets::{
-    object_maximum, object_minimum, object_value, set_maximum, set_minimum, set_value,
-};
+use relations::sets::{Values, object_values, set_values};
 use runs::reads::look_up;
 use sheet::fields::{
     CONTENT_LABELS, CONTENT_LANGUAGE, CONTENT_LOUDNESS, CONTENTS, INTERACT, OBJECTS, PACK_FRONT,
@@ -49,53 +47,41 @@ fn bad_speech(
 }
 
 // A value and its range, of one sort: words outside, or half a pair; each word may be absent.
-pub fn bad_words(sort: Sort, value: u16, minimum: u16, maximum: u16) -> bool
-    ensures { result ≡ bad_words sort value minimum maximum }
+pub fn bad_words(sort: Sort, v: Values) -> bool
+    ensures { result ≡ bad_words sort v.value v.minimum v.maximum }
 {
-    let low = is_absent(minimum);
-    let high = is_absent(maximum);
-    !(is_absent(value) | is_value(sort, value))
-        | !(low | is_minimum(sort, minimum))
-        | !(high | is_maximum(sort, maximum))
+    let low = is_absent(v.minimum);
+    let high = is_absent(v.maximum);
+    !(is_absent(v.value) | is_value(sort, v.value))
+        | !(low | is_minimum(sort, v.minimum))
+        | !(high | is_maximum(sort, v.maximum))
         | (low & !high | !low & high)
 }
 
 fn bad_object_words(s: &[u8], o: u16, sort: Sort) -> bool
     ensures { result ≡ bad_object_words (sheet_of s.now) o sort }
 {
-    bad_words(
-        sort,
-        field(s, OBJECTS, o, object_value(sort)),
-        field(s, OBJECTS, o, object_minimum(sort)),
-        field(s, OBJECTS, o, object_maximum(sort)),
-    )
+    bad_words(sort, object_values(s, o, sort))
 }
 
 fn bad_set_words(s: &[u8], v: u16, sort: Sort) -> bool
     ensures { result ≡ bad_set_words (sheet_of s.now) v sort }
 {
-    bad_words(
-        sort,
-        field(s, VALUE_SETS, v, set_value(sort)),
-        field(s, VALUE_SETS, v, set_minimum(sort)),
-        field(s, VALUE_SETS, v, set_maximum(sort)),
-    )
+    bad_words(sort, set_values(s, v, sort))
 }
 
 // A range word of that sort is present in an object.
 pub fn object_range(s: &[u8], o: u16, sort: Sort) -> bool
     ensures { result ≡ object_range (sheet_of s.now) o sort }
 {
-    !is_absent(field(s, OBJECTS, o, object_minimum(sort)))
-        | !is_absent(field(s, OBJECTS, o, object_maximum(sort)))
+    object_values(s, o, sort).has_range()
 }
 
 // A range word of that sort is present in a set.
 pub fn set_range(s: &[u8], v: u16, sort: Sort) -> bool
     ensures { result ≡ set_range (sheet_of s.now) v sort }
 {
-    !is_absent(field(s, VALUE_SETS, v, set_minimum(sort)))
-        | !is_absent(field(s, VALUE_SETS, v, set_maximum(sort)))
+    set_values(s, v, sort).has_range()
 }
 
 fn bad_object(s: &[u8], o: u16) -> bool

@@ -4,4 +4,4 @@ use Rattle.relations.proofs.sets.effective_value.Goals as goal
 
 pub returns : goal.returns
 unfolding effective_value
-returns c = simp (c.or_else.ensures, c.own_value.ensures, c.field.ensures, c.set_value.ensures)
+returns c = simp (c.or_else.ensures, c.own_value.ensures, c.set_values.ensures.value)

@@ -4,4 +4,4 @@ use Rattle.relations.proofs.sets.own_value.Goals as goal
 
 pub returns : goal.returns
 unfolding own_value
-returns c = simp (c.or_else.ensures, c.field.ensures, c.object_value.ensures)
+returns c = simp (c.or_else.ensures, c.object_values.ensures.value)

@@ -4,4 +4,4 @@ use Rattle.rules.proofs.words.bad_set_words.Goals as goal
 
 pub returns : goal.returns
 unfolding bad_set_words
-returns c = simp (c.bad_words.ensures, c.field-3.ensures, c.set_maximum.ensures, c.field-2.ensures, c.set_minimum.ensures, c.field.ensures, c.set_value.ensures)
+returns c = simp (c.bad_words.ensures, c.set_values.ensures.value, c.set_values.ensures.minimum, c.set_values.ensures.maximum)
