@@ -6,9 +6,7 @@ ghost use Rattle.sheet.specs.Words.{sheet_of};
 use crate::clashes::{in_object, in_set, told, word_at};
 use crate::{Clash, WordPlace};
 use relations::records::owner;
-use relations::sets::{
-    object_maximum, object_minimum, object_value, set_maximum, set_minimum, set_value,
-};
+use relations::sets::Positions;
 use sheet::fields::{OBJECTS, SET_OWN, VALUE_SETS};
 use sheet::layout::field;
 use values::Sort;
@@ -73,9 +71,9 @@ fn object_clash(s: &[u8], o: u16, sort: Sort) -> Option<Clash>
     range_clash(
         s,
         sort,
-        in_object(o, object_value(sort)),
-        in_object(o, object_minimum(sort)),
-        in_object(o, object_maximum(sort)),
+        in_object(o, Positions::in_object(sort).value),
+        in_object(o, Positions::in_object(sort).minimum),
+        in_object(o, Positions::in_object(sort).maximum),
     )
 }
 
@@ -84,10 +82,10 @@ fn object_clash(s: &[u8], o: u16, sort: Sort) -> Option<Clash>
 fn effective_place(s: &[u8], o: u16, v: u16, sort: Sort) -> WordPlace
     ensures { result ≡ effective_place (sheet_of s.now) o v sort }
 {
-    if is_absent(field(s, VALUE_SETS, v, set_value(sort))) {
-        in_object(o, object_value(sort))
+    if is_absent(field(s, VALUE_SETS, v, Positions::in_set(sort).value)) {
+        in_object(o, Positions::in_object(sort).value)
     } else {
-        in_set(v, set_value(sort))
+        in_set(v, Positions::in_set(sort).value)
     }
 }
 
@@ -112,8 +110,20 @@ fn effective_clash(s: &[u8], o: u16, v: u16, sort: Sort) -> Option<Clash>
         s,
         sort,
         effective_place(s, o, v, sort),
-        range_place(s, o, v, set_minimum(sort), object_minimum(sort)),
-        range_place(s, o, v, set_maximum(sort), object_maximum(sort)),
+        range_place(
+            s,
+            o,
+            v,
+            Positions::in_set(sort).minimum,
+            Positions::in_object(sort).minimum,
+        ),
+        range_place(
+            s,
+            o,
+            v,
+            Positions::in_set(sort).maximum,
+            Positions::in_object(sort).maximum,
+        ),
     )
 }
 
@@ -125,9 +135,9 @@ fn own_clash(s: &[u8], o: u16, v: u16, sort: Sort) -> Option<Clash>
     range_clash(
         s,
         sort,
-        in_set(v, set_value(sort)),
-        in_object(o, object_minimum(sort)),
-        in_object(o, object_maximum(sort)),
+        in_set(v, Positions::in_set(sort).value),
+        in_object(o, Positions::in_object(sort).minimum),
+        in_object(o, Positions::in_object(sort).maximum),
     )
 }
 

@@ -9,10 +9,7 @@ use crate::{ProgrammeTables, Range};
 use profile::counting::lowest;
 use relations::objects::leader;
 use relations::programmes::named_set;
-use relations::sets::{
-    effective_maximum, effective_minimum, effective_value, object_maximum, object_minimum,
-    own_value,
-};
+use relations::sets::{Values, effective_value, effective_values, object_values, own_value};
 use sheet::fields::{OBJECTS, PROGRAMMES, SET_LIST, SET_SPAN};
 use sheet::layout::{field, number, reference};
 use values::Sort;
@@ -63,20 +60,25 @@ pub fn start_value(s: &[u8], p: u16, o: u16, sort: Sort) -> u16
     start_by(s, o, named_for(s, p, o), sort)
 }
 
+impl From<Values> for Range {
+    ghost from_gives = { λ values range. (range.minimum ≡ values.minimum) × (range.maximum ≡ values.maximum) };
+
+    fn from(values: Values) -> Range {
+        Range {
+            minimum: values.minimum,
+            maximum: values.maximum,
+        }
+    }
+}
+
 // "ranges come from the programme's set, else the object"
 #[tactic(auto, unfolding(crate::specs::steps::NamedSet::range_by))]
 pub fn range_by(s: &[u8], o: u16, named: Option<u16>, sort: Sort) -> Range
     ensures { result ≡ range_by (sheet_of s.now) o named sort }
 {
     match named {
-        Some(set) => Range {
-            minimum: effective_minimum(s, o, set, sort),
-            maximum: effective_maximum(s, o, set, sort),
-        },
-        None => Range {
-            minimum: field(s, OBJECTS, o, object_minimum(sort)),
-            maximum: field(s, OBJECTS, o, object_maximum(sort)),
-        },
+        Some(set) => Range::from(effective_values(s, o, set, sort)),
+        None => Range::from(object_values(s, o, sort)),
     }
 }
 
