@@ -1,9 +1,10 @@
 -- The gains of factors as lines of text. Document 02, L3: "Some consoles export linear gain, in millionths. A converter gives the least tenth of a
 -- dB that is not below it". The program `gaintenths` reads a factor a line and answers `silence`, the tenths as in `-600`, `refused 34`, or
 -- `?` where a line is no number of 32 bits. Assumes nothing.
-use Rattle.std.specs.Prelude.{ℕ, ◌≡◌, refl, cond, List, [], ◌++◌, map, Option, Some, None, eqb, length, get_or}
-use Rattle.factors.specs.declared.Conversion.{Conversion}
-use Rattle.factors.specs.declared.Conversion.TheVariants.{Gives, FactorTooHigh}
+use Rattle.std.specs.Prelude.{ℕ, ◌≡◌, refl, cond, List, [], ◌++◌, map, Option, Some, None, Result, Ok, Err, eqb, length, get_or}
+use Rattle.values.specs.declared.Gain.{Gain}
+use Rattle.factors.specs.declared.Refusal.{Refusal}
+use Rattle.factors.specs.declared.Refusal.TheVariants.{FactorTooHigh}
 use Rattle.factors.specs.Table.{entries}
 use Rattle.factors.specs.Decibels.{tenth_at}
 use Rattle.factors.specs.Conversion.{factor_too_high, least_tenth, factor_gain, conversion}
@@ -17,9 +18,9 @@ unfoldable pub factor_of : List ℕ → Option ℕ
 factor_of s = cond (eqb (length (fields s)) 1) (wide_number_of (get_or (fields s) 0 [])) None
 
 -- as in `-600`, `silence` or `refused 34`
-unfoldable pub conversion_text : Conversion → List ℕ
-conversion_text (Gives g) = gain_text g
-conversion_text FactorTooHigh = ascii "refused " ++ decimal factor_too_high
+unfoldable pub conversion_text : Result Gain Refusal → List ℕ
+conversion_text (Ok g) = gain_text g
+conversion_text (Err FactorTooHigh) = ascii "refused " ++ decimal factor_too_high
 
 -- the answer for a factor, and for none
 unfoldable pub factor_answer : Option ℕ → List ℕ

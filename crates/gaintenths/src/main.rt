@@ -7,28 +7,28 @@ use std::io::{Input, Read};
 use text::lines::{ROOM, part};
 use text::output::{say_failure, write_output};
 use text::reading::arg_count;
+use text::writing::Text;
 
 // Answers until the input ends, a read fails or an answer can't be written. A proved loop has to end, and nothing says that the input
 // does: so this one counts its turns, to a number that no run comes to.
 fn answer_all<R: Input + Print + Eprint>(rt: &R) {
     let mut input = rt.reader();
     let mut read = [0u8; READ_ROOM];
-    let mut line = [0u8; ROOM];
+    let mut room = [0u8; ROOM];
+    let mut line = Text::new(&mut room);
     let mut answers = [0u8; ANSWERS_ROOM];
-    let mut kept = 0;
     for _ in 0..u64::MAX {
         match input.read(&mut read) {
             Ok(0) => {
-                let n = answer_last(&line, kept, &mut answers);
-                write_output(rt, part(&answers, 0, n));
+                let count = answer_last(&line, &mut answers);
+                write_output(rt, part(&answers, 0, count));
                 return;
             }
             Ok(n) => {
-                let next = answer_read(&mut line, kept, &read, n, &mut answers);
-                if !write_output(rt, part(&answers, 0, next.answers)) {
+                let count = answer_read(&mut line, &read[..n], &mut answers);
+                if !write_output(rt, part(&answers, 0, count)) {
                     return;
                 }
-                kept = next.line;
             }
             Err(error) => {
                 say_failure(rt, "standard input", error);

@@ -3,30 +3,16 @@
 #![tactic(auto)]
 
 use figurelines::{FIGURES_ROOM, figures_text};
-use std::io::Input;
-use text::output::{say_failure, write_output};
-use text::reading::{LANGS_ROOM, arg_count, read_input, read_langs};
+use text::output::write_output;
+use text::sheets::tell_input;
 
 // The sheet's buffer is longer than any sheet, so an input that fills it breaks rule 1, whatever follows; and a list that fills its buffer
 // can't rise, and breaks rule 33; neither has figures (`cut_figures`, `cut_figures_langs`, crates/figurelines/proofs/LongInput.antt). No file
 // `langs` is an empty list. An argument, or a read that fails, gives no verdict: standard error says why.
 fn main(rt: HostRuntime) {
-    if arg_count(&rt) > 1 {
-        let _ = eprintln!(rt; "usage: sheetfigures <FILE");
-        return;
-    }
-    let mut langs = [0u8; LANGS_ROOM];
-    let list = read_langs(&rt, &mut langs);
-    if list.failed.is_some() {
-        return;
-    }
-    let mut sheet = io::large_buffer();
-    let input = read_input(&mut rt.reader(), &mut sheet);
-    if let Some(error) = input.failed {
-        say_failure(&rt, "standard input", error);
-        return;
-    }
-    let mut text = [0u8; FIGURES_ROOM];
-    let length = figures_text(&sheet[..input.count], &langs[..list.count], &mut text);
-    write_output(&rt, &text[..length]);
+    tell_input(&rt, "sheetfigures <FILE", |sheet, langs| {
+        let mut lines = [0u8; FIGURES_ROOM];
+        let length = figures_text(sheet, langs, &mut lines);
+        write_output(&rt, &lines[..length]);
+    });
 }

@@ -8,7 +8,8 @@ use lib.ListN.{length, drop, set, length-append, get_or, length-set, drop_of_len
 use lib.Seq.{sets, sets-eq, drop-cons, take-append_seam}
 use Rattle.io.specs.Counts.{IsPrefixLen}
 use Rattle.text.specs.Bytes.{join}
-use Rattle.text.specs.Buffer.{Buffer, buffer, put_byte, put_text, filled, TextFilled}
+use Rattle.text.specs.declared.writing.Text.{Text}
+use Rattle.text.specs.Buffer.{Buffer, buffer, put_byte, put_text, filled, TextFilled, written, Appends}
 
 -- a text behind a text
 pub put_append : (b : Buffer) (s t : List ℕ) → put_text b (s ++ t) ≡ put_text (put_text b s) t
@@ -78,3 +79,28 @@ put_fills before text after n e h =
     let m : n ≡ length text = ap (λ (b : Buffer). b.count) f in
     let w : after ≡ filled before text = ap (λ (b : Buffer). b.bytes) f in
     record { number = m; written = w; counts = rw (m, w) (counted before text) }
+
+-- a call after a call
+pub appends_none : (t : Text) → Appends t [] t
+unfolding put_text
+appends_none t = record { same_buffer = refl; bytes = refl }
+
+pub appends_more : (a b c : Text) (s t : List ℕ) → Appends a s b → Appends b t c → Appends a (s ++ t) c
+appends_more a b c s t h k =
+    record { same_buffer = k.same_buffer ∙ h.same_buffer; bytes = k.bytes ∙ ap (λ w. put_text w t) h.bytes ∙ sym (put_append (written a) s t) }
+
+join_none : join [] ≡ []
+unfolding join
+join_none = refl
+
+-- calls one after the other, and their texts
+pub appends_join : (a b c : Text) (s : List ℕ) (ss : List (List ℕ)) → Appends a s b → Appends b (join ss) c → Appends a (join (s ∷ ss)) c
+unfolding join
+appends_join a b c s ss h k = appends_more a b c s (join ss) h k
+
+pub appends_last : (a b : Text) (s : List ℕ) → Appends a s b → Appends a (join (s ∷ [])) b
+appends_last a b s h = appends_join a b b s [] h (rw join_none (appends_none b))
+
+-- a text that begins in a lent buffer, and has room there, fills it
+pub appends_fills : (before text : List ℕ) (a b : Text) → a.buffer.now ≡ before → a.count ≡ 0 → Appends a text b → length text ≤ length before → TextFilled before text b.count b.buffer.now
+appends_fills before text a b e n h l = put_fills before text b.buffer.now b.count (rw (e, n) at h.bytes) l

@@ -1,21 +1,19 @@
 -- The digits that `io::decimal` gives, and the number spelled. Assumes nothing.
 use Prim.Native.Nat.{ℕ, zero, suc, ◌-◌, ◌/◌, ◌%◌, ◌^◌, ◌≤◌, ◌<◌}
-use mathlib.Core.Path.{◌≡◌, refl, ap, ◌∙◌}
-use mathlib.Core.Bool.{true, false, cond}
-use mathlib.Core.List.{[], ◌∷◌, ◌++◌, append-nil}
+use mathlib.Core.Path.{◌≡◌, refl, sym, ap, ◌∙◌}
+use mathlib.Core.Bool.{true, false, false≢true, cond}
+use mathlib.Core.List.{[], ◌∷◌, ◌++◌}
 use native.Mathlib.Omega.{arith}
 use native.Mathlib.Nat.{mod-lt, mod-eq_of_lt, le-div_iff_mul-le, div-lt_iff_lt-mul, pow-suc, pow-le-pow_right, le_trans}
-use borrow.Author.Tests.{lt-ltb, le-ltb, leb-true, leb-false}
+use borrow.Author.Tests.{lt-ltb, le-ltb, ltb-true, leb-true, leb-false}
 use lib.Dec.{ltb, leb}
-use lib.IntN.{ℤ, pos, negsuc}
+use lib.IntN.{ℤ, pos, negsuc, nat_abs}
+use lib.Signed.{lt_z}
 use lib.ListN.{length, length-append}
-use mir.Syntax.{w16}
-use mir.Val.{SFits}
 use Rattle.values.specs.declared.Gain.{Gain}
 use Rattle.values.specs.declared.Gain.TheVariants.{Silent, Tenths}
-use Rattle.values.specs.Signed.{word_of}
 use Rattle.io.specs.Digits.{hex_digit_ascii, last_digits, IsDigitCount}
-use Rattle.text.specs.Bytes.{ascii, join}
+use Rattle.text.specs.Bytes.{ascii}
 use Rattle.text.specs.Decimal.{digit_byte, spelled, decimal, signed_decimal, gain_text}
 
 -- a digit's byte
@@ -84,18 +82,16 @@ unfolding signed_decimal
 signed_fits (pos n) = omega (arith, decimal_fits n)
 signed_fits (negsuc n) = omega (arith, decimal_fits (suc n))
 
--- a number with its sign, by its word
-pub signed_plain : (z : ℤ) → SFits w16 z → word_of z < 32768 → signed_decimal z ≡ decimal (word_of z)
-unfolding word_of signed_decimal
-signed_plain (pos n) f h = refl
-signed_plain (negsuc n) f h = absurd (omega (arith, f.sfits))
+-- a number with its sign, by its magnitude
+pub signed_below : (z : ℤ) → lt_z z (pos 0) ≡ true → signed_decimal z ≡ ascii "-" ++ decimal (nat_abs z)
+unfolding signed_decimal
+signed_below (pos n) h = absurd (omega (arith, ltb-true n 0 h))
+signed_below (negsuc n) h = refl
 
-pub signed_minus : (z : ℤ) → SFits w16 z → 32768 ≤ word_of z → signed_decimal z ≡ join (ascii "-" ∷ decimal (65536 - word_of z) ∷ [])
-unfolding word_of signed_decimal join
-signed_minus (pos n) f h = absurd (omega (arith, f.sfits))
-signed_minus (negsuc n) f h =
-    let e : 65536 - (65535 - n) ≡ suc n = omega (arith, f.sfits) in
-    rw (e, append-nil (decimal (suc n))) refl
+pub signed_from : (z : ℤ) → lt_z z (pos 0) ≡ false → signed_decimal z ≡ decimal (nat_abs z)
+unfolding signed_decimal
+signed_from (pos n) h = refl
+signed_from (negsuc n) h = absurd (false≢true (sym h))
 
 pub gain_fits_lem : (g : Gain) → length (gain_text g) ≤ 21
 unfolding gain_text

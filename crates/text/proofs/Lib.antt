@@ -2,6 +2,5 @@ mod BoolLaws
 mod NumberLaws
 pub mod BytesLaws
 pub mod DecimalLaws
-mod FieldLaws
 mod LineLaws
 pub mod BufferLaws

@@ -1,28 +1,29 @@
 -- What the digits read so far say of a text's number. Assumes nothing.
-use Prim.Native.Nat.{ℕ, zero, suc, ◌+◌, ◌*◌, ◌-◌, ◌≤◌, ◌<◌}
+use Prim.Native.Nat.{ℕ, ◌+◌, ◌*◌, ◌-◌, ◌≤◌, ◌<◌}
 use mathlib.Core.Path.{◌≡◌, refl, sym}
-use mathlib.Core.Bool.{Bool, true, false, cond, ◌&&◌}
+use mathlib.Core.Bool.{true, false, cond, ◌&&◌}
 use mathlib.Core.List.{List, [], ◌∷◌}
 use native.Mathlib.Numerals.{add-one}
 use native.Mathlib.Omega.{arith}
-use borrow.Author.Tests.{leb-true, lt-ltb, le-ltb, le-leb, lt-leb, eq-eqb, ne_eqb}
+use borrow.Author.Tests.{leb-true, lt-ltb, le-leb, lt-leb}
 use lib.Dec.{leb, ltb}
-use lib.IntN.{pos}
-use lib.ListN.{length, get_or, take, drop, length-drop}
-use mir.Syntax.{w16}
-use mir.Val.{to_z}
-use lib.Seq.{drop-cons, drop-length, take_all}
+use lib.ListN.{length, get_or, drop}
+use lib.Seq.{drop-cons, drop-length}
 use Rattle.std.specs.Prelude.{Some, None}
-use Rattle.std.proofs.lemmas.Option.{cond_some, none-some}
+use Rattle.std.proofs.lemmas.Option.{cond_some}
 use Rattle.text.proofs.BoolLaws.{and_both, and_false}
-use Rattle.text.specs.declared.numbers.Number.TheVariants.{Nothing, Of}
-use Rattle.text.specs.declared.numbers.Tenths.TheVariants as tenths
-use Rattle.text.specs.Numbers.{is_digit, digits, value, is_number, number_of, minus, positive, negative, tenths_of}
+use Rattle.std.specs.Char.{is_ascii_digit}
+use Rattle.text.specs.Numbers.{is_digit, digits, value, is_number}
 
 -- a digit's range
 pub digit_range : (b : ℕ) → is_digit b ≡ true → (48 ≤ b) × (b ≤ 57)
 unfolding is_digit
 digit_range b h = let r = and_both (leb 48 b) (leb b 57) h in (leb-true 48 b r.0, leb-true b 57 r.1)
+
+-- it is what the library's test says
+pub digit_test : (b : ℕ) → is_digit b ≡ is_ascii_digit b
+unfolding is_digit
+digit_test b = refl
 
 -- more digits make a number no smaller
 pub grows : (s : List ℕ) (n : ℕ) → n ≤ value n s
@@ -54,21 +55,6 @@ pub empty : (most : ℕ) (s : List ℕ) → length s ≡ 0 → is_number most s 
 unfolding is_number
 empty most s h = simp h
 
--- no text, no number
-pub nothing : (s : List ℕ) → length s ≡ 0 → tenths.Nothing ≡ tenths_of s
-unfolding tenths_of positive number_of is_number
-nothing [] h = refl
-nothing (b ∷ s) h = absurd (omega arith)
-
--- with a minus, and without
-pub signed : (s : List ℕ) → get_or s 0 0 ≡ 45 → negative (number_of (take (length s - 1) (drop 1 s))) ≡ tenths_of s
-unfolding tenths_of
-signed s h = simp (take_all (length s - 1) (drop 1 s) (simp length-drop (omega arith)), eq-eqb _ _ h)
-
-pub unsigned : (s : List ℕ) → (get_or s 0 0 ≡ 45 → ⊥) → positive (number_of s) ≡ tenths_of s
-unfolding tenths_of
-unsigned s h = simp (ne_eqb _ _ h)
-
 -- all digits are read
 pub finished : (most : ℕ) (s : List ℕ) (i n : ℕ) → i ≡ length s → 0 < length s → n ≤ most → value n (drop i s) ≡ value 0 s → digits (drop i s) ≡ digits s
     → (is_number most s ≡ true) × (n ≡ value 0 s)
@@ -79,19 +65,6 @@ finished most s i n e h l v d =
     let f : true ≡ digits s = rw z at d in
     (simp (lt-ltb 0 (length s) h, sym f, sym w, le-leb n most l), w)
 
--- what a text is where no number was read, and where one was
-absent : (b : Bool) (x : ℕ) → cond b (Some x) None ≡ None → b ≡ false
-absent true x h = absurd (none-some x (sym h))
-absent false x h = refl
-
-pub read_none : (s : List ℕ) → cond (is_number 65535 s) (Some (value 0 s)) None ≡ None → Nothing ≡ number_of s
-unfolding number_of
-read_none s h = simp (absent (is_number 65535 s) (value 0 s) h)
-
-pub read_some : (n : ℕ) (s : List ℕ) → cond (is_number 65535 s) (Some (value 0 s)) None ≡ Some n → Of n ≡ number_of s
-unfolding number_of
-read_some n s h = let p = cond_some (is_number 65535 s) (value 0 s) n h in rw (p.0, p.1) refl
-
 -- and it is small
 pub number_small : (most n : ℕ) (s : List ℕ) → cond (is_number most s) (Some (value 0 s)) None ≡ Some n → n ≤ most
 unfolding is_number
@@ -99,14 +72,3 @@ number_small most n s h =
     let p = cond_some (is_number most s) (value 0 s) n h in
     let l = leb-true (value 0 s) most (and_both (ltb 0 (length s) && digits s) (leb (value 0 s) most) p.0).1 in
     rw p.1 at l
-
--- a number and its negative as signed words
-pub plain : (n : ℕ) → n ≤ 32767 → to_z w16 n ≡ pos n
-plain n h = simp (lt-ltb n 32768 (omega arith))
-
-pub turned : (n : ℕ) → n ≤ 32768 → (n ≡ 0 → ⊥) → to_z w16 (65535 - (n - 1)) ≡ minus n
-turned zero h z = absurd (z refl)
-turned (suc n) h z =
-    let e : suc n - 1 ≡ n = omega arith in
-    let f : 65536 - suc (65535 - n) ≡ n = omega arith in
-    simp (e, le-ltb (65535 - n) 32768 (omega arith), f)

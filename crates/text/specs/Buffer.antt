@@ -1,5 +1,6 @@
 -- Writing a text into a lent buffer. Assumes nothing.
 use Rattle.std.specs.Prelude.{ℕ, ◌+◌, ◌≡◌, cond, List, [], ◌∷◌, ◌++◌, ltb, length, drop, set}
+use Rattle.text.specs.declared.writing.Text.{Text}
 use Rattle.io.specs.Counts.{IsPrefixLen}
 
 -- a buffer's bytes, and how many of them are written
@@ -29,3 +30,12 @@ pub record TextFilled (before text : List ℕ) (count : ℕ) (after : List ℕ) 
   pub number : count ≡ length text
   pub written : after ≡ filled before text
   pub counts : IsPrefixLen count after
+
+-- what is written of a text, and its room
+abbrev pub written : Text → Buffer
+written t = buffer t.buffer.now t.count
+
+-- What a call that writes behind a text ensures: the text has the same lent buffer, and this stands behind what it had.
+pub record Appends (before : Text) (t : List ℕ) (after : Text) : Type 0 where
+  pub same_buffer : after.buffer.ghost_name ≡ before.buffer.ghost_name
+  pub bytes : written after ≡ put_text (written before) t

@@ -3,4 +3,4 @@ pub mod Numbers
 pub mod Decimal
 pub mod Lines
 pub mod Buffer
-pub mod steps
+pub mod Reading

@@ -5,4 +5,5 @@ pub mod lines;
 pub mod numbers;
 pub mod output;
 pub mod reading;
+pub mod sheets;
 pub mod writing;

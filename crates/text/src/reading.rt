@@ -1,7 +1,8 @@
 // Reading a whole input, with an error told from the end, and the files that arguments name.
 ghost use Rattle.io.specs.Counts.{IsPrefixLen};
 ghost use Rattle.std.specs.Io.KnownBytes.{Consumes, IsAtEnd};
-ghost use Rattle.std.specs.Prelude.{◌<◌, ◌≡◌, IsNone, length, take};
+ghost use Rattle.std.specs.Prelude.{◌<◌, ◌≡◌, IsOk, length, take};
+ghost use Rattle.text.specs.Reading.{bytes_read};
 
 use crate::lines::same;
 use crate::output::say_failure;
@@ -14,42 +15,29 @@ use std::{fs, str};
 // A list of more words can't rise, so that so many bytes decide (`cut_langs`, crates/verdicts/proofs/LongInput.antt): 65,537 words.
 pub const LANGS_ROOM: usize = 131074;
 
-// What reading gave: so many bytes at the start of the buffer, and why it stopped there, if a read failed.
+// A read that failed: why, and how many bytes were read before.
 #[derive(Clone, Copy)]
-pub struct Input {
+pub struct ReadFailed {
+    pub error: Error,
     pub count: usize,
-    pub failed: Option<Error>,
 }
 
-// Reads until the buffer is full, the input ends or a read fails; a read may give less than it is asked for. Where the reader's bytes are
-// known, those are the first of them, and all of them if no read failed and the buffer is not full.
-pub fn read_input<R: Read>(reader: &mut R, buffer: &mut [u8]) -> Input
-    ensures bound { IsPrefixLen result.count buffer.new }
-    ensures bytes { Consumes (R.remaining reader.old) (R.remaining reader.new) (take result.count buffer.new) }
-    ensures whole { IsNone result.failed → result.count < length buffer.new → IsAtEnd (R.remaining reader.new) }
+// Reads until the buffer is full, the input ends or a read fails, and gives how many bytes were read; a read may give less than it is asked
+// for. Where the reader's bytes are known, those are the first of them, and all of them if no read failed and the buffer is not full.
+pub fn read_input<R: Read>(reader: &mut R, buffer: &mut [u8]) -> Result<usize, ReadFailed>
+    ensures bound { IsPrefixLen (bytes_read result) buffer.new }
+    ensures bytes { Consumes (R.remaining reader.old) (R.remaining reader.new) (take (bytes_read result) buffer.new) }
+    ensures whole { IsOk result → bytes_read result < length buffer.new → IsAtEnd (R.remaining reader.new) }
 {
-    let mut n = 0;
-    while n < buffer.len() {
-        match reader.read(&mut buffer[n..]) {
-            Ok(0) => {
-                return Input {
-                    count: n,
-                    failed: None,
-                };
-            }
-            Ok(more) => n += more,
-            Err(error) => {
-                return Input {
-                    count: n,
-                    failed: Some(error),
-                };
-            }
+    let mut count = 0;
+    while count < buffer.len() {
+        match reader.read(&mut buffer[count..]) {
+            Ok(0) => return Ok(count),
+            Ok(more) => count += more,
+            Err(error) => return Err(ReadFailed { error, count }),
         }
     }
-    Input {
-        count: n,
-        failed: None,
-    }
+    Ok(count)
 }
 
 // How many arguments the program was started with, its own name among them.
@@ -84,54 +72,57 @@ pub fn refuse_argument<R: Env + Eprint, D: Display + Drop>(rt: &R, i: usize, why
 }
 
 // Nothing is read: standard error says why.
-fn unread<R: Eprint>(rt: &R, what: &str, error: Error) -> Input
+fn unread<R: Eprint>(rt: &R, what: &str, error: Error) -> ReadFailed
     ensures { result.count ≡ 0 }
 {
     say_failure(rt, what, error);
-    Input {
-        count: 0,
-        failed: Some(error),
-    }
+    ReadFailed { error, count: 0 }
 }
 
 // Reads an opened file. Where that fails, standard error says why.
-fn read_opened<R: Eprint, F: Read>(rt: &R, name: &str, file: &mut F, buffer: &mut [u8]) -> Input
-    ensures { IsPrefixLen result.count buffer.new }
+fn read_opened<R: Eprint, F: Read>(
+    rt: &R,
+    name: &str,
+    file: &mut F,
+    buffer: &mut [u8],
+) -> Result<usize, ReadFailed>
+    ensures { IsPrefixLen (bytes_read result) buffer.new }
 {
     let input = read_input(file, buffer);
-    if let Some(error) = input.failed {
-        say_failure(rt, name, error);
+    if let Err(failed) = input {
+        say_failure(rt, name, failed.error);
     }
     input
 }
 
 // Reads the file that an argument names. Where that fails, standard error says why.
-pub fn read_argument<R: Env + Files + Eprint>(rt: &R, i: usize, buffer: &mut [u8]) -> Input
-    ensures { IsPrefixLen result.count buffer.new }
+pub fn read_argument<R: Env + Files + Eprint>(
+    rt: &R,
+    i: usize,
+    buffer: &mut [u8],
+) -> Result<usize, ReadFailed>
+    ensures { IsPrefixLen (bytes_read result) buffer.new }
 {
     let mut room = io::buffer();
     match argument_text(rt, i, &mut room) {
         Ok(name) => match fs::open(rt, name) {
             Ok(mut file) => read_opened(rt, name, &mut file, buffer),
-            Err(error) => unread(rt, name, error),
+            Err(error) => Err(unread(rt, name, error)),
         },
-        Err(error) => unread(rt, "argument", error),
+        Err(error) => Err(unread(rt, "argument", error)),
     }
 }
 
 // Reads the file `langs` of the folder that the program runs in; where there is none, the list is empty. Where reading fails, standard
 // error says why.
-pub fn read_langs<R: Files + Eprint>(rt: &R, buffer: &mut [u8]) -> Input
-    ensures { IsPrefixLen result.count buffer.new }
+pub fn read_langs<R: Files + Eprint>(rt: &R, buffer: &mut [u8]) -> Result<usize, ReadFailed>
+    ensures { IsPrefixLen (bytes_read result) buffer.new }
 {
     let name = "langs";
     match fs::open(rt, name) {
         Ok(mut file) => read_opened(rt, name, &mut file, buffer),
-        Err(error) if error.kind() == ErrorKind::NotFound => Input {
-            count: 0,
-            failed: None,
-        },
-        Err(error) => unread(rt, name, error),
+        Err(error) if error.kind() == ErrorKind::NotFound => Ok(0),
+        Err(error) => Err(unread(rt, name, error)),
     }
 }
 

@@ -1,68 +1,80 @@
 // Bytes, texts, numbers and gains, written into a lent buffer behind what it has. What there is no room for is left out.
-ghost use Rattle.std.specs.Prelude.{◌≡◌};
-ghost use Rattle.text.specs.Buffer.{buffer as written, put_byte, put_text};
+ghost use Rattle.std.specs.Prelude.{[], ◌∷◌, ◌≡◌};
+ghost use Rattle.text.specs.Buffer.{Appends};
 ghost use Rattle.text.specs.Decimal.{decimal, gain_text, signed_decimal};
+ghost use Rattle.text.specs.Lines.{part};
 
+use crate::lines::part;
 use values::Gain;
-use values::signed::word;
 
-// Writes a byte behind the first `count` bytes, and gives the new count.
-pub fn put_byte(buffer: &mut [u8], count: usize, byte: u8) -> usize
-    ensures { written buffer.new result ≡ put_byte (written buffer.old count) byte }
-{
-    if count < buffer.len() {
-        buffer[count] = byte;
-        count + 1
-    } else {
-        count
-    }
+// A text in a lent buffer: its first `count` bytes.
+#[derive(Drop)]
+pub struct Text<'a> {
+    pub buffer: &'a mut [u8],
+    pub count: usize,
 }
 
-// Writes a text behind the first `count` bytes, and gives the new count.
-pub fn put_text(buffer: &mut [u8], count: usize, text: &[u8]) -> usize
-    ensures { written buffer.new result ≡ put_text (written buffer.old count) text.now }
-{
-    let mut n = count;
-    let mut i = 0;
-    while i < text.len() {
-        if n >= buffer.len() {
-            return n;
+// Methods in place of `write!`: that may answer an error, after which its contract says nothing of the bytes, and these say each of them.
+impl<'a> Text<'a> {
+    // No text yet.
+    pub fn new(buffer: &'a mut [u8]) -> Text<'a>
+        ensures same_buffer { result.buffer.ghost_name ≡ buffer.entry.ghost_name }
+        ensures same_bytes { result.buffer.now ≡ buffer.old }
+        ensures empty { result.count ≡ 0 }
+    {
+        Text { buffer, count: 0 }
+    }
+
+    // The bytes of the text.
+    pub fn as_bytes(&self) -> &[u8]
+        ensures { result.now ≡ part self.now.buffer.now 0 self.now.count }
+    {
+        part(self.buffer, 0, self.count)
+    }
+
+    pub fn byte(&mut self, byte: u8)
+        ensures { Appends self.old (byte ∷ []) self.new }
+    {
+        if self.count < self.buffer.len() {
+            self.buffer[self.count] = byte;
+            self.count += 1;
         }
-        buffer[n] = text[i];
-        n += 1;
-        i += 1;
     }
-    n
-}
 
-// A number in decimal.
-pub fn put_number(buffer: &mut [u8], count: usize, n: u64) -> usize
-    ensures { written buffer.new result ≡ put_text (written buffer.old count) (decimal n) }
-{
-    let mut digits = [0u8; 20];
-    let k = io::decimal(n, &mut digits);
-    put_text(buffer, count, &digits[..k])
-}
-
-// A number with its sign; 65536 less the word of a negative number is its magnitude.
-pub fn put_signed(buffer: &mut [u8], count: usize, z: i16) -> usize
-    ensures { written buffer.new result ≡ put_text (written buffer.old count) (signed_decimal z) }
-{
-    let w = word(z) as u64;
-    if w < 32768 {
-        put_number(buffer, count, w)
-    } else {
-        let minus = put_text(buffer, count, b"-");
-        put_number(buffer, minus, 65536 - w)
+    pub fn text(&mut self, text: &[u8])
+        ensures { Appends self.old text.now self.new }
+    {
+        for byte in text {
+            self.byte(*byte);
+        }
     }
-}
 
-// `silence`, or the number of tenths.
-pub fn put_gain(buffer: &mut [u8], count: usize, gain: Gain) -> usize
-    ensures { written buffer.new result ≡ put_text (written buffer.old count) (gain_text gain) }
-{
-    match gain {
-        Gain::Silent => put_text(buffer, count, b"silence"),
-        Gain::Tenths(z) => put_signed(buffer, count, z),
+    // A number in decimal.
+    pub fn number(&mut self, n: u64)
+        ensures { Appends self.old (decimal n) self.new }
+    {
+        let mut digits = [0u8; 20];
+        let k = io::decimal(n, &mut digits);
+        self.text(&digits[..k]);
+    }
+
+    // A number with its sign.
+    pub fn signed(&mut self, z: i16)
+        ensures { Appends self.old (signed_decimal z) self.new }
+    {
+        if z < 0 {
+            self.text(b"-");
+        }
+        self.number(u64::from(z.unsigned_abs()));
+    }
+
+    // `silence`, or the number of tenths.
+    pub fn gain(&mut self, gain: Gain)
+        ensures { Appends self.old (gain_text gain) self.new }
+    {
+        match gain {
+            Gain::Silent => self.text(b"silence"),
+            Gain::Tenths(z) => self.signed(z),
+        }
     }
 }

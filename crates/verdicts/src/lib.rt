@@ -2,33 +2,32 @@
 // list of languages beside it.
 #![tactic(auto)]
 
-ghost use Rattle.std.specs.Prelude.{◌≡◌};
 ghost use Rattle.checker.specs.Checked.{checked};
 ghost use Rattle.verdicts.specs.VerdictLine.{verdict_line};
-ghost use Rattle.text.specs.Buffer.{TextFilled, buffer as written, put_text};
+ghost use Rattle.text.specs.Buffer.{Appends, TextFilled};
 
 use checker::search::check;
 use profile::Verdict;
 use profile::places::{place_record, section};
-use text::writing::{put_number, put_text};
+use text::writing::Text;
 
 // More room than any line of a verdict takes.
 pub const VERDICT_ROOM: usize = 128;
 
 // `accepted`, or the rule with its place as in `rule 14 section 3 record 0`, and the line's end.
-pub fn put_verdict(line: &mut [u8], verdict: Verdict) -> usize
-    ensures { written line.new result ≡ put_text (written line.old 0) (verdict_line verdict) }
+pub fn put_verdict(text: &mut Text, verdict: Verdict)
+    ensures { Appends text.old (verdict_line verdict) text.new }
 {
     match verdict {
-        Verdict::Accepted => put_text(line, 0, b"accepted\n"),
+        Verdict::Accepted => text.text(b"accepted\n"),
         Verdict::Broken(rule, place) => {
-            let mut n = put_text(line, 0, b"rule ");
-            n = put_number(line, n, rule as u64);
-            n = put_text(line, n, b" section ");
-            n = put_number(line, n, section(place) as u64);
-            n = put_text(line, n, b" record ");
-            n = put_number(line, n, place_record(place) as u64);
-            put_text(line, n, b"\n")
+            text.text(b"rule ");
+            text.number(u64::from(rule));
+            text.text(b" section ");
+            text.number(u64::from(section(place)));
+            text.text(b" record ");
+            text.number(u64::from(place_record(place)));
+            text.text(b"\n");
         }
     }
 }
@@ -37,5 +36,7 @@ pub fn put_verdict(line: &mut [u8], verdict: Verdict) -> usize
 pub fn verdict_line(sheet: &[u8], langs: &[u8], line: &mut [u8; VERDICT_ROOM]) -> usize
     ensures { TextFilled line.old (verdict_line (checked sheet.now langs.now)) result line.new }
 {
-    put_verdict(line, check(sheet, langs))
+    let mut text = Text::new(line);
+    put_verdict(&mut text, check(sheet, langs));
+    text.count
 }

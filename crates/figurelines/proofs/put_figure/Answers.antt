@@ -1,25 +1,8 @@
 -- The line's pieces, one behind the other. Assumes nothing.
 use Rattle.figurelines.specs.FigureLines.{figure_line}
-use Rattle.text.proofs.BufferLaws.{put_join, put_none}
+use Rattle.text.proofs.BufferLaws.{appends_join, appends_last}
 use Rattle.figurelines.proofs.put_figure.Goals as goal
 
 pub returns : goal.returns
 unfolding figure_line
-returns c =
-    rw (
-      put_join,
-      put_join,
-      put_join,
-      put_join,
-      put_join,
-      put_join,
-      put_join,
-      put_none,
-      ← c.put_text-n.ensures,
-      ← c.put_number-n.ensures,
-      ← c.put_text-n-2.ensures,
-      ← c.put_number-n-2.ensures,
-      ← c.put_text-n-3.ensures,
-      ← c.put_figure_number-n.ensures,
-    )
-    c.put_text.ensures
+returns c = rw (← c.from.ensures, ← c.from-2.ensures) (search (appends_join, appends_last) depth 8)

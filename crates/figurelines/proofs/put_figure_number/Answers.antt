@@ -4,4 +4,4 @@ use Rattle.figurelines.proofs.put_figure_number.Goals as goal
 
 pub returns-in-Derived : goal.returns-in-Derived
 unfolding signed_decimal
-returns-in-Derived c = rw c.in-Derived.is c.put_number.ensures
+returns-in-Derived c = rw c.in-Derived.is (rw c.from.ensures at c.number.ensures)

@@ -1,14 +1,15 @@
-use Rattle.std.proofs.Common.{rules, ◌<◌, length, arith, add-one, sym}
-use Rattle.text.specs.Buffer.{buffer as written}
+use Rattle.text.specs.Bytes.{join}
+use Rattle.text.proofs.BufferLaws.{appends_none, appends_more}
+use Rattle.text.proofs.BytesLaws.{joined_more}
 use Rattle.figures.specs.Clashes.{no_figure}
-use Rattle.text.proofs.BufferLaws.{put_none}
-use Rattle.figurelines.proofs.LineLaws.{lines_more}
+use Rattle.figurelines.specs.FigureLines.{figure_line}
 use Rattle.figurelines.proofs.put_figures.Goals as goal
 
-pub loop-i-init : goal.loop-i-init
-loop-i-init c = (omega arith, omega arith, sym (put_none (written c.args.text.now c.args.count)))
+pub loop-figure-init : goal.loop-figure-init
+unfolding join
+loop-figure-init c = appends_none c.args.text.now
 
-pub loop-i-preserved : goal.loop-i-preserved
-loop-i-preserved c =
-    let inside : c.loop-i.i < length c.args.given.lines = search rules in
-    (omega arith, omega arith, rw (add-one, lines_more (written c.args.text.now c.args.count) c.args.given.lines c.loop-i.i no_figure inside, ← c.loop-i.invariant.2) c.put_figure-n.ensures)
+pub loop-figure-preserved : goal.loop-figure-preserved
+loop-figure-preserved c =
+    rw (joined_more figure_line c.args.figures.now c.loop-figure.figure-index no_figure c.loop-figure-test.true)
+    (appends_more _ _ _ _ _ c.loop-figure.invariant c.put_figure.ensures)

@@ -1,12 +1,23 @@
 -- By the answer. Assumes nothing.
-use Rattle.text.proofs.BufferLaws.{put_append}
+use mathlib.Core.Path.{◌≡◌, refl}
+use mathlib.Core.List.{◌++◌}
+use Rattle.std.specs.Prelude.{Err}
+use Rattle.factors.specs.declared.Refusal.{Refusal}
+use Rattle.factors.specs.declared.Refusal.TheVariants.{FactorTooHigh}
+use Rattle.factors.specs.Conversion.{factor_too_high}
+use Rattle.text.specs.Bytes.{ascii}
+use Rattle.text.specs.Decimal.{decimal}
+use Rattle.text.proofs.BufferLaws.{appends_more}
 use Rattle.factorlines.specs.FactorLines.{conversion_text}
 use Rattle.factorlines.proofs.answers.put_conversion.Goals as goal
 
-pub returns-in-Gives : goal.returns-in-Gives
+refused : (r : Refusal) → conversion_text (Err r) ≡ ascii "refused " ++ decimal factor_too_high
 unfolding conversion_text
-returns-in-Gives c = rw c.in-Gives.is c.put_gain.ensures
+refused FactorTooHigh = refl
 
-pub returns-in-FactorTooHigh : goal.returns-in-FactorTooHigh
+pub returns-in-Ok : goal.returns-in-Ok
 unfolding conversion_text
-returns-in-FactorTooHigh c = rw (c.in-FactorTooHigh.is, put_append, ← c.put_text-n.ensures) c.put_number.ensures
+returns-in-Ok c = rw c.in-Ok.is c.gain.ensures
+
+pub returns-in-Err-FactorTooHigh : goal.returns-in-Err-FactorTooHigh
+returns-in-Err-FactorTooHigh c = rw (c.in-Err-FactorTooHigh.is, refused c.in-Err-FactorTooHigh.field-0) (appends_more _ _ _ _ _ c.text.ensures c.number.ensures)

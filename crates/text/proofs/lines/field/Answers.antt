@@ -1,22 +1,15 @@
-use Prim.Native.Nat.{◌-◌}
-use mathlib.Core.Path.{◌≡◌, ap, ◌∙◌}
-use native.Mathlib.Omega.{arith}
-use lib.ListN.{drop}
-use Rattle.text.proofs.FieldLaws as laws
+use Rattle.std.proofs.Common.{rules, ◌∙◌, ap, []}
+use Rattle.std.proofs.lemmas.Option.{unwrap_or-slice_get}
+use Rattle.std.proofs.lemmas.Iterator.Consumers.{nth_from_yields_List, YieldsList-at, YieldsList-from_filter}
+use Rattle.std.proofs.lemmas.Iterator.Splits.{YieldsList-from_slice_split}
+use Rattle.text.specs.Lines.{is_blank, fields}
+use Rattle.text.proofs.LineLaws.{has_bytes, nth_field}
 use Rattle.text.proofs.lines.field.Goals as goal
-
-pub loop-left-init : goal.loop-left-init
-loop-left-init c =
-    let k = c.args.k in let e : k - k ≡ 0 = omega arith in
-    let at = laws.started _ _ c.stretch_end-at.ensures in
-    (at.0, omega arith, at.1, rw e at.2)
-
-pub loop-left-preserved : goal.loop-left-preserved
-loop-left-preserved c =
-    let inv = c.loop-left.invariant in let left = c.loop-left-test.true in let next = laws.stepped _ _ _ c.next_field-at.ensures inv.2 inv.0 in
-    (next.0, omega arith, next.1, next.2 ∙ ap (drop 1) inv.3 ∙ laws.fallen _ _ _ left inv.1)
 
 pub returns : goal.returns
 returns c =
-    let inv = c.loop-left.invariant in let k = c.args.k in let e : k - c.loop-left.left ≡ k = omega arith in
-    c.part.ensures ∙ laws.field_at _ _ _ _ inv.0 inv.2 (rw e at inv.3) c.stretch_end.ensures
+    let found = nth_from_yields_List c.nth.result _ c.from.result c.nth.ensures.ran
+    (YieldsList-from_filter _ has_bytes
+    (YieldsList-at c.filter.ensures.source (YieldsList-from_slice_split _ is_blank c.args.line.now c.split.ensures.rest c.split.ensures.done c.split.ensures.closure (λ x b q k. search rules)))
+    c.filter.ensures.closure (λ x b q k. search rules)) in
+    ap (λ x. x.now) c.unwrap_or.ensures ∙ nth_field c.nth.result _ c.args.line.now c.args.k (rw c.from.ensures at found) ∙ unwrap_or-slice_get (fields c.args.line.now) c.args.k []

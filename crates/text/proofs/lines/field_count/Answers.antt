@@ -1,22 +1,14 @@
-use native.Mathlib.Omega.{arith}
-use Rattle.text.proofs.FieldLaws as laws
+use Rattle.std.proofs.Common.{rules, ◌∙◌, ap, sym, length}
+use Rattle.std.proofs.lemmas.Iterator.Consumers.{count_from_yields_List, YieldsList-at, YieldsList-from_filter}
+use Rattle.std.proofs.lemmas.Iterator.Splits.{YieldsList-from_slice_split}
+use Rattle.text.specs.Lines.{is_blank}
+use Rattle.text.proofs.LineLaws.{has_bytes, fields_lem}
 use Rattle.text.proofs.lines.field_count.Goals as goal
 
-pub loop-at-init : goal.loop-at-init
-loop-at-init c =
-    let at = laws.started _ _ c.stretch_end-at.ensures in
-    (at.0, omega arith, at.1, rw at.2 (omega arith))
-
-pub loop-at-smaller : goal.loop-at-smaller
-loop-at-smaller c =
-    let inv = c.loop-at.invariant in let h = c.loop-at-test.true in let next = laws.counted_one _ _ _ c.next_field-at.ensures inv.2 h in
-    omega arith
-
-pub loop-at-preserved : goal.loop-at-preserved
-loop-at-preserved c =
-    let inv = c.loop-at.invariant in let h = c.loop-at-test.true in let next = laws.stepped _ _ _ c.next_field-at.ensures inv.2 inv.0 in
-    let more = laws.counted_one _ _ _ c.next_field-at.ensures inv.2 h in
-    (next.0, omega arith, next.1, omega arith)
-
 pub returns : goal.returns
-returns c = laws.none_left _ _ _ _ c.loop-at-test.false c.loop-at.invariant.3
+returns c =
+    count_from_yields_List c.filter.result c.count.result c.count.ensures.ran
+    (YieldsList-from_filter _ has_bytes
+    (YieldsList-at c.filter.ensures.source (YieldsList-from_slice_split _ is_blank c.args.line.now c.split.ensures.rest c.split.ensures.done c.split.ensures.closure (λ x b q k. search rules)))
+    c.filter.ensures.closure (λ x b q k. search rules))
+    ∙ ap length (sym (fields_lem c.args.line.now))

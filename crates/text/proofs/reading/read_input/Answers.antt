@@ -14,8 +14,8 @@ read_more a n k xs ys within fits =
     let back : take n (drop a p) ≡ take n ys = ap (take n) (drop_at (take a xs) (ys ++ post_of a k xs) a (length-take-le a xs within)) ∙ take-append-le n ys (post_of a k xs) fits in
     take-add a n p ∙ ap (λ l. l ++ take n (drop a p)) front ∙ ap (λ l. take a xs ++ l) back
 
-pub loop-n-preserved : goal.loop-n-preserved
-loop-n-preserved g c =
-    let at = c.loop-n in
-    let joined = read_more at.n c.in-Ok.more (length at.buffer - at.n) at.buffer c.read.new.buf at.invariant.1 c.in-Ok.ensures.bound.0 in
+pub loop-count-preserved : goal.loop-count-preserved
+loop-count-preserved g c =
+    let at = c.loop-count in
+    let joined = read_more at.count c.in-Ok.more (length at.buffer - at.count) at.buffer c.read.new.buf at.invariant.1 c.in-Ok.ensures.bound.0 in
     (search rules, search rules, subst (Consumes _ _) (sym joined) (Consumes-trans _ _ _ _ _ at.invariant.2 c.in-Ok.ensures.bytes.0))

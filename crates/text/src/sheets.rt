@@ -1,0 +1,74 @@
+// Programs that are lent a sheet and a list of languages, and hand both to `tell`, which writes what they say of them.
+use crate::output::{say_failure, write_output};
+use crate::reading::{
+    LANGS_ROOM, arg_count, read_argument, read_input, read_langs, write_argument,
+};
+use std::env::Env;
+use std::fs::Files;
+use std::io::Input;
+
+// Tells of the sheet on standard input, under the list in the file `langs` of the folder that the program runs in. An argument, or a read
+// that fails, tells nothing: standard error says why.
+pub fn tell_input<R: Input + Env + Files + Print + Eprint, F: Fn(&[u8], &[u8])>(
+    rt: &R,
+    usage: &str,
+    tell: F,
+)
+    requires { F.IsAlwaysCallable tell }
+{
+    if arg_count(rt) > 1 {
+        let _ = eprintln!(rt; "usage: {usage}");
+        return;
+    }
+    let mut langs = [0u8; LANGS_ROOM];
+    let Ok(list) = read_langs(rt, &mut langs) else {
+        return;
+    };
+    let mut sheet = io::large_buffer();
+    match read_input(&mut rt.reader(), &mut sheet) {
+        Ok(count) => tell(&sheet[..count], &langs[..list]),
+        Err(failed) => say_failure(rt, "standard input", failed.error),
+    }
+}
+
+// Tells of a sheet under a list, behind the sheet's name, each by the place of the argument that names its file.
+fn tell_files<R: Env + Files + Print + Eprint, F: Fn(&[u8], &[u8])>(
+    rt: &R,
+    behind_name: &[u8],
+    tell: F,
+    list_at: usize,
+    sheet_at: usize,
+)
+    requires { F.IsAlwaysCallable tell }
+{
+    let mut langs = [0u8; LANGS_ROOM];
+    let Ok(list) = read_argument(rt, list_at, &mut langs) else {
+        return;
+    };
+    let mut sheet = io::large_buffer();
+    let Ok(count) = read_argument(rt, sheet_at, &mut sheet) else {
+        return;
+    };
+    write_argument(rt, sheet_at);
+    write_output(rt, behind_name);
+    tell(&sheet[..count], &langs[..list]);
+}
+
+// The same for each pair of arguments, which name a list and a sheet.
+pub fn tell_pairs<R: Env + Files + Print + Eprint, F: Fn(&[u8], &[u8])>(
+    rt: &R,
+    usage: &str,
+    behind_name: &[u8],
+    tell: F,
+)
+    requires { F.IsAlwaysCallable tell }
+{
+    let n = arg_count(rt);
+    if n % 2 == 0 {
+        let _ = eprintln!(rt; "usage: {usage}");
+        return;
+    }
+    for i in 0..n / 2 {
+        tell_files(rt, behind_name, &tell, 2 * i + 1, 2 * i + 2);
+    }
+}
