@@ -1,31 +1,37 @@
 -- The calls' answers and replies in the steps of the code. Assumes nothing.
 use Prim.Native.Nat.{ℕ, ◌<◌, ◌≤◌}
 use mathlib.Core.Path.{◌≡◌, refl, sym, ap, ◌∙◌}
-use mathlib.Core.Bool.{Bool, true, false, cond}
+use mathlib.Core.Bool.{true≢false, Bool, true, false, cond}
 use mathlib.Core.List.{List, [], ◌∷◌}
 use borrow.Author.Tests.{lt-ltb, le-ltb}
 use lib.ListN.{set}
 use Rattle.std.specs.Prelude.{Ok, Err, is_ok}
 use Rattle.listener.specs.declared.Setting.{Setting}
 use Rattle.listener.specs.declared.State.{State}
+use Rattle.listener.specs.declared.Refusal.{Refusal}
 use Rattle.listener.specs.declared.Reply.{Reply}
 use Rattle.listener.specs.State.{state_objects}
 use Rattle.listener.specs.Calls.{Answer, Ground, answer_by, reply_by, with_setting}
 
--- an answer, or what is asked next
-abbrev pub next : Answer → Answer → Answer
-next (Ok done) rest = rest
-next (Err r) rest = Err r
+-- two grounds, asked before the rest: neither holds, or the call is refused by one
+module _ (g h : Ground) (rest : List Ground) (a : Answer) (e : a ≡ answer_by (g ∷ h ∷ [])) where
+  pub behind : a ≡ Ok tt → answer_by (g ∷ h ∷ rest) ≡ answer_by rest
+  unfolding answer_by
+  behind d = by g.holds h.holds (sym e ∙ d)
+    where
+      by : (b c : Bool) → ◌≡◌ {A = Answer} (cond b (Err g.refusal) (cond c (Err h.refusal) (Ok tt))) (Ok tt) → ◌≡◌ {A = Answer} (cond b (Err g.refusal) (cond c (Err h.refusal) (answer_by rest))) (answer_by rest)
+      by true c f = absurd (true≢false (ap is_ok (sym f)))
+      by false true f = absurd (true≢false (ap is_ok (sym f)))
+      by false false f = refl
 
--- two grounds, asked before the rest
-pub after_two : (g h : Ground) (rest : List Ground) (a : Answer) → a ≡ answer_by (g ∷ h ∷ []) → answer_by (g ∷ h ∷ rest) ≡ next a (answer_by rest)
-unfolding answer_by
-after_two g h rest a e = by g.holds h.holds ∙ ap (λ (x : Answer). next x (answer_by rest)) (sym e)
-  where
-    by : (a b : Bool) → cond a (Err g.refusal) (cond b (Err h.refusal) (answer_by rest)) ≡ next (cond a (Err g.refusal) (cond b (Err h.refusal) (Ok tt))) (answer_by rest)
-    by true b = refl
-    by false true = refl
-    by false false = refl
+  pub stopped : (r : Refusal) → a ≡ Err r → answer_by (g ∷ h ∷ rest) ≡ Err r
+  unfolding answer_by
+  stopped r d = by g.holds h.holds (sym e ∙ d)
+    where
+      by : (b c : Bool) → ◌≡◌ {A = Answer} (cond b (Err g.refusal) (cond c (Err h.refusal) (Ok tt))) (Err r) → ◌≡◌ {A = Answer} (cond b (Err g.refusal) (cond c (Err h.refusal) (answer_by rest))) (Err r)
+      by true c f = f
+      by false true f = f
+      by false false f = absurd (true≢false (ap is_ok f))
 
 -- one ground after the other
 pub held : (g : Ground) (gs : List Ground) → g.holds ≡ true → answer_by (g ∷ gs) ≡ Err g.refusal

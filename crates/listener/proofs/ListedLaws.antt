@@ -22,7 +22,7 @@ use Rattle.listener.specs.State.{state_objects, active}
 use Rattle.listener.specs.Calls.{Answer, answer_by, not_open, not_sound}
 use Rattle.listener.specs.Listing.{Entry, own_entries, object_entries, entries, listed_tracks, too_few_words, listing_answer, listed_by, buffered_by}
 use Rattle.listener.specs.steps.Tracks.{own_tracks, child_tracks, object_tracks, tracks_when, state_tracks, object_number, number_when, state_number}
-use Rattle.listener.proofs.AnswerLaws.{next, after_two}
+use Rattle.listener.proofs.AnswerLaws.{behind, stopped}
 
 abbrev track : Entry → ℕ
 track e = e.track
@@ -85,10 +85,14 @@ unfolding listed_tracks
 entries_number s st = sym (length-map (entries s st) track) ∙ ap length (listed_tracks_lem s st) ∙ state_number_lem s st
 
 -- the answer behind 25 and 26
-pub listing_steps : (s : Sheet) (langs : List ℕ) (st : State) (words : ℕ) (a : Answer) → a ≡ answer_by (not_open s langs ∷ not_sound s st ∷ [])
-    → listing_answer s langs st words ≡ next a (answer_by (too_few_words s st words ∷ []))
-unfolding listing_answer
-listing_steps s langs st words a e = after_two (not_open s langs) (not_sound s st) (too_few_words s st words ∷ []) a e
+module _ (s : Sheet) (langs : List ℕ) (st : State) (words : ℕ) (a : Answer) (e : a ≡ answer_by (not_open s langs ∷ not_sound s st ∷ [])) where
+  pub listing_behind : a ≡ Ok tt → listing_answer s langs st words ≡ answer_by (too_few_words s st words ∷ [])
+  unfolding listing_answer
+  listing_behind = behind (not_open s langs) (not_sound s st) (too_few_words s st words ∷ []) a e
+
+  pub listing_stopped : (r : Refusal) → a ≡ Err r → listing_answer s langs st words ≡ Err r
+  unfolding listing_answer
+  listing_stopped = stopped (not_open s langs) (not_sound s st) (too_few_words s st words ∷ []) a e
 
 -- 32 alone: what is given, and the words afterwards
 module _ (s : Sheet) (st : State) (buffer : List ℕ) where

@@ -4,23 +4,23 @@ use mathlib.Core.Bool.{not}
 use borrow.Author.Rules.{rules}
 use Rattle.std.specs.Prelude.{Ok, Err}
 use Rattle.listener.specs.Calls.{not_included, not_in_group, object_answer}
-use Rattle.listener.proofs.AnswerLaws.{after_two, held, passed, none_left}
+use Rattle.listener.proofs.AnswerLaws.{behind, stopped, held, passed, none_left}
 use Rattle.listener.proofs.calls.object_answer.Goals as goal
 
 pub returns-in_err-sound_answer : goal.returns-in_err-sound_answer
 unfolding object_answer
-returns-in_err-sound_answer c = let r : c.from_residual.result ≡ Err c.in_err-sound_answer.field-0.0 = search rules in r ∙ sym (after_two _ _ _ _ (sym c.in_err-sound_answer.was ∙ c.sound_answer.ensures))
+returns-in_err-sound_answer c = let r : c.from_residual.result ≡ Err c.in_err-sound_answer.field-0.0 = search rules in r ∙ sym (stopped _ _ _ _ c.sound_answer.ensures _ c.in_err-sound_answer.was)
 
 pub returns-then-not-includes : goal.returns-then-not-includes
 unfolding object_answer not_included
-returns-then-not-includes c = sym (after_two _ _ _ (Ok tt) (sym c.in_ok-sound_answer.was ∙ c.sound_answer.ensures) ∙ held _ _ (ap not (sym c.includes.ensures ∙ c.if-not-includes.true)))
+returns-then-not-includes c = sym (behind _ _ _ _ c.sound_answer.ensures c.in_ok-sound_answer.was ∙ held _ _ (ap not (sym c.includes.ensures ∙ c.if-not-includes.true)))
 
 pub returns-then-not-in_whole_group : goal.returns-then-not-in_whole_group
 unfolding object_answer not_included not_in_group
 returns-then-not-in_whole_group c =
-    sym (after_two _ _ _ (Ok tt) (sym c.in_ok-sound_answer.was ∙ c.sound_answer.ensures) ∙ passed _ _ (ap not (sym c.includes.ensures ∙ c.if-not-includes.false)) ∙ held _ _ (ap not (sym c.in_whole_group.ensures ∙ c.if-not-in_whole_group.true)))
+    sym (behind _ _ _ _ c.sound_answer.ensures c.in_ok-sound_answer.was ∙ passed _ _ (ap not (sym c.includes.ensures ∙ c.if-not-includes.false)) ∙ held _ _ (ap not (sym c.in_whole_group.ensures ∙ c.if-not-in_whole_group.true)))
 
 pub returns : goal.returns
 unfolding object_answer not_included not_in_group
 returns c =
-    sym (after_two _ _ _ (Ok tt) (sym c.in_ok-sound_answer.was ∙ c.sound_answer.ensures) ∙ passed _ _ (ap not (sym c.includes.ensures ∙ c.if-not-includes.false)) ∙ passed _ _ (ap not (sym c.in_whole_group.ensures ∙ c.if-not-in_whole_group.false)) ∙ none_left)
+    sym (behind _ _ _ _ c.sound_answer.ensures c.in_ok-sound_answer.was ∙ passed _ _ (ap not (sym c.includes.ensures ∙ c.if-not-includes.false)) ∙ passed _ _ (ap not (sym c.in_whole_group.ensures ∙ c.if-not-in_whole_group.false)) ∙ none_left)

@@ -4,17 +4,17 @@ use borrow.Author.Rules.{rules}
 use borrow.Author.Tests.{le-leb, lt-leb}
 use Rattle.std.specs.Prelude.{Ok, Err}
 use Rattle.listener.specs.Calls.{no_programme, programme_answer}
-use Rattle.listener.proofs.AnswerLaws.{after_two, held, passed, none_left}
+use Rattle.listener.proofs.AnswerLaws.{behind, stopped, held, passed, none_left}
 use Rattle.listener.proofs.calls.programme_answer.Goals as goal
 
 pub returns-in_err-sound_answer : goal.returns-in_err-sound_answer
 unfolding programme_answer
-returns-in_err-sound_answer c = let r : c.from_residual.result ≡ Err c.in_err-sound_answer.field-0.0 = search rules in r ∙ sym (after_two _ _ _ _ (sym c.in_err-sound_answer.was ∙ c.sound_answer.ensures))
+returns-in_err-sound_answer c = let r : c.from_residual.result ≡ Err c.in_err-sound_answer.field-0.0 = search rules in r ∙ sym (stopped _ _ _ _ c.sound_answer.ensures _ c.in_err-sound_answer.was)
 
 pub returns-then-count-p : goal.returns-then-count-p
 unfolding programme_answer no_programme
-returns-then-count-p c = sym (after_two _ _ _ (Ok tt) (sym c.in_ok-sound_answer.was ∙ c.sound_answer.ensures) ∙ held _ _ (rw (← c.count.ensures) (le-leb _ _ c.if-count-p.true)))
+returns-then-count-p c = sym (behind _ _ _ _ c.sound_answer.ensures c.in_ok-sound_answer.was ∙ held _ _ (rw (← c.count.ensures) (le-leb _ _ c.if-count-p.true)))
 
 pub returns : goal.returns
 unfolding programme_answer no_programme
-returns c = sym (after_two _ _ _ (Ok tt) (sym c.in_ok-sound_answer.was ∙ c.sound_answer.ensures) ∙ passed _ _ (rw (← c.count.ensures) (lt-leb _ _ c.if-count-p.false)) ∙ none_left)
+returns c = sym (behind _ _ _ _ c.sound_answer.ensures c.in_ok-sound_answer.was ∙ passed _ _ (rw (← c.count.ensures) (lt-leb _ _ c.if-count-p.false)) ∙ none_left)

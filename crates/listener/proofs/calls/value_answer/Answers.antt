@@ -6,33 +6,33 @@ use Rattle.std.specs.Prelude.{Ok, Err}
 use Rattle.granted.specs.Granted.{grants}
 use Rattle.granted.specs.steps.NamedSet.{granted_range, is_range}
 use Rattle.listener.specs.Calls.{not_included, no_range, outside_range, value_answer}
-use Rattle.listener.proofs.AnswerLaws.{after_two, held, passed, none_left}
+use Rattle.listener.proofs.AnswerLaws.{behind, stopped, held, passed, none_left}
 use Rattle.listener.proofs.calls.value_answer.Goals as goal
 
 pub returns-in_err-sound_answer : goal.returns-in_err-sound_answer
 unfolding value_answer
-returns-in_err-sound_answer g c = let r : c.from_residual.result ≡ Err c.in_err-sound_answer.field-0.0 = search rules in r ∙ sym (after_two _ _ _ _ (sym c.in_err-sound_answer.was ∙ c.sound_answer.ensures))
+returns-in_err-sound_answer g c = let r : c.from_residual.result ≡ Err c.in_err-sound_answer.field-0.0 = search rules in r ∙ sym (stopped _ _ _ _ c.sound_answer.ensures _ c.in_err-sound_answer.was)
 
 pub returns-then-not-includes : goal.returns-then-not-includes
 unfolding value_answer not_included
-returns-then-not-includes g c = sym (after_two _ _ _ (Ok tt) (sym c.in_ok-sound_answer.was ∙ c.sound_answer.ensures) ∙ held _ _ (ap not (sym c.includes.ensures ∙ c.if-not-includes.true)))
+returns-then-not-includes g c = sym (behind _ _ _ _ c.sound_answer.ensures c.in_ok-sound_answer.was ∙ held _ _ (ap not (sym c.includes.ensures ∙ c.if-not-includes.true)))
 
 pub returns-then-not-is_there : goal.returns-then-not-is_there
 unfolding value_answer not_included no_range grants granted_range is_range
 returns-then-not-is_there g c =
     let there = sym (rw (c.granted_range-range.ensures, c.SORT.ensures) at c.is_there.ensures) in
-    sym (after_two _ _ _ (Ok tt) (sym c.in_ok-sound_answer.was ∙ c.sound_answer.ensures) ∙ passed _ _ (ap not (sym c.includes.ensures ∙ c.if-not-includes.false)) ∙ held _ _ (ap not (there ∙ c.if-not-is_there.true)))
+    sym (behind _ _ _ _ c.sound_answer.ensures c.in_ok-sound_answer.was ∙ passed _ _ (ap not (sym c.includes.ensures ∙ c.if-not-includes.false)) ∙ held _ _ (ap not (there ∙ c.if-not-is_there.true)))
 
 pub returns-then-not-within : goal.returns-then-not-within
 unfolding value_answer not_included no_range outside_range grants granted_range is_range
 returns-then-not-within g c =
     let there = sym (rw (c.granted_range-range.ensures, c.SORT.ensures) at c.is_there.ensures) in
     let fits = sym (rw (c.granted_range-range.ensures, c.SORT.ensures) at c.within.ensures) in
-    sym (after_two _ _ _ (Ok tt) (sym c.in_ok-sound_answer.was ∙ c.sound_answer.ensures) ∙ passed _ _ (ap not (sym c.includes.ensures ∙ c.if-not-includes.false)) ∙ passed _ _ (ap not (there ∙ c.if-not-is_there.false)) ∙ held _ _ (ap not (fits ∙ c.if-not-within.true)))
+    sym (behind _ _ _ _ c.sound_answer.ensures c.in_ok-sound_answer.was ∙ passed _ _ (ap not (sym c.includes.ensures ∙ c.if-not-includes.false)) ∙ passed _ _ (ap not (there ∙ c.if-not-is_there.false)) ∙ held _ _ (ap not (fits ∙ c.if-not-within.true)))
 
 pub returns : goal.returns
 unfolding value_answer not_included no_range outside_range grants granted_range is_range
 returns g c =
     let there = sym (rw (c.granted_range-range.ensures, c.SORT.ensures) at c.is_there.ensures) in
     let fits = sym (rw (c.granted_range-range.ensures, c.SORT.ensures) at c.within.ensures) in
-    sym (after_two _ _ _ (Ok tt) (sym c.in_ok-sound_answer.was ∙ c.sound_answer.ensures) ∙ passed _ _ (ap not (sym c.includes.ensures ∙ c.if-not-includes.false)) ∙ passed _ _ (ap not (there ∙ c.if-not-is_there.false)) ∙ passed _ _ (ap not (fits ∙ c.if-not-within.false)) ∙ none_left)
+    sym (behind _ _ _ _ c.sound_answer.ensures c.in_ok-sound_answer.was ∙ passed _ _ (ap not (sym c.includes.ensures ∙ c.if-not-includes.false)) ∙ passed _ _ (ap not (there ∙ c.if-not-is_there.false)) ∙ passed _ _ (ap not (fits ∙ c.if-not-within.false)) ∙ none_left)
