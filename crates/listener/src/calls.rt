@@ -72,7 +72,7 @@ pub fn sound_answer(s: &[u8], langs: &[u8], state: &State) -> Result<(), Refusal
     if !opens(s, langs) {
         return Err(Refusal::NotAccepted);
     }
-    if !sound(s, *state) {
+    if !sound(s, state) {
         return Err(Refusal::Unsound);
     }
     Ok(())

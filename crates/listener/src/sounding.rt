@@ -41,18 +41,16 @@ fn sound_at(s: &[u8], p: u16, tables: ProgrammeTables, active: &[u16], o: u16, x
     ensures { ProgrammeTabled (sheet_of s.now) p tables.entry → result ≡ flagged_sound (sheet_of s.now) p active.now o x }
 {
     if included_by(s, p, tables.included, o) {
-        let gain = x.gain;
-        let offset = x.offset;
-        tables.sound_activity(s, p, active, o) & sound_values(s, p, o, gain, offset)
+        tables.sound_activity(s, p, active, o) & sound_values(s, p, o, x.gain, x.offset)
     } else {
         is_resting(x)
     }
 }
 
-// Whether a state is sound for the sheet. What the programme doesn't include is at rest, so it has no part in a group. The loops stand
-// in one function, since a call that takes a state copies it; the long one comes last, when that copy is long done.
-pub fn sound(s: &[u8], state: State) -> bool
-    ensures { result ≡ sound (sheet_of s.now) state }
+// Whether a state is sound for the sheet. What the programme doesn't include is at rest, so it has no part in a group. The state is lent,
+// since a call that takes it by value copies it.
+pub fn sound(s: &[u8], state: &State) -> bool
+    ensures { result ≡ sound (sheet_of s.now) state.now }
 {
     let p = state.programme;
     if count(s, PROGRAMMES) <= p {
