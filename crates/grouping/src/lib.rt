@@ -4,10 +4,3 @@
 
 pub mod leaders;
 pub mod programmes;
-
-// What a pass is to show: that the programmes from one on keep rule 21 and, with `both`, rule 22.
-#[derive(Clone, Copy)]
-pub struct Wanted {
-    pub from: u16,
-    pub both: bool,
-}

@@ -1,12 +1,12 @@
 // The programmes one after the other, by the rows of the groups or by the leaders of their objects.
-ghost use Rattle.std.specs.Prelude.{◌-◌, ◌<◌, length, true, ◌≡◌};
+ghost use Rattle.std.specs.Prelude.{◌-◌, ◌<◌, is_some, length, true, ◌≡◌};
 ghost use Rattle.grouping.specs.steps.Groups.{GroupsGround, ProgrammesKept};
 ghost use Rattle.inclusion.specs.steps.Entering.{Begins};
 ghost use Rattle.grouping.specs.steps.Passing.{KeptFrom, same_list, same_lists};
+ghost use Rattle.std.specs.Option.{option_copied};
 ghost use Rattle.sheet.specs.Words.{sheet_of};
 ghost use Rattle.tables.specs.steps.Right.{Owners};
 
-use crate::Wanted;
 use crate::leaders::groups_asked;
 use inclusion::entering::enter;
 use inclusion::groups::{groups_kept, list_leaders};
@@ -28,18 +28,18 @@ fn same_list(s: &[u8], p: u16, q: u16, at: u8) -> bool
         && (number(s, PROGRAMMES, p, at) == number(s, PROGRAMMES, q, at))
 }
 
-// Whether they have the same contents and, with `both`, the same sets.
-fn same_lists(s: &[u8], both: bool, p: u16, q: u16) -> bool
-    ensures { result ≡ same_lists (sheet_of s.now) both p q }
+// Whether they have the same contents and, where there are tables of sets, the same sets.
+fn same_lists(s: &[u8], sets: Option<&SetTables>, p: u16, q: u16) -> bool
+    ensures { result ≡ same_lists (sheet_of s.now) (is_some (option_copied sets.entry)) p q }
 {
-    same_list(s, p, q, CONTENT_LIST) && (!both || same_list(s, p, q, SET_LIST))
+    same_list(s, p, q, CONTENT_LIST) && (sets.is_none() || same_list(s, p, q, SET_LIST))
 }
 
-// Whether programme p comes after a first one and has the lists of the one before it, whose groups are kept where that one's are.
-fn repeats_before(s: &[u8], wanted: Wanted, p: u16) -> bool
-    ensures { result ≡ true → (wanted.from < p) × (same_lists (sheet_of s.now) wanted.both p (p - 1) ≡ true) }
+// Whether programme p comes after the first that is tested and has the lists of the one before it: it keeps what that one keeps.
+fn repeats_before(s: &[u8], sets: Option<&SetTables>, from: u16, p: u16) -> bool
+    ensures { result ≡ true → (from < p) × (same_lists (sheet_of s.now) (is_some (option_copied sets.entry)) p (p - 1) ≡ true) }
 {
-    (wanted.from < p) && same_lists(s, wanted.both, p, p - 1)
+    (from < p) && same_lists(s, sets, p, p - 1)
 }
 
 // Where sections 6, 2 and 7 begin.
@@ -53,52 +53,52 @@ fn section_offsets(s: &[u8]) -> SectionOffsets
     }
 }
 
-// How many programmes from the first on can be seen to keep what is wanted, by the rows of the groups, where those before the first that
-// is tested do.
+// How many programmes from the first on can be seen to keep rule 21 and, where there are tables of sets, rule 22, by the rows of the
+// groups, where those before `from` do.
 fn rows_from(
     s: &[u8],
-    wanted: Wanted,
-    sets: &SetTables,
+    from: u16,
+    sets: Option<&SetTables>,
     leading: &mut [u16],
     partners: &mut [u16],
     included: &mut [u16],
 ) -> u16
-    ensures { KeptFrom (sheet_of s.now) wanted sets.now leading.old partners.old included.old leading.new partners.new included.new result }
+    ensures { KeptFrom (sheet_of s.now) from (option_copied sets.entry) leading.old partners.old included.old leading.new partners.new included.new result }
 {
     let sections = section_offsets(s);
     let Some(g) = list_leaders(s, leading, partners) else {
-        return wanted.from;
+        return from;
     };
     let rows = Rows {
         leading: &leading[..g as usize],
         partners: &partners[..g as usize],
     };
     let n = count(s, PROGRAMMES);
-    for p in wanted.from..n {
-        if repeats_before(s, wanted, p) {
+    for p in from..n {
+        if repeats_before(s, sets, from, p) {
             continue;
         }
         clear(included);
-        if enter(s, sections, sets, wanted.both, p, included).is_none() {
+        if enter(s, sections, sets, p, included).is_none() {
             return p;
         }
         if !groups_kept(s, sections, &rows, included) {
             return p;
         }
     }
-    wanted.from.max(n)
+    from.max(n)
 }
 
 // The same by the leaders of their objects. The table of what is included has noughts before each programme.
 fn leaders_from(
     s: &[u8],
-    wanted: Wanted,
-    sets: &SetTables,
+    from: u16,
+    sets: Option<&SetTables>,
     leaders: &mut [u16],
     groups: &mut [u16],
     included: &mut [u16],
 ) -> u16
-    ensures { KeptFrom (sheet_of s.now) wanted sets.now leaders.old groups.old included.old leaders.new groups.new included.new result }
+    ensures { KeptFrom (sheet_of s.now) from (option_copied sets.entry) leaders.old groups.old included.old leaders.new groups.new included.new result }
 {
     let sections = section_offsets(s);
     clear(leaders);
@@ -106,11 +106,11 @@ fn leaders_from(
     clear(groups);
     clear(included);
     let n = count(s, PROGRAMMES);
-    for p in wanted.from..n {
-        if repeats_before(s, wanted, p) {
+    for p in from..n {
+        if repeats_before(s, sets, from, p) {
             continue;
         }
-        if enter(s, sections, sets, wanted.both, p, included).is_none() {
+        if enter(s, sections, sets, p, included).is_none() {
             return p;
         }
         if groups_asked(s, sections, leaders, p, included, groups).is_none() {
@@ -118,7 +118,7 @@ fn leaders_from(
         }
         mark_objects(s, p, |_| 0, included);
     }
-    wanted.from.max(n)
+    from.max(n)
 }
 
 // Whether the content lists have, one with another, less than an entry for 32 objects. Nothing rests on this but time.
@@ -138,18 +138,18 @@ fn short_lists(s: &[u8]) -> bool {
 // decides what the first two tables hold.
 pub fn kept_from(
     s: &[u8],
-    wanted: Wanted,
-    sets: &SetTables,
+    from: u16,
+    sets: Option<&SetTables>,
     first: &mut [u16],
     second: &mut [u16],
     included: &mut [u16],
 ) -> u16
-    ensures { KeptFrom (sheet_of s.now) wanted sets.now first.old second.old included.old first.new second.new included.new result }
+    ensures { KeptFrom (sheet_of s.now) from (option_copied sets.entry) first.old second.old included.old first.new second.new included.new result }
 {
     if short_lists(s) {
-        return leaders_from(s, wanted, sets, first, second, included);
+        return leaders_from(s, from, sets, first, second, included);
     }
-    rows_from(s, wanted, sets, first, second, included)
+    rows_from(s, from, sets, first, second, included)
 }
 
 // Whether all programmes can be seen to keep rules 21 and 22 and to name no content twice. What stands in the last three tables at the
@@ -173,18 +173,14 @@ pub fn programmes_pass(
     if second.len() < n {
         return false;
     }
-    let wanted = Wanted {
-        from: 0,
-        both: true,
-    };
     let sets = SetTables {
         owners,
         alike: &owners[..0],
     };
     kept_from(
         s,
-        wanted,
-        &sets,
+        0,
+        Some(&sets),
         &mut first[..n],
         &mut second[..n],
         &mut included[..n],

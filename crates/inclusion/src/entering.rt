@@ -1,6 +1,8 @@
 // What a programme includes and the sets that it names, entered into a table by object (see groups).
-ghost use Rattle.std.specs.Prelude.{IsSome, length, ◌≡◌};
+ghost use Rattle.std.specs.Prelude.{IsSome, is_some, length, ◌≡◌};
+ghost use Rattle.inclusion.specs.steps.Alike.{alike_of, owners_of};
 ghost use Rattle.inclusion.specs.steps.Entering.{Entered, ObjectsEntered, SetsNoted, object_from, Begins};
+ghost use Rattle.std.specs.Option.{option_copied};
 ghost use Rattle.sheet.specs.Words.{sheet_of};
 ghost use Rattle.tables.specs.steps.Right.{Owners};
 
@@ -67,20 +69,19 @@ fn enter_sets(
     Some(())
 }
 
-// What the programme includes and, with `both`, the sets that it names, into a table of noughts.
+// What the programme includes and, where there are tables of sets, the sets that it names, into a table of noughts.
 pub fn enter(
     s: &[u8],
     sections: SectionOffsets,
-    sets: &SetTables,
-    both: bool,
+    sets: Option<&SetTables>,
     p: u16,
     included: &mut [u16],
 ) -> Option<()>
-    ensures { (length included.new ≡ length included.old) × (IsSome result → Begins (sheet_of s.now) sections → Owners (sheet_of s.now) sets.now.owners.now → Entered (sheet_of s.now) both sets.now.alike.now p included.old included.new) }
+    ensures { (length included.new ≡ length included.old) × (IsSome result → Begins (sheet_of s.now) sections → Owners (sheet_of s.now) (owners_of (option_copied sets.entry)) → Entered (sheet_of s.now) (is_some (option_copied sets.entry)) (alike_of (option_copied sets.entry)) p included.old included.new) }
 {
     enter_objects(s, sections, p, included)?;
-    if !both {
-        return Some(());
+    match sets {
+        Some(tables) => enter_sets(s, sections, tables, p, included),
+        None => Some(()),
     }
-    enter_sets(s, sections, sets, p, included)
 }

@@ -1,12 +1,11 @@
 -- What the pass is given, and what it leaves. Assumes nothing.
-use Rattle.std.specs.Prelude.{ℕ, ◌≡◌, Bool, true, not, ◌&&◌, ◌||◌, List, eqb, length}
+use Rattle.std.specs.Prelude.{ℕ, ◌≡◌, Bool, true, not, Option, is_some, ◌&&◌, ◌||◌, List, eqb, length}
 use Rattle.sheet.specs.Words.{Sheet}
 use Rattle.sheet.specs.Layout.{count, field, number}
 use Rattle.sheet.specs.Fields.{programmes, objects, content_list, set_list}
 use Rattle.tables.specs.steps.Right.{Owners}
 use Rattle.inclusion.specs.declared.SetTables.{SetTables}
-use Rattle.inclusion.specs.steps.Alike.{Alike}
-use Rattle.grouping.specs.declared.Wanted.{Wanted}
+use Rattle.inclusion.specs.steps.Alike.{Alike, owners_of, alike_of}
 use Rattle.grouping.specs.steps.Groups.{GroupsApart, KeptTo, OneSpan}
 
 -- what the pass rests on: the owners of the sets, the sets that stand for others, and for rule 22 that each set is in one span
@@ -27,8 +26,8 @@ same_lists s both p q = same_list s p q content_list && (not both || same_list s
 
 -- With three tables that keep their lengths: where they have a place for each object, and the programmes before the first that is tested
 -- are kept, those before r are.
-pub record KeptFrom (s : Sheet) (wanted : Wanted) (sets : SetTables) (t u v t' u' v' : List ℕ) (r : ℕ) : Type 0 where
+pub record KeptFrom (s : Sheet) (from : ℕ) (sets : Option SetTables) (t u v t' u' v' : List ℕ) (r : ℕ) : Type 0 where
   pub first : length t' ≡ length t
   pub second : length u' ≡ length u
   pub third : length v' ≡ length v
-  pub kept : Passing s wanted.both sets.owners.now sets.alike.now → Full s t u v → GroupsApart s → KeptTo s wanted.both wanted.from → KeptTo s wanted.both r
+  pub kept : Passing s (is_some sets) (owners_of sets) (alike_of sets) → Full s t u v → GroupsApart s → KeptTo s (is_some sets) from → KeptTo s (is_some sets) r

@@ -1,4 +1,7 @@
 use Rattle.std.proofs.Common.{not, refl, ap, ◌∙◌, arith}
+use Rattle.std.specs.Prelude.{is_some}
+use Rattle.std.specs.Option.{option_copied}
+use Rattle.inclusion.specs.steps.Alike.{owners_of, alike_of}
 use Rattle.sheet.specs.Words.{sheet_of}
 use Rattle.inclusion.proofs.RowLaws.{rows_cut}
 use Rattle.grouping.proofs.KeptLaws.{programme_more, repeated_kept}
@@ -12,14 +15,14 @@ loop-p-init c = λ pass full before. before
 
 pub loop-p-preserved-then-repeats_before : goal.loop-p-preserved-then-repeats_before
 loop-p-preserved-then-repeats_before c = λ pass full before.
-    repeated_kept (sheet_of c.args.s.now) c.args.wanted.both c.args.wanted.from c.loop-p.p (c.repeats_before.ensures c.if-repeats_before.true) (c.loop-p.invariant pass full before)
+    repeated_kept (sheet_of c.args.s.now) (is_some (option_copied c.args.sets)) c.args.from c.loop-p.p (c.repeats_before.ensures c.if-repeats_before.true) (c.loop-p.invariant pass full before)
 
 pub loop-p-preserved : goal.loop-p-preserved
 loop-p-preserved c = λ pass full before.
     let a = c.args in let here = c.loop-p in let cleared = c.clear in let enter = c.enter in let at = c.section_offsets-sections.ensures in
     let rows = c.in-Some.ensures.2 c.in-Some.g refl in
     let entered = enter.ensures.1 (c.is_none.ensures ∙ ap not c.if-is_none.false) at pass.0 in
-    programme_more (sheet_of a.s.now) a.wanted.both a.sets.now.owners.now a.sets.now.alike.now here.p cleared.new.table enter.new.included pass
+    programme_more (sheet_of a.s.now) (is_some (option_copied a.sets)) (owners_of (option_copied a.sets)) (alike_of (option_copied a.sets)) here.p cleared.new.table enter.new.included pass
     entered cleared.ensures.1 (cleared.ensures.0 ∙ here.auto.included ∙ full)
     (c.groups_kept.ensures c.if-not-groups_kept.false at (rows_cut (sheet_of a.s.now) c.list_leaders.new.leading c.list_leaders.new.partners c.in-Some.g rows.0 rows.1)) (here.invariant pass full before)
 
