@@ -1,4 +1,4 @@
-mod NoughtLaws
+pub mod NoughtLaws
 mod ObjectLaws
 mod PackLaws
 mod ScreenedLaws

@@ -10,15 +10,8 @@ pub mod screening;
 pub mod sets;
 pub mod totals;
 
+use relations::sets::Values;
 use tables::ObjectTables;
-
-// A gain with its range, or an offset with its range: three words.
-#[derive(Clone, Copy)]
-pub struct Values {
-    pub value: u16,
-    pub minimum: u16,
-    pub maximum: u16,
-}
 
 // What of an object counts for the values of its sets: its interact word, whether its pack is of kind 3 with front 1, and its values.
 #[derive(Clone, Copy)]

@@ -9,18 +9,18 @@ ghost use Rattle.sheet.specs.Layout.{start};
 ghost use Rattle.sheet.specs.Words.{sheet_of};
 ghost use Rattle.tables.specs.steps.Right.{Named, ObjectsTabled, Tops};
 
+use crate::ObjectValues;
 use crate::complements::complements_break;
 use crate::object_words::ObjectWords;
-use crate::sets::any_set_breaks;
-use crate::{ObjectValues, Values};
+use crate::sets::{any_set_breaks, none_present, own_leaves, values_at};
 use lists::entries::Span;
 use profile::limits::{CHILDREN_LIMIT, COMPLEMENTS_LIMIT, SPAN_LIMIT, exceeds};
+use relations::sets::{Positions, Values};
 use rules::objects::rule15;
+use rules::words::bad_words;
 use sheet::fields::{
-    CHILD_LIST, COMPLEMENT_LIST, INTERACT, NO_PACK, OBJECT_GAIN, OBJECT_GAIN_MAXIMUM,
-    OBJECT_GAIN_MINIMUM, OBJECT_OFFSET, OBJECT_OFFSET_MAXIMUM, OBJECT_OFFSET_MINIMUM, OBJECT_PACK,
-    OBJECTS, PACK_CHANNELS, PACK_FRONT, PACK_KIND, PACKS, REFERENCES, SET_SPAN, TRACK_LIST,
-    VALUE_SETS,
+    CHILD_LIST, COMPLEMENT_LIST, INTERACT, NO_PACK, OBJECT_PACK, OBJECTS, PACK_CHANNELS,
+    PACK_FRONT, PACK_KIND, PACKS, REFERENCES, SET_SPAN, TRACK_LIST, VALUE_SETS,
 };
 use sheet::layout::{count, field};
 use tables::ObjectTables;
@@ -57,13 +57,13 @@ fn is_front(s: &[u8], pack: u16) -> bool
 
 impl ObjectValues {
     // The values of a sort: rules 6 and 18, and 16 but for the sets.
-    #[tactic(auto, unfolding(crate::specs::steps::Objects::sort_broken))]
+    #[tactic(auto, unfolding(crate::specs::steps::Objects::sort_broken, crate::specs::steps::Values::words_broken, crate::specs::steps::Values::has_range))]
     fn sort_breaks(self, sort: Sort, values: Values) -> bool
         ensures { result ≡ sort_broken sort self values }
     {
-        values.words_break(sort)
+        bad_words(sort, values)
             | (self.interact == 0) & values.has_range()
-            | values.own_leaves(sort)
+            | own_leaves(sort, values)
     }
 
     // The offset: rules 6, 17 and 18, and 16 but for the sets. Most have none.
@@ -71,7 +71,7 @@ impl ObjectValues {
         ensures { result ≡ offsets_broken self }
     {
         let offsets = self.offsets;
-        if offsets.none_present() {
+        if none_present(offsets) {
             return false;
         }
         self.sort_breaks(Sort::Offsets, offsets)
@@ -107,29 +107,19 @@ impl<'a> ObjectWords<'a> {
     }
 
     // The gain with its range.
+    #[tactic(auto, unfolding(profile::specs::Relations::object_value, profile::specs::Relations::object_minimum, profile::specs::Relations::object_maximum))]
     fn gains(&self) -> Values
         ensures { result ≡ object_gains (sheet_of self.now.s.now) (start (sheet_of self.now.s.now) objects self.now.o) }
     {
-        Values::at(
-            self.s,
-            self.at,
-            OBJECT_GAIN,
-            OBJECT_GAIN_MINIMUM,
-            OBJECT_GAIN_MAXIMUM,
-        )
+        values_at(self.s, self.at, Positions::in_object(Sort::Gains))
     }
 
     // The offset with its range.
+    #[tactic(auto, unfolding(profile::specs::Relations::object_value, profile::specs::Relations::object_minimum, profile::specs::Relations::object_maximum))]
     fn offsets(&self) -> Values
         ensures { result ≡ object_offsets (sheet_of self.now.s.now) (start (sheet_of self.now.s.now) objects self.now.o) }
     {
-        Values::at(
-            self.s,
-            self.at,
-            OBJECT_OFFSET,
-            OBJECT_OFFSET_MINIMUM,
-            OBJECT_OFFSET_MAXIMUM,
-        )
+        values_at(self.s, self.at, Positions::in_object(Sort::Offsets))
     }
 
     // Its pack.
@@ -194,8 +184,8 @@ impl<'a> ObjectWords<'a> {
         (self.number(COMPLEMENT_LIST) == 0)
             & (self.number(SET_SPAN) == 0)
             & (self.word(INTERACT) == 0)
-            & self.gains().none_present()
-            & self.offsets().none_present()
+            & none_present(self.gains())
+            & none_present(self.offsets())
     }
 
     // Whether an object that is not plain may break rule 6, one of 15 to 20, or rule 5 by a complement; or a set of its one.

@@ -1,106 +1,96 @@
 // The value sets of an object.
 ghost use Rattle.std.specs.Prelude.{◌+◌, false, ◌≡◌};
 ghost use Rattle.profile.specs.Counting.{any};
-ghost use Rattle.screen.specs.steps.Values.{gain_broken, has_range, none_present, own_leaves, set_broken, set_words_broken, value_leaves, values_at, words_broken};
+ghost use Rattle.screen.specs.steps.Values.{gain_broken, none_present, own_leaves, set_broken, set_words_broken, value_leaves, values_at};
 ghost use Rattle.sheet.specs.Fields.{value_sets};
 ghost use Rattle.sheet.specs.Layout.{start};
 ghost use Rattle.sheet.specs.Words.{sheet_of};
 
-use crate::{ObjectValues, Values};
+use crate::ObjectValues;
 use lists::entries::Span;
 use lists::words::{ends_before, record_after, word_at};
+use relations::sets::{Positions, Values};
 use rules::ranges::leaves;
 use rules::words::bad_words;
-use sheet::fields::{
-    SET_GAIN, SET_GAIN_MAXIMUM, SET_GAIN_MINIMUM, SET_OFFSET, SET_OFFSET_MAXIMUM,
-    SET_OFFSET_MINIMUM, SET_OWN, VALUE_SETS,
-};
+use sheet::fields::{SET_OWN, VALUE_SETS};
 use values::Sort;
 use values::values::{is_absent, or_else};
 
-impl Values {
-    // A value with its range, at three positions of a record.
-    #[tactic(auto, unfolding(crate::specs::steps::Values::values_at))]
-    pub fn at(s: &[u8], at: u32, value: u8, minimum: u8, maximum: u8) -> Values
-        ensures { result ≡ values_at (sheet_of s.now) (at + value) (at + minimum) (at + maximum) }
-    {
+// A value with its range, at these positions of the record whose words begin at an index.
+#[tactic(auto, unfolding(crate::specs::steps::Values::values_at))]
+pub fn values_at(s: &[u8], at: u32, positions: Positions) -> Values
+    ensures { result ≡ values_at (sheet_of s.now) (at + positions.value) (at + positions.minimum) (at + positions.maximum) }
+{
+    Values {
+        value: word_at(s, at, positions.value),
+        minimum: word_at(s, at, positions.minimum),
+        maximum: word_at(s, at, positions.maximum),
+    }
+}
+
+// Whether neither a value nor a range is present.
+#[tactic(auto, unfolding(crate::specs::steps::Values::none_present, crate::specs::steps::Values::has_range))]
+pub fn none_present(v: Values) -> bool
+    ensures { result ≡ none_present v }
+{
+    is_absent(v.value) & !v.has_range()
+}
+
+// The value, 0 where it is absent, leaves the range.
+#[tactic(auto, unfolding(crate::specs::steps::Values::own_leaves))]
+pub(crate) fn own_leaves(sort: Sort, v: Values) -> bool
+    ensures { result ≡ own_leaves sort v }
+{
+    leaves(
+        sort,
         Values {
-            value: word_at(s, at, value),
-            minimum: word_at(s, at, minimum),
-            maximum: word_at(s, at, maximum),
-        }
-    }
+            value: or_else(v.value, 0),
+            ..v
+        },
+    )
+}
 
-    // Whether a minimum or a maximum is present.
-    #[tactic(auto, unfolding(crate::specs::steps::Values::has_range))]
-    pub fn has_range(self) -> bool
-        ensures { result ≡ has_range self }
-    {
-        !is_absent(self.minimum) | !is_absent(self.maximum)
-    }
-
-    // Whether neither a value nor a range is present.
-    #[tactic(auto, unfolding(crate::specs::steps::Values::none_present))]
-    pub fn none_present(self) -> bool
-        ensures { result ≡ none_present self }
-    {
-        is_absent(self.value) & !self.has_range()
-    }
-
-    // Words outside their values, or half a pair.
-    #[tactic(auto, unfolding(crate::specs::steps::Values::words_broken))]
-    pub fn words_break(self, sort: Sort) -> bool
-        ensures { result ≡ words_broken sort self }
-    {
-        bad_words(sort, self.value, self.minimum, self.maximum)
-    }
-
-    // The value, 0 where it is absent, leaves the range.
-    #[tactic(auto, unfolding(crate::specs::steps::Values::own_leaves))]
-    pub(crate) fn own_leaves(self, sort: Sort) -> bool
-        ensures { result ≡ own_leaves sort self }
-    {
-        leaves(sort, or_else(self.value, 0), self.minimum, self.maximum)
-    }
-
-    // As a set's value it leaves its effective range, or where it is the set's own, the object's range.
-    #[tactic(auto, unfolding(crate::specs::steps::Values::value_leaves))]
-    fn leaves(self, sort: Sort, own: bool, object: Values) -> bool
-        ensures { result ≡ value_leaves sort own self object }
-    {
-        let range = if own { self } else { object };
-        leaves(
-            sort,
-            or_else(self.value, or_else(object.value, 0)),
-            range.minimum,
-            range.maximum,
-        ) | !is_absent(self.value) & leaves(sort, self.value, object.minimum, object.maximum)
-    }
+// A set's value leaves its effective range, or where it is the set's own, the object's range.
+#[tactic(auto, unfolding(crate::specs::steps::Values::value_leaves))]
+fn value_leaves(sort: Sort, own: bool, set: Values, object: Values) -> bool
+    ensures { result ≡ value_leaves sort own set object }
+{
+    let value = or_else(set.value, or_else(object.value, 0));
+    let ranged = if own { set } else { object };
+    leaves(sort, Values { value, ..ranged })
+        | !is_absent(set.value)
+            & leaves(
+                sort,
+                Values {
+                    value: set.value,
+                    ..object
+                },
+            )
 }
 
 // A set with own 0 that has no more than a gain: the object's offset is its own.
-#[tactic(auto, unfolding(crate::specs::steps::Values::gain_broken))]
+#[tactic(auto, unfolding(crate::specs::steps::Values::gain_broken, crate::specs::steps::Values::words_broken))]
 fn gain_breaks(gains: Values, v: ObjectValues) -> bool
     ensures { result ≡ gain_broken gains v }
 {
-    gains.words_break(Sort::Gains)
-        | gains.leaves(Sort::Gains, false, v.gains)
-        | v.offsets.own_leaves(Sort::Offsets)
+    bad_words(Sort::Gains, gains)
+        | value_leaves(Sort::Gains, false, gains, v.gains)
+        | own_leaves(Sort::Offsets, v.offsets)
 }
 
 // A set with any words.
-#[tactic(auto, unfolding(crate::specs::steps::Values::set_words_broken))]
+#[tactic(auto, unfolding(crate::specs::steps::Values::set_words_broken, crate::specs::steps::Values::words_broken, crate::specs::steps::Values::has_range))]
 fn words_of_set_break(own: u16, gains: Values, offsets: Values, v: ObjectValues) -> bool
     ensures { result ≡ set_words_broken own gains offsets v }
 {
     (1 < own)
-        | gains.words_break(Sort::Gains)
-        | offsets.words_break(Sort::Offsets)
+        | bad_words(Sort::Gains, gains)
+        | bad_words(Sort::Offsets, offsets)
         | (own == 0) & (gains.has_range() | offsets.has_range())
         | (v.interact == 0) & (own == 1)
         | (!is_absent(offsets.value) | offsets.has_range()) & !v.front
-        | gains.leaves(Sort::Gains, own == 1, v.gains)
-        | offsets.leaves(Sort::Offsets, own == 1, v.offsets)
+        | value_leaves(Sort::Gains, own == 1, gains, v.gains)
+        | value_leaves(Sort::Offsets, own == 1, offsets, v.offsets)
 }
 
 // Whether the set whose words begin at an index may break rule 6, 16, 17 or 18 as a set of an object with these values. Most sets have
@@ -112,9 +102,9 @@ fn set_breaks(s: &[u8], at: u32, v: ObjectValues) -> bool
         return true;
     }
     let own = word_at(s, at, SET_OWN);
-    let gains = Values::at(s, at, SET_GAIN, SET_GAIN_MINIMUM, SET_GAIN_MAXIMUM);
-    let offsets = Values::at(s, at, SET_OFFSET, SET_OFFSET_MINIMUM, SET_OFFSET_MAXIMUM);
-    if (own == 0) & !gains.has_range() & offsets.none_present() {
+    let gains = values_at(s, at, Positions::in_set(Sort::Gains));
+    let offsets = values_at(s, at, Positions::in_set(Sort::Offsets));
+    if (own == 0) & !gains.has_range() & none_present(offsets) {
         return gain_breaks(gains, v);
     }
     words_of_set_break(own, gains, offsets, v)

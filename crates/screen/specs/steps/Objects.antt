@@ -12,7 +12,7 @@ use Rattle.profile.specs.Relations.{has_pack, pack_of, has_front_pack}
 use Rattle.profile.specs.Rules.{lacks, list_lacks, bad_object, bad_complement, differs, rule4, rule5, rule8, rule11, rule13, rule14, rule15, rule16, rule17, rule18, rule19, rule20}
 use Rattle.lists.specs.steps.Entries.{bad_child_at, out_of_order_at}
 use Rattle.screen.specs.steps.Values.{values_at, has_range, none_present, own_leaves, words_broken, set_broken}
-use Rattle.screen.specs.declared.Values.{Values}
+use Rattle.relations.specs.declared.sets.Values.{Values}
 use Rattle.screen.specs.declared.ObjectValues.{ObjectValues}
 
 -- lists and a span that break rule 4 or 8

@@ -6,7 +6,7 @@ use Rattle.values.specs.declared.Sort.{Sort}
 use Rattle.values.specs.declared.Sort.TheVariants.{Gains, Offsets}
 use Rattle.values.specs.Values.{is_absent, or_else}
 use Rattle.profile.specs.Rules.{bad_words, leaves}
-use Rattle.screen.specs.declared.Values.{Values}
+use Rattle.relations.specs.declared.sets.Values.{Values}
 use Rattle.screen.specs.declared.ObjectValues.{ObjectValues}
 
 -- three words

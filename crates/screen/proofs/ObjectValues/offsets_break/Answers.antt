@@ -1,6 +1,7 @@
 -- No offset, or each test its callee's. Assumes nothing.
 use Rattle.std.proofs.Common.{sym, ◌∙◌}
 use Rattle.screen.specs.steps.Objects.{offsets_broken}
+use Rattle.screen.specs.steps.Values.{has_range}
 use Rattle.screen.proofs.ObjectLaws.{no_offset}
 use Rattle.screen.proofs.ObjectValues.offsets_break.Goals as goal
 
@@ -8,5 +9,5 @@ pub returns-then-none_present : goal.returns-then-none_present
 returns-then-none_present c = sym (no_offset c.args.self (sym c.none_present.ensures ∙ c.if-none_present.true))
 
 pub returns : goal.returns
-unfolding offsets_broken
+unfolding offsets_broken has_range
 returns c = simp (c.sort_breaks.ensures, c.has_range.ensures, c.is_absent.ensures)
