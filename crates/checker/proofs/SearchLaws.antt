@@ -20,9 +20,8 @@ use Rattle.profile.proofs.VerdictLaws.{position_number}
 use Rattle.grouping.specs.steps.Groups.{GroupsApart}
 use Rattle.checker.proofs.GroupLaws.{groups_apart}
 use Rattle.tables.specs.declared.Naming.TheVariants.{ContentObjects, Children, SetSpans}
-use Rattle.tables.specs.declared.Mark.TheVariants.{Count}
 use Rattle.tables.specs.declared.Naming.{Naming}
-use Rattle.tables.specs.steps.Marks.{Standing, marked, repeat, named_by, first_by}
+use Rattle.tables.specs.steps.Marks.{Standing, counted_once, repeat, named_by, first_by}
 use Rattle.tables.specs.steps.Right as tables
 use Rattle.tables.specs.steps.Right.{counted}
 use Rattle.tables.proofs.TableLaws.{namings_added, span_namings}
@@ -130,21 +129,21 @@ module _ (s : Sheet) (langs : List ℕ) where
 
 module _ (s : Sheet) where
   module _ (t₀ : List ℕ) (noughts : Standing (λ x. 0) t₀) where
-    pub counts_made : (kind : Naming) (t : List ℕ) → length t ≡ length t₀ → Standing (λ x. repeat (marked Count) (named_by s kind x) (get_or t₀ x 0)) t
+    pub counts_made : (kind : Naming) (t : List ℕ) → length t ≡ length t₀ → Standing (λ x. repeat counted_once (named_by s kind x) (get_or t₀ x 0)) t
         → Standing (λ x. counted (named_by s kind x)) t
     unfolding counted
-    counts_made kind t e h x l = h x l ∙ ap (repeat (marked Count) (named_by s kind x)) (noughts x (rw e at l))
+    counts_made kind t e h x l = h x l ∙ ap (repeat counted_once (named_by s kind x)) (noughts x (rw e at l))
 
-    pub spans_made : (t : List ℕ) → length t ≡ length t₀ → Standing (λ x. repeat (marked Count) (named_by s SetSpans x) (get_or t₀ x 0)) t → tables.Spanned s t
+    pub spans_made : (t : List ℕ) → length t ≡ length t₀ → Standing (λ x. repeat counted_once (named_by s SetSpans x) (get_or t₀ x 0)) t → tables.Spanned s t
     spans_made t e h x l = counts_made SetSpans t e h x l ∙ ap counted (span_namings s x)
 
     pub named_made : (t u : List ℕ) → length t ≡ length t₀ → length u ≡ length t
-        → Standing (λ x. repeat (marked Count) (named_by s ContentObjects x) (get_or t₀ x 0)) t
-        → Standing (λ x. repeat (marked Count) (named_by s Children x) (get_or t x 0)) u → tables.Named s u
+        → Standing (λ x. repeat counted_once (named_by s ContentObjects x) (get_or t₀ x 0)) t
+        → Standing (λ x. repeat counted_once (named_by s Children x) (get_or t x 0)) u → tables.Named s u
     named_made t u d e h k x l =
         let m : x < length t = rw e at l in
         k x l
-        ∙ ap (repeat (marked Count) (named_by s Children x)) (h x m ∙ ap (repeat (marked Count) (named_by s ContentObjects x)) (noughts x (rw d at m)))
+        ∙ ap (repeat counted_once (named_by s Children x)) (h x m ∙ ap (repeat counted_once (named_by s ContentObjects x)) (noughts x (rw d at m)))
         ∙ namings_added s x
 
     pub firsts_made : (kind : Naming) (t : List ℕ) → length t ≡ length t₀ → Standing (λ x. first_by s kind x (get_or t₀ x 0)) t

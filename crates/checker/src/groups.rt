@@ -7,9 +7,10 @@ ghost use Rattle.sheet.specs.Fields.{complement_list, objects, programmes};
 ghost use Rattle.sheet.specs.Layout.{count, number};
 ghost use Rattle.sheet.specs.Words.{sheet_of};
 
-use grouping::Wanted;
 use grouping::programmes::kept_from;
+use inclusion::SetTables;
 use inclusion::alike::fill_alike;
+use profile::counting::all;
 use sheet::fields::{COMPLEMENT_LIST, OBJECTS, PROGRAMMES, VALUE_SETS};
 use sheet::layout::{count, number};
 use tables::Naming;
@@ -20,15 +21,10 @@ use tables::reads::all_once;
 fn groups_of_two(s: &[u8]) -> bool
     ensures { result ≡ true → (l : ℕ) → l < count (sheet_of s.now) objects → number (sheet_of s.now) objects l complement_list ≤ 1 }
 {
-    let n = count(s, OBJECTS);
-    let mut l: u16 = 0;
-    while l < n {
-        if 1 < number(s, OBJECTS, l, COMPLEMENT_LIST) {
-            return false;
-        }
-        l += 1;
-    }
-    true
+    all(
+        count(s, OBJECTS),
+        |l| number(s, OBJECTS, l, COMPLEMENT_LIST) <= 1,
+    )
 }
 
 // Whether each value set can be seen to be in one span. No sheet has more than 4,678.
@@ -58,17 +54,10 @@ pub fn grouped_programmes(s: &[u8], from: u16) -> u16
     let mut first: [u16; 2048] = [0; 2048];
     let mut second: [u16; 2048] = [0; 2048];
     let mut included: [u16; 2048] = [0; 2048];
-    let none: [u16; 1] = [0];
-    let t = &none[..0];
-    let wanted = Wanted {
-        from: from,
-        both: false,
-    };
     kept_from(
         s,
-        wanted,
-        t,
-        t,
+        from,
+        None,
         &mut first[..m],
         &mut second[..m],
         &mut included[..m],
@@ -95,15 +84,14 @@ pub fn kept_programmes(s: &[u8]) -> u16
     fill_alike(s, &owners, &leaders, &mut alike);
     let mut second: [u16; 2048] = [0; 2048];
     let mut included: [u16; 2048] = [0; 2048];
-    let wanted = Wanted {
-        from: 0,
-        both: true,
+    let sets = SetTables {
+        owners: &owners,
+        alike: &alike,
     };
     kept_from(
         s,
-        wanted,
-        &owners,
-        &alike,
+        0,
+        Some(&sets),
         &mut leaders[..m],
         &mut second[..m],
         &mut included[..m],

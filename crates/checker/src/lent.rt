@@ -1,15 +1,17 @@
 // Which tables a rule is lent, and filling them.
 ghost use Rattle.std.specs.Prelude.{length, ◌≡◌};
 ghost use Rattle.checker.specs.steps.Tables.{Right, first_table, second_table};
+ghost use Rattle.runs.specs.steps.Runs.{ordinal_at};
 ghost use Rattle.sheet.specs.Words.{sheet_of};
 ghost use Rattle.tables.specs.steps.Marks.{Standing};
 
 use crate::Table;
 use languages::list::Languages;
+use relations::objects::lacks;
 use rules::lists::{first_target, second_target};
-use runs::fill::{fill_next, fill_repeats};
-use runs::{ReferenceKey, ReferenceTest};
-use sheet::fields::{OBJECTS, PROGRAMMES};
+use runs::fill::{fill_next, fill_repeats, stray_after};
+use sheet::fields::{OBJECTS, PROGRAMMES, TRACK_ORDINAL, TRACKS};
+use sheet::layout::{field, reference};
 use tables::Naming;
 use tables::coverage::count_covered;
 use tables::marks::{count_namings, first_namers};
@@ -59,6 +61,13 @@ pub fn second_table(rule: u8, section: u8) -> Table
     }
 }
 
+// The ordinal of the track that a reference names.
+fn ordinal_at(s: &[u8], y: u16) -> u16
+    ensures { result ≡ ordinal_at (sheet_of s.now) y }
+{
+    field(s, TRACKS, reference(s, y as u32), TRACK_ORDINAL)
+}
+
 // Fills a table of noughts.
 pub fn fill_table(s: &[u8], langs: &Languages, which: Table, table: &mut [u16])
     ensures { (length table.new ≡ length table.old) × (Standing (λ x. 0) table.old → Right (sheet_of s.now) langs.now which table.new) }
@@ -75,10 +84,12 @@ pub fn fill_table(s: &[u8], langs: &Languages, which: Table, table: &mut [u16])
         Table::Complements => count_covered(s, Naming::Complements, table),
         Table::Owners => first_namers(s, Naming::SetSpans, table),
         Table::Leaders => first_namers(s, Naming::Complements, table),
-        Table::Lacking(target) => fill_next(s, langs, ReferenceTest::Lacks(target), table),
-        Table::Languages => fill_next(s, langs, ReferenceTest::NoLanguage, table),
-        Table::Repeats => fill_repeats(s, ReferenceKey::Itself, table),
-        Table::Strays => fill_next(s, langs, ReferenceTest::Stray, table),
-        Table::Ordinals => fill_repeats(s, ReferenceKey::Ordinal, table),
+        Table::Lacking(target) => {
+            fill_next(s, |y| lacks(s, target, reference(s, y as u32)), table);
+        }
+        Table::Languages => fill_next(s, |y| !langs.good(reference(s, y as u32)), table),
+        Table::Repeats => fill_repeats(s, |y| reference(s, y as u32), table),
+        Table::Strays => fill_next(s, |y| stray_after(s, y), table),
+        Table::Ordinals => fill_repeats(s, |y| ordinal_at(s, y), table),
     }
 }

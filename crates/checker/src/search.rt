@@ -19,8 +19,8 @@ use profile::places::place_at;
 use profile::{Place, Verdict};
 use screen::screening::{passes, small_passes};
 use sheet::fields::{OBJECTS, PROGRAMMES};
-use tables::CountedEntries;
-use tables::entry_counts::fewer_entries;
+use sheet::layout::count;
+use tables::entry_counts::{fewer_entries, list_entries};
 
 // The lowest of the first n records of a section that breaks a rule, or n, by the tables that the rule is lent, where those before `from`
 // keep it.
@@ -82,7 +82,10 @@ const FEW_ENTRIES: u32 = 8192;
 
 // Whether they have. The verdict is the same either way.
 fn crowded(s: &[u8], section: u8) -> bool {
-    fewer_entries(s, CountedEntries::Lists(section), FEW_ENTRIES + 1) == 0
+    let fewer = fewer_entries(count(s, section), FEW_ENTRIES + 1, |k| {
+        list_entries(s, section, k)
+    });
+    fewer == 0
 }
 
 // With tables over the references, where the section's lists have many entries. No sheet has more references.

@@ -19,15 +19,6 @@ returns-then-groups_of_two c = λ kept apart p l. pairs_kept (sheet_of c.args.s.
 pub returns-then-m-gt2048 : goal.returns-then-m-gt2048
 returns-then-m-gt2048 c = λ kept apart p l. (kept p l).1
 
-pub slice_bounds-kept_from-end : goal.slice_bounds-kept_from-end
-slice_bounds-kept_from-end c = sym (length-take-le c.count-m.result (replicate 2048 0) (omega (arith, c.if-m-gt2048.false)))
-
-pub slice_bounds-kept_from-end-2 : goal.slice_bounds-kept_from-end-2
-slice_bounds-kept_from-end-2 c = sym (length-take-le c.count-m.result (replicate 2048 0) (omega (arith, c.if-m-gt2048.false)))
-
-pub slice_bounds-kept_from-end-3 : goal.slice_bounds-kept_from-end-3
-slice_bounds-kept_from-end-3 c = sym (length-take-le c.count-m.result (replicate 2048 0) (omega (arith, c.if-m-gt2048.false)))
-
 pub returns : goal.returns
 returns c =
     λ kept apart p l.

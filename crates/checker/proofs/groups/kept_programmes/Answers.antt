@@ -1,6 +1,6 @@
 -- The tables are right, and the pass tells the rest. Assumes nothing.
 use Prim.Native.Nat.{ℕ}
-use mathlib.Core.Path.{sym, ◌∙◌}
+use mathlib.Core.Path.{◌∙◌}
 use native.Mathlib.Omega.{arith}
 use lib.ListN.{replicate}
 use lib.Seq.{length-take-le}
@@ -15,18 +15,6 @@ returns-then-m-gt2048 c = λ apart p l. absurd (omega (arith, l))
 
 pub returns-then-not-sets_once : goal.returns-then-not-sets_once
 returns-then-not-sets_once c = λ apart p l. absurd (omega (arith, l))
-
-pub slice_bounds-kept_from-end-3 : goal.slice_bounds-kept_from-end-3
-slice_bounds-kept_from-end-3 c =
-    sym (length-take-le c.count-m.result c.first_namers-2.new.table (omega (arith, c.if-m-gt2048.false, c.first_namers-2.ensures.0)))
-
-pub slice_bounds-kept_from-end-4 : goal.slice_bounds-kept_from-end-4
-slice_bounds-kept_from-end-4 c =
-    sym (length-take-le c.count-m.result (replicate 2048 0) (omega (arith, c.if-m-gt2048.false)))
-
-pub slice_bounds-kept_from-end-5 : goal.slice_bounds-kept_from-end-5
-slice_bounds-kept_from-end-5 c =
-    sym (length-take-le c.count-m.result (replicate 2048 0) (omega (arith, c.if-m-gt2048.false)))
 
 pub returns : goal.returns
 returns c =

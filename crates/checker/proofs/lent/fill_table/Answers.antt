@@ -1,5 +1,9 @@
 -- Each table by its pass. Assumes nothing.
-use mathlib.Core.Path.{refl, ◌∙◌}
+use Rattle.std.proofs.Common.{rules, ◌+◌, not, refl, ◌∙◌}
+use Rattle.profile.specs.Languages.{good_language}
+use Rattle.profile.specs.Rules.{lacks}
+use Rattle.runs.specs.steps.Runs.{ordinal_at, stray}
+use Rattle.sheet.specs.Layout.{reference}
 use Rattle.sheet.specs.Words.{sheet_of}
 use Rattle.tables.specs.declared.Naming.TheVariants.{ContentObjects, Complements, ContentLists, SetSpans}
 use Rattle.checker.proofs.SearchLaws.{counts_made, spans_made, named_made, firsts_made}
@@ -37,16 +41,24 @@ returns-in-Leaders c =
     (c.first_namers-in-Leaders.ensures.0, λ noughts. rw c.in-Leaders.is (firsts_made (sheet_of c.args.s.now) c.args.table.now noughts Complements c.first_namers-in-Leaders.new.table c.first_namers-in-Leaders.ensures.0 c.first_namers-in-Leaders.ensures.1))
 
 pub returns-in-Lacking : goal.returns-in-Lacking
-returns-in-Lacking c = (c.fill_next.ensures.0, λ noughts. rw c.in-Lacking.is c.fill_next.ensures.1)
+returns-in-Lacking c =
+    let s = sheet_of c.args.s.now in let filled = c.fill_next.ensures (λ y. lacks s c.in-Lacking.target (reference s y)) (λ i r l q. search rules) in
+    (filled.0, λ noughts. rw c.in-Lacking.is filled.1)
 
 pub returns-in-Languages : goal.returns-in-Languages
-returns-in-Languages c = (c.fill_next-in-Languages.ensures.0, λ noughts. rw c.in-Languages.is c.fill_next-in-Languages.ensures.1)
+returns-in-Languages c =
+    let s = sheet_of c.args.s.now in let filled = c.fill_next-in-Languages.ensures (λ y. not (good_language c.args.langs.now (reference s y))) (λ i r l q. search rules) in
+    (filled.0, λ noughts. rw c.in-Languages.is filled.1)
 
 pub returns-in-Repeats : goal.returns-in-Repeats
-returns-in-Repeats c = (c.fill_repeats.ensures.0, λ noughts. rw c.in-Repeats.is c.fill_repeats.ensures.1)
+returns-in-Repeats c =
+    let filled = c.fill_repeats.ensures (reference (sheet_of c.args.s.now)) (λ i r l q. search rules) in (filled.0, λ noughts. rw c.in-Repeats.is filled.1)
 
 pub returns-in-Strays : goal.returns-in-Strays
-returns-in-Strays c = (c.fill_next-in-Strays.ensures.0, λ noughts. rw c.in-Strays.is c.fill_next-in-Strays.ensures.1)
+returns-in-Strays c =
+    let s = sheet_of c.args.s.now in let filled = c.fill_next-in-Strays.ensures (λ y. stray s (reference s y) (reference s (y + 1))) (λ i r l q. search rules) in
+    (filled.0, λ noughts. rw c.in-Strays.is filled.1)
 
 pub returns-in-Ordinals : goal.returns-in-Ordinals
-returns-in-Ordinals c = (c.fill_repeats-in-Ordinals.ensures.0, λ noughts. rw c.in-Ordinals.is c.fill_repeats-in-Ordinals.ensures.1)
+returns-in-Ordinals c =
+    let filled = c.fill_repeats-in-Ordinals.ensures (ordinal_at (sheet_of c.args.s.now)) (λ i r l q. search rules) in (filled.0, λ noughts. rw c.in-Ordinals.is filled.1)
