@@ -1,6 +1,7 @@
 // Value sets: whose they are, and the effective values and ranges.
-ghost use Rattle.std.specs.Prelude.{not, ◌||◌, ◌≡◌};
+ghost use Rattle.std.specs.Prelude.{not, ◌&&◌, ◌||◌, ◌≡◌};
 ghost use Rattle.profile.specs.Relations.{effective_maximum, effective_minimum, effective_value, has_set, object_maximum, object_minimum, object_value, own_value, set_maximum, set_minimum, set_value};
+ghost use Rattle.profile.specs.Rules.{bad_words, leaves};
 ghost use Rattle.sheet.specs.Fields.{objects, value_sets};
 ghost use Rattle.sheet.specs.Layout.{field};
 ghost use Rattle.sheet.specs.Words.{sheet_of};
@@ -13,7 +14,7 @@ use sheet::fields::{
 };
 use sheet::layout::{field, number};
 use values::Sort;
-use values::values::{is_absent, or_else};
+use values::values::{in_range, is_absent, is_maximum, is_minimum, is_value, or_else};
 
 // Where a record has the value of a sort, and the ends of its range.
 #[derive(Clone, Copy)]
@@ -79,6 +80,34 @@ impl Values {
         ensures { result ≡ (not (is_absent self.minimum) || not (is_absent self.maximum)) }
     {
         !is_absent(self.minimum) | !is_absent(self.maximum)
+    }
+
+    // Whether neither the value nor a range is present.
+    pub fn none_present(self) -> bool
+        ensures { result ≡ (is_absent self.value && not (not (is_absent self.minimum) || not (is_absent self.maximum))) }
+    {
+        is_absent(self.value) & !self.has_range()
+    }
+
+    // Words outside their values, or half a pair.
+    #[tactic(auto, unfolding(profile::specs::Rules::bad_words))]
+    pub fn bad_words(self, sort: Sort) -> bool
+        ensures { result ≡ bad_words sort self.value self.minimum self.maximum }
+    {
+        let low = is_absent(self.minimum);
+        let high = is_absent(self.maximum);
+        !(is_absent(self.value) | is_value(sort, self.value))
+            | !(low | is_minimum(sort, self.minimum))
+            | !(high | is_maximum(sort, self.maximum))
+            | (low & !high | !low & high)
+    }
+
+    // The value leaves the range, which has no bounds where it is absent.
+    #[tactic(auto, unfolding(profile::specs::Rules::leaves))]
+    pub fn leaves(self, sort: Sort) -> bool
+        ensures { result ≡ leaves sort self.value self.minimum self.maximum }
+    {
+        !is_absent(self.minimum) & !in_range(sort, self.minimum, self.value, self.maximum)
     }
 }
 

@@ -1,6 +1,6 @@
 // Rules 17 and 18: offsets and their packs, values and their ranges.
 ghost use Rattle.std.specs.Prelude.{◌≡◌};
-ghost use Rattle.profile.specs.Rules.{leaves, object_leaves, rule17, rule18, set_leaves};
+ghost use Rattle.profile.specs.Rules.{object_leaves, rule17, rule18, set_leaves};
 ghost use Rattle.sheet.specs.Words.{sheet_of};
 ghost use Rattle.tables.specs.steps.Right.{Owners};
 
@@ -11,7 +11,7 @@ use sheet::fields::{OBJECT_OFFSET, OBJECTS, SET_OFFSET, VALUE_SETS};
 use sheet::layout::field;
 use tables::reads::owner_by;
 use values::Sort;
-use values::values::{in_range, is_absent};
+use values::values::is_absent;
 
 pub fn rule17(s: &[u8], owners: &[u16], section: u8, k: u16) -> bool
     ensures { Owners (sheet_of s.now) owners.now → result ≡ rule17 (sheet_of s.now) section k }
@@ -29,20 +29,13 @@ pub fn rule17(s: &[u8], owners: &[u16], section: u8, k: u16) -> bool
     }
 }
 
-// A value leaves a range, which has no bounds where it is absent.
-pub fn leaves(sort: Sort, v: Values) -> bool
-    ensures { result ≡ leaves sort v.value v.minimum v.maximum }
-{
-    !is_absent(v.minimum) & !in_range(sort, v.minimum, v.value, v.maximum)
-}
-
 // An object's own value leaves its range.
 fn object_leaves(s: &[u8], o: u16, sort: Sort) -> bool
     ensures { result ≡ object_leaves (sheet_of s.now) o sort }
 {
     let value = own_value(s, o, sort);
     let object = object_values(s, o, sort);
-    leaves(sort, Values { value, ..object })
+    Values { value, ..object }.leaves(sort)
 }
 
 // Set v of object o: its effective value leaves the effective range, or its own one the object's range.
@@ -51,15 +44,11 @@ fn set_leaves(s: &[u8], o: u16, v: u16, sort: Sort) -> bool
 {
     let own = set_values(s, v, sort).value;
     let object = object_values(s, o, sort);
-    leaves(sort, effective_values(s, o, v, sort))
-        | !is_absent(own)
-            & leaves(
-                sort,
-                Values {
-                    value: own,
-                    ..object
-                },
-            )
+    let ranged = Values {
+        value: own,
+        ..object
+    };
+    effective_values(s, o, v, sort).leaves(sort) | !is_absent(own) & ranged.leaves(sort)
 }
 
 pub fn rule18(s: &[u8], owners: &[u16], section: u8, k: u16) -> bool

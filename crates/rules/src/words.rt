@@ -1,12 +1,12 @@
 // Rule 6: words and labels outside their values.
 ghost use Rattle.std.specs.Prelude.{◌≡◌};
-ghost use Rattle.profile.specs.Rules.{bad_label, bad_object, bad_object_words, bad_pack, bad_set, bad_set_words, bad_speech, bad_words, object_range, rule6, set_range};
+ghost use Rattle.profile.specs.Rules.{bad_label, bad_object, bad_object_words, bad_pack, bad_set, bad_set_words, bad_speech, object_range, rule6, set_range};
 ghost use Rattle.runs.specs.steps.Runs.{LanguagesRight};
 ghost use Rattle.sheet.specs.Words.{sheet_of};
 
 use languages::list::Languages;
 use relations::labels::bad_label;
-use relations::sets::{Values, object_values, set_values};
+use relations::sets::{object_values, set_values};
 use runs::reads::look_up;
 use sheet::fields::{
     CONTENT_LABELS, CONTENT_LANGUAGE, CONTENT_LOUDNESS, CONTENTS, INTERACT, OBJECTS, PACK_FRONT,
@@ -16,7 +16,6 @@ use sheet::fields::{
 use sheet::layout::field;
 use values::Sort;
 use values::language::loudness;
-use values::values::{is_absent, is_maximum, is_minimum, is_value};
 
 // A label outside, by the table where it has the list.
 fn bad_label_by(s: &[u8], langs: &Languages, next: &[u16], section: u8, k: u16, at: u8) -> bool
@@ -46,28 +45,16 @@ fn bad_speech(
         | !loudness(field(s, section, k, loud))
 }
 
-// A value and its range, of one sort: words outside, or half a pair; each word may be absent.
-pub fn bad_words(sort: Sort, v: Values) -> bool
-    ensures { result ≡ bad_words sort v.value v.minimum v.maximum }
-{
-    let low = is_absent(v.minimum);
-    let high = is_absent(v.maximum);
-    !(is_absent(v.value) | is_value(sort, v.value))
-        | !(low | is_minimum(sort, v.minimum))
-        | !(high | is_maximum(sort, v.maximum))
-        | (low & !high | !low & high)
-}
-
 fn bad_object_words(s: &[u8], o: u16, sort: Sort) -> bool
     ensures { result ≡ bad_object_words (sheet_of s.now) o sort }
 {
-    bad_words(sort, object_values(s, o, sort))
+    object_values(s, o, sort).bad_words(sort)
 }
 
 fn bad_set_words(s: &[u8], v: u16, sort: Sort) -> bool
     ensures { result ≡ bad_set_words (sheet_of s.now) v sort }
 {
-    bad_words(sort, set_values(s, v, sort))
+    set_values(s, v, sort).bad_words(sort)
 }
 
 // A range word of that sort is present in an object.

@@ -12,12 +12,11 @@ ghost use Rattle.tables.specs.steps.Right.{Named, ObjectsTabled, Tops};
 use crate::ObjectValues;
 use crate::complements::complements_break;
 use crate::object_words::ObjectWords;
-use crate::sets::{any_set_breaks, none_present, own_leaves, values_at};
+use crate::sets::{any_set_breaks, own_leaves, values_at};
 use lists::entries::Span;
 use profile::limits::{CHILDREN_LIMIT, COMPLEMENTS_LIMIT, SPAN_LIMIT, exceeds};
 use relations::sets::{Positions, Values};
 use rules::objects::rule15;
-use rules::words::bad_words;
 use sheet::fields::{
     CHILD_LIST, COMPLEMENT_LIST, INTERACT, NO_PACK, OBJECT_PACK, OBJECTS, PACK_CHANNELS,
     PACK_FRONT, PACK_KIND, PACKS, REFERENCES, SET_SPAN, TRACK_LIST, VALUE_SETS,
@@ -57,11 +56,11 @@ fn is_front(s: &[u8], pack: u16) -> bool
 
 impl ObjectValues {
     // The values of a sort: rules 6 and 18, and 16 but for the sets.
-    #[tactic(auto, unfolding(crate::specs::steps::Objects::sort_broken, crate::specs::steps::Values::words_broken, crate::specs::steps::Values::has_range))]
+    #[tactic(auto, unfolding(crate::specs::steps::Objects::sort_broken))]
     fn sort_breaks(self, sort: Sort, values: Values) -> bool
         ensures { result ≡ sort_broken sort self values }
     {
-        bad_words(sort, values)
+        values.bad_words(sort)
             | (self.interact == 0) & values.has_range()
             | own_leaves(sort, values)
     }
@@ -71,7 +70,7 @@ impl ObjectValues {
         ensures { result ≡ offsets_broken self }
     {
         let offsets = self.offsets;
-        if none_present(offsets) {
+        if offsets.none_present() {
             return false;
         }
         self.sort_breaks(Sort::Offsets, offsets)
@@ -107,7 +106,6 @@ impl<'a> ObjectWords<'a> {
     }
 
     // The gain with its range.
-    #[tactic(auto, unfolding(profile::specs::Relations::object_value, profile::specs::Relations::object_minimum, profile::specs::Relations::object_maximum))]
     fn gains(&self) -> Values
         ensures { result ≡ object_gains (sheet_of self.now.s.now) (start (sheet_of self.now.s.now) objects self.now.o) }
     {
@@ -115,7 +113,6 @@ impl<'a> ObjectWords<'a> {
     }
 
     // The offset with its range.
-    #[tactic(auto, unfolding(profile::specs::Relations::object_value, profile::specs::Relations::object_minimum, profile::specs::Relations::object_maximum))]
     fn offsets(&self) -> Values
         ensures { result ≡ object_offsets (sheet_of self.now.s.now) (start (sheet_of self.now.s.now) objects self.now.o) }
     {
@@ -184,8 +181,8 @@ impl<'a> ObjectWords<'a> {
         (self.number(COMPLEMENT_LIST) == 0)
             & (self.number(SET_SPAN) == 0)
             & (self.word(INTERACT) == 0)
-            & none_present(self.gains())
-            & none_present(self.offsets())
+            & self.gains().none_present()
+            & self.offsets().none_present()
     }
 
     // Whether an object that is not plain may break rule 6, one of 15 to 20, or rule 5 by a complement; or a set of its one.

@@ -1,7 +1,7 @@
 // The value sets of an object.
 ghost use Rattle.std.specs.Prelude.{◌+◌, false, ◌≡◌};
 ghost use Rattle.profile.specs.Counting.{any};
-ghost use Rattle.screen.specs.steps.Values.{gain_broken, none_present, own_leaves, set_broken, set_words_broken, value_leaves, values_at};
+ghost use Rattle.screen.specs.steps.Values.{gain_broken, has_range, none_present, own_leaves, set_broken, set_words_broken, value_leaves, values_at, words_broken};
 ghost use Rattle.sheet.specs.Fields.{value_sets};
 ghost use Rattle.sheet.specs.Layout.{start};
 ghost use Rattle.sheet.specs.Words.{sheet_of};
@@ -10,30 +10,20 @@ use crate::ObjectValues;
 use lists::entries::Span;
 use lists::words::{ends_before, record_after, word_at};
 use relations::sets::{Positions, Values};
-use rules::ranges::leaves;
-use rules::words::bad_words;
 use sheet::fields::{SET_OWN, VALUE_SETS};
 use values::Sort;
 use values::values::{is_absent, or_else};
 
-// A value with its range, at these positions of the record whose words begin at an index.
+// A value with its range, at the positions of a record whose words begin at an index.
 #[tactic(auto, unfolding(crate::specs::steps::Values::values_at))]
-pub fn values_at(s: &[u8], at: u32, positions: Positions) -> Values
-    ensures { result ≡ values_at (sheet_of s.now) (at + positions.value) (at + positions.minimum) (at + positions.maximum) }
+pub fn values_at(s: &[u8], at: u32, position: Positions) -> Values
+    ensures { result ≡ values_at (sheet_of s.now) (at + position.value) (at + position.minimum) (at + position.maximum) }
 {
     Values {
-        value: word_at(s, at, positions.value),
-        minimum: word_at(s, at, positions.minimum),
-        maximum: word_at(s, at, positions.maximum),
+        value: word_at(s, at, position.value),
+        minimum: word_at(s, at, position.minimum),
+        maximum: word_at(s, at, position.maximum),
     }
-}
-
-// Whether neither a value nor a range is present.
-#[tactic(auto, unfolding(crate::specs::steps::Values::none_present, crate::specs::steps::Values::has_range))]
-pub fn none_present(v: Values) -> bool
-    ensures { result ≡ none_present v }
-{
-    is_absent(v.value) & !v.has_range()
 }
 
 // The value, 0 where it is absent, leaves the range.
@@ -41,13 +31,8 @@ pub fn none_present(v: Values) -> bool
 pub(crate) fn own_leaves(sort: Sort, v: Values) -> bool
     ensures { result ≡ own_leaves sort v }
 {
-    leaves(
-        sort,
-        Values {
-            value: or_else(v.value, 0),
-            ..v
-        },
-    )
+    let value = or_else(v.value, 0);
+    Values { value, ..v }.leaves(sort)
 }
 
 // A set's value leaves its effective range, or where it is the set's own, the object's range.
@@ -55,37 +40,36 @@ pub(crate) fn own_leaves(sort: Sort, v: Values) -> bool
 fn value_leaves(sort: Sort, own: bool, set: Values, object: Values) -> bool
     ensures { result ≡ value_leaves sort own set object }
 {
-    let value = or_else(set.value, or_else(object.value, 0));
-    let ranged = if own { set } else { object };
-    leaves(sort, Values { value, ..ranged })
-        | !is_absent(set.value)
-            & leaves(
-                sort,
-                Values {
-                    value: set.value,
-                    ..object
-                },
-            )
+    let range = if own { set } else { object };
+    let effective = Values {
+        value: or_else(set.value, or_else(object.value, 0)),
+        ..range
+    };
+    let ranged = Values {
+        value: set.value,
+        ..object
+    };
+    effective.leaves(sort) | !is_absent(set.value) & ranged.leaves(sort)
 }
 
 // A set with own 0 that has no more than a gain: the object's offset is its own.
-#[tactic(auto, unfolding(crate::specs::steps::Values::gain_broken, crate::specs::steps::Values::words_broken))]
+#[tactic(auto, unfolding(crate::specs::steps::Values::gain_broken))]
 fn gain_breaks(gains: Values, v: ObjectValues) -> bool
     ensures { result ≡ gain_broken gains v }
 {
-    bad_words(Sort::Gains, gains)
+    gains.bad_words(Sort::Gains)
         | value_leaves(Sort::Gains, false, gains, v.gains)
         | own_leaves(Sort::Offsets, v.offsets)
 }
 
 // A set with any words.
-#[tactic(auto, unfolding(crate::specs::steps::Values::set_words_broken, crate::specs::steps::Values::words_broken, crate::specs::steps::Values::has_range))]
+#[tactic(auto, unfolding(crate::specs::steps::Values::set_words_broken))]
 fn words_of_set_break(own: u16, gains: Values, offsets: Values, v: ObjectValues) -> bool
     ensures { result ≡ set_words_broken own gains offsets v }
 {
     (1 < own)
-        | bad_words(Sort::Gains, gains)
-        | bad_words(Sort::Offsets, offsets)
+        | gains.bad_words(Sort::Gains)
+        | offsets.bad_words(Sort::Offsets)
         | (own == 0) & (gains.has_range() | offsets.has_range())
         | (v.interact == 0) & (own == 1)
         | (!is_absent(offsets.value) | offsets.has_range()) & !v.front
@@ -104,7 +88,7 @@ fn set_breaks(s: &[u8], at: u32, v: ObjectValues) -> bool
     let own = word_at(s, at, SET_OWN);
     let gains = values_at(s, at, Positions::in_set(Sort::Gains));
     let offsets = values_at(s, at, Positions::in_set(Sort::Offsets));
-    if (own == 0) & !gains.has_range() & none_present(offsets) {
+    if (own == 0) & !gains.has_range() & offsets.none_present() {
         return gain_breaks(gains, v);
     }
     words_of_set_break(own, gains, offsets, v)

@@ -14,11 +14,11 @@ unfoldable pub values_at : Sheet → ℕ → ℕ → ℕ → Values
 values_at s value minimum maximum = record { value = word s value; minimum = word s minimum; maximum = word s maximum }
 
 -- a minimum or a maximum is present
-unfoldable pub has_range : Values → Bool
+abbrev pub has_range : Values → Bool
 has_range v = not (is_absent v.minimum) || not (is_absent v.maximum)
 
 -- neither a value nor a range is present
-unfoldable pub none_present : Values → Bool
+abbrev pub none_present : Values → Bool
 none_present v = is_absent v.value && not (has_range v)
 
 -- a value, 0 where it is absent, leaves its range
@@ -32,7 +32,7 @@ value_leaves t own set object =
     || not (is_absent set.value) && leaves t set.value object.minimum object.maximum
 
 -- words outside their values, or half a pair
-unfoldable pub words_broken : Sort → Values → Bool
+abbrev pub words_broken : Sort → Values → Bool
 words_broken t v = bad_words t v.value v.minimum v.maximum
 
 -- where a set has its gain with its range, and its offset
