@@ -9,7 +9,6 @@ ghost use Rattle.tables.specs.steps.Right.{Owners};
 
 use crate::leaders::groups_asked;
 use inclusion::entering::enter;
-use inclusion::groups::{groups_kept, list_leaders};
 use inclusion::{Rows, SectionOffsets, SetTables};
 use sheet::fields::{
     CONTENT_LIST, CONTENTS, OBJECTS, PROGRAMMES, REFERENCES, SET_LIST, VALUE_SETS,
@@ -66,13 +65,14 @@ fn rows_from(
     ensures { KeptFrom (sheet_of s.now) from (option_copied sets.entry) leading.old partners.old included.old leading.new partners.new included.new result }
 {
     let sections = section_offsets(s);
-    let Some(g) = list_leaders(s, leading, partners) else {
+    let mut rows = Rows {
+        leading,
+        partners,
+        count: 0,
+    };
+    if rows.list(s).is_none() {
         return from;
-    };
-    let rows = Rows {
-        leading: &leading[..g as usize],
-        partners: &partners[..g as usize],
-    };
+    }
     let n = count(s, PROGRAMMES);
     for p in from..n {
         if repeats_before(s, sets, from, p) {
@@ -82,7 +82,7 @@ fn rows_from(
         if enter(s, sections, sets, p, included).is_none() {
             return p;
         }
-        if !groups_kept(s, sections, &rows, included) {
+        if !rows.groups_kept(s, sections, included) {
             return p;
         }
     }

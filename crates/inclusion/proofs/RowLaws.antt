@@ -9,9 +9,7 @@ use native.Mathlib.Nat.{le_of_suc-le-suc}
 use borrow.Author.Count.{below_more}
 use borrow.Author.Tests.{eqb-true, eq-eqb, not-false}
 use lib.Dec.{eqb, leb, ltb}
-use lib.ListN.{length, get_or, take}
-use lib.Seq.{length-take-le}
-use Rattle.std.proofs.lemmas.List.{get_or-take}
+use lib.ListN.{get_or}
 use Rattle.sheet.specs.Words.{Sheet}
 use Rattle.sheet.specs.Layout.{count, number, entry}
 use Rattle.sheet.specs.Fields.{objects, complement_list}
@@ -22,45 +20,52 @@ use Rattle.profile.proofs.CountingLaws.{any_none}
 use Rattle.profile.proofs.GroupLaws.{any_witness}
 use Rattle.profile.proofs.SumLaws.{how_many_eq}
 use Rattle.inclusion.specs.steps.Groups.{GroupKept, PairKept, group_whole, many_in, sets_in}
-use Rattle.inclusion.specs.steps.Rows.{HasRow, OnlyComplement, Placed, RowAdded, RowKept, RowsComplete, RowsListed}
+use Rattle.inclusion.specs.declared.Rows.{Rows}
+use Rattle.inclusion.specs.steps.Rows.{HasRow, OnlyComplement, RowAdded, RowKept, RowsComplete, RowsListed, SameLists}
 use Rattle.inclusion.proofs.PassLaws.{pair_group, sets_own}
 
+-- the same lists
+pub same_lists : (rows : Rows) → SameLists rows rows
+same_lists rows = record { same_leading = refl; same_partners = refl; long_leading = refl; long_partners = refl }
+
+pub same_after : (rows₀ rows rows' : Rows) → SameLists rows₀ rows → SameLists rows rows' → SameLists rows₀ rows'
+same_after rows₀ rows rows' a b =
+    record {
+      same_leading = b.same_leading ∙ a.same_leading;
+      same_partners = b.same_partners ∙ a.same_partners;
+      long_leading = b.long_leading ∙ a.long_leading;
+      long_partners = b.long_partners ∙ a.long_partners;
+    }
+
 -- a row more
-module _ (s : Sheet) (t t' u u' : List ℕ) (g l j m : ℕ) (e : m ≡ entry s objects l complement_list j) (leaders : RowAdded t t' g l) (complements : RowAdded u u' g m) where
-  stays : (x y : ℕ) → HasRow t u g x y → HasRow t' u' (g + 1) x y
-  stays x y w = (w.0, omega (arith, w.1), leaders.0 w.0 w.1 ∙ w.2, complements.0 w.0 w.1 ∙ w.3)
+module _ (s : Sheet) (rows rows' : Rows) (l j m : ℕ) (e : m ≡ entry s objects l complement_list j) (added : RowAdded rows rows' l m) where
+  stays : (x y : ℕ) → HasRow rows x y → HasRow rows' x y
+  stays x y w = (w.0, omega (arith, w.1, added.more), added.leader.0 w.0 w.1 ∙ w.2, added.partner.0 w.0 w.1 ∙ w.3)
 
   -- where there is one complement, it is the first
   partner : j < number s objects l complement_list → OnlyComplement s l m
   partner inside one = let z : j ≡ 0 = omega arith in e ∙ ap (entry s objects l complement_list) z
 
-  pub listed_row : j < number s objects l complement_list → RowsListed s t u g l j → RowsListed s t' u' (g + 1) l (j + 1)
-  listed_row inside before = (
-    λ k r i h. stays k (entry s objects k complement_list i) (before.0 k r i h),
-    below_more (λ i. HasRow t' u' (g + 1) l (entry s objects l complement_list i)) j
-        (λ i h. stays l (entry s objects l complement_list i) (before.1 i h))
-        (g, omega arith, leaders.1, complements.1 ∙ e),
-    below_more (λ i. OnlyComplement s (get_or t' i 0) (get_or u' i 0)) g
-        (λ i h. rw (leaders.0 i h, complements.0 i h) (before.2 i h))
-        (rw (leaders.1, complements.1) (partner inside)),
-  )
+  pub listed_row : j < number s objects l complement_list → RowsListed s rows l j → RowsListed s rows' l (j + 1)
+  listed_row inside before =
+      record {
+        objects_before = λ k r i h. stays k (entry s objects k complement_list i) (before.objects_before k r i h);
+        own = below_more (λ i. HasRow rows' l (entry s objects l complement_list i)) j
+            (λ i h. stays l (entry s objects l complement_list i) (before.own i h))
+            (rows.count, omega (arith, added.more), added.leader.1, added.partner.1 ∙ e);
+        each = rw added.more (below_more (λ i. OnlyComplement s (get_or rows'.leading.now i 0) (get_or rows'.partners.now i 0)) rows.count
+            (λ i h. rw (added.leader.0 i h, added.partner.0 i h) (before.each i h))
+            (rw (added.leader.1, added.partner.1) (partner inside)));
+      }
 
 -- an object more
-pub listed_next : (s : Sheet) (t u : List ℕ) (g l j : ℕ) → j ≡ number s objects l complement_list → RowsListed s t u g l j → RowsListed s t u g (l + 1) 0
-listed_next s t u g l j z before = (
-  below_more (λ k. (i : ℕ) → i < number s objects k complement_list → HasRow t u g k (entry s objects k complement_list i)) l before.0 (rw z at before.1),
-  λ i h. absurd (omega arith),
-  before.2,
-)
-
--- the lists cut to their rows
-pub rows_cut : (s : Sheet) (t u : List ℕ) (g : ℕ) → Placed t u g → RowsComplete s t u g → RowsComplete s (take g t) (take g u) (length (take g t))
-rows_cut s t u g placed rows =
-    rw (length-take-le g t placed.0) (
-      λ k l i h. let r = rows.0 k l i h in (r.0, r.1, get_or-take g t r.0 0 r.1 ∙ r.2, get_or-take g u r.0 0 r.1 ∙ r.3),
-      λ i h. absurd (omega arith),
-      λ i h. rw (get_or-take g t i 0 h, get_or-take g u i 0 h) (rows.2 i h),
-    )
+pub listed_next : (s : Sheet) (rows : Rows) (l j : ℕ) → j ≡ number s objects l complement_list → RowsListed s rows l j → RowsListed s rows (l + 1) 0
+listed_next s rows l j z before =
+    record {
+      objects_before = below_more (λ k. (i : ℕ) → i < number s objects k complement_list → HasRow rows k (entry s objects k complement_list i)) l before.objects_before (rw z at before.own);
+      own = λ i h. absurd (omega arith);
+      each = before.each;
+    }
 
 -- the group of a leader with one complement
 pub led_pair : (s : Sheet) (t : List ℕ) (l m : ℕ) → number s objects l complement_list ≡ 1 → OnlyComplement s l m → PairKept s (get_or t l 0) (get_or t m 0) → GroupKept s t l
@@ -106,17 +111,17 @@ module _ (s : Sheet) (t : List ℕ) (l : ℕ) (same : (i : ℕ) → i < number s
   )
 
 -- each group is kept where each row is
-pub rows_kept : (s : Sheet) (t list partners : List ℕ) (g : ℕ) → RowsComplete s list partners g → ((i : ℕ) → i < g → RowKept s t (get_or list i 0) (get_or partners i 0))
+pub rows_kept : (s : Sheet) (t : List ℕ) (rows : Rows) → RowsComplete s rows → ((i : ℕ) → i < rows.count → RowKept s t (get_or rows.leading.now i 0) (get_or rows.partners.now i 0))
     → (l : ℕ) → l < count s objects → GroupKept s t l
-rows_kept s t list partners g all rows l k =
+rows_kept s t rows all kept l k =
     (elim (any other n) as (λ b. any other n ≡ b → GroupKept s t l) [
       | true ↦ λ e.
           let w = any_witness other n e in
-          let r = all.0 l k w.0 w.1 in
+          let r = all.objects_before l k w.0 w.1 in
           ⊎_elim
           (λ q. absurd (true≢false (sym w.2 ∙ ap not (eq-eqb _ _ (ap (λ (x : ℕ). get_or t x 0) (sym r.2) ∙ q ∙ ap (λ (x : ℕ). get_or t x 0) r.3)))))
-          (λ kept. subst (λ (x : ℕ). GroupKept s t x) r.2 kept)
-          (rows r.0 r.1)
+          (λ so. subst (λ (x : ℕ). GroupKept s t x) r.2 so)
+          (kept r.0 r.1)
       | false ↦ λ e. same_kept s t l (λ i h. eqb-true _ _ (not-false _ (any_none other n e i h)))
     ]) refl
   where

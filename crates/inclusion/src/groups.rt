@@ -1,9 +1,9 @@
 // The groups of a sheet, by what a table has for their members: 0 for an object that the programme does not include, 1 for one that it
 // includes, and where it names a set for it, 2 more than the number of that set.
-ghost use Rattle.std.specs.Prelude.{ℕ, Some, ◌+◌, ◌-◌, ◌<◌, ◌≤◌, get_or, length, false, true, ◌⊎◌, ◌≡◌};
+ghost use Rattle.std.specs.Prelude.{ℕ, Some, IsSome, ◌+◌, ◌-◌, ◌<◌, ◌≤◌, get_or, length, false, true, ◌⊎◌, ◌≡◌};
 ghost use Rattle.inclusion.specs.steps.Groups.{GroupKept, ListKept, PairKept, many_listed};
 ghost use Rattle.inclusion.specs.steps.Entering.{Begins};
-ghost use Rattle.inclusion.specs.steps.Rows.{OnlyComplement, Placed, RowAdded, RowsAdded, RowsComplete};
+ghost use Rattle.inclusion.specs.steps.Rows.{OnlyComplement, RowAdded, RowsComplete, RowsListed, SameLists};
 ghost use Rattle.profile.specs.Rules.{sets_differ};
 ghost use Rattle.sheet.specs.Fields.{objects, value_sets};
 ghost use Rattle.sheet.specs.Layout.{count, offset};
@@ -131,61 +131,63 @@ fn row_passes(included: &[u16], asked: Option<u16>, l: u16, m: u16) -> bool
     (at(included, l) == at(included, m)) || (asked == Some(l))
 }
 
-// The groups of all leaders, by their rows. A group is asked for only where the table has two numbers for a row.
-pub fn groups_kept(s: &[u8], sections: SectionOffsets, rows: &Rows, included: &[u16]) -> bool
-    ensures { result ≡ true → Begins (sheet_of s.now) sections → RowsComplete (sheet_of s.now) rows.now.leading.now rows.now.partners.now (length rows.now.leading.now) → (l : ℕ) → l < count (sheet_of s.now) objects → GroupKept (sheet_of s.now) included.now l }
-{
-    let n = rows.leading.len();
-    if rows.partners.len() < n {
-        return false;
-    }
-    let mut asked: Option<u16> = None;
-    for i in 0..n {
-        let l = rows.leading[i];
-        let m = rows.partners[i];
-        if !row_passes(included, asked, l, m) {
-            if !row_kept(s, sections, included, l, m) {
-                return false;
-            }
-            asked = Some(l);
+impl<'a> Rows<'a> {
+    // The groups of all leaders, by their rows. A group is asked for only where the table has two numbers for a row.
+    pub fn groups_kept(&self, s: &[u8], sections: SectionOffsets, included: &[u16]) -> bool
+        ensures { result ≡ true → Begins (sheet_of s.now) sections → RowsComplete (sheet_of s.now) self.now → (l : ℕ) → l < count (sheet_of s.now) objects → GroupKept (sheet_of s.now) included.now l }
+    {
+        let n = self.count as usize;
+        if (self.leading.len() < n) || (self.partners.len() < n) {
+            return false;
         }
+        let mut asked: Option<u16> = None;
+        for i in 0..n {
+            let l = self.leading[i];
+            let m = self.partners[i];
+            if !row_passes(included, asked, l, m) {
+                if !row_kept(s, sections, included, l, m) {
+                    return false;
+                }
+                asked = Some(l);
+            }
+        }
+        true
     }
-    true
-}
 
-// Adds a row to g rows, where there is a place for it, and tells how many there are.
-fn add_row(leading: &mut [u16], partners: &mut [u16], g: u16, l: u16, m: u16) -> Option<u16>
-    ensures { (length leading.new ≡ length leading.old) × (length partners.new ≡ length partners.old) × ((more : ℕ) → result ≡ Some more → (more ≡ g + 1) × Placed leading.new partners.new more × RowAdded leading.old leading.new g l × RowAdded partners.old partners.new g m) }
-{
-    let i = g as usize;
-    if (leading.len() <= i) || (partners.len() <= i) {
-        return None;
+    // A row more, where there is a place for it.
+    fn push(&mut self, l: u16, m: u16) -> Option<()>
+        ensures { SameLists self.old self.new × (IsSome result → RowAdded self.old self.new l m) }
+    {
+        let i = self.count as usize;
+        if (self.leading.len() <= i) || (self.partners.len() <= i) {
+            return None;
+        }
+        let count = self.count.checked_add(1)?;
+        self.leading[i] = l;
+        self.partners[i] = m;
+        self.count = count;
+        Some(())
     }
-    leading[i] = l;
-    partners[i] = m;
-    g.checked_add(1)
-}
 
-// Adds a row for each complement of an object, as long as there is place.
-fn add_rows(s: &[u8], leading: &mut [u16], partners: &mut [u16], before: u16, l: u16) -> Option<u16>
-    ensures { (length leading.new ≡ length leading.old) × (length partners.new ≡ length partners.old) × ((g : ℕ) → result ≡ Some g → RowsAdded (sheet_of s.now) leading.old partners.old leading.new partners.new before l g) }
-{
-    let n = number(s, OBJECTS, l, COMPLEMENT_LIST);
-    let mut g = before;
-    for j in 0..n {
-        let m = entry(s, OBJECTS, l, COMPLEMENT_LIST, j);
-        g = add_row(leading, partners, g, l, m)?;
+    // A row for each complement of an object, as long as there is place.
+    fn push_group(&mut self, s: &[u8], l: u16) -> Option<()>
+        ensures { SameLists self.old self.new × (IsSome result → RowsListed (sheet_of s.now) self.old l 0 → RowsListed (sheet_of s.now) self.new (l + 1) 0) }
+    {
+        let n = number(s, OBJECTS, l, COMPLEMENT_LIST);
+        for j in 0..n {
+            self.push(l, entry(s, OBJECTS, l, COMPLEMENT_LIST, j))?;
+        }
+        Some(())
     }
-    Some(g)
-}
 
-// Lists each leader with each of its complements, where there is place for them, and tells how many rows there are.
-pub fn list_leaders(s: &[u8], leading: &mut [u16], partners: &mut [u16]) -> Option<u16>
-    ensures { (length leading.new ≡ length leading.old) × (length partners.new ≡ length partners.old) × ((g : ℕ) → result ≡ Some g → Placed leading.new partners.new g × RowsComplete (sheet_of s.now) leading.new partners.new g) }
-{
-    let mut g: u16 = 0;
-    for l in 0..count(s, OBJECTS) {
-        g = add_rows(s, leading, partners, g, l)?;
+    // Lists each leader with each of its complements, where there is place for them, in place of what was listed.
+    pub fn list(&mut self, s: &[u8]) -> Option<()>
+        ensures { SameLists self.old self.new × (IsSome result → RowsComplete (sheet_of s.now) self.new) }
+    {
+        self.count = 0;
+        for l in 0..count(s, OBJECTS) {
+            self.push_group(s, l)?;
+        }
+        Some(())
     }
-    Some(g)
 }

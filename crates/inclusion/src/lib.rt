@@ -23,9 +23,10 @@ pub struct SetTables<'a> {
     pub alike: &'a [u16],
 }
 
-// The groups as rows, each a leader and one of its complements.
-#[derive(Clone, Copy)]
+// The groups as rows in two lent lists: the first `count` places of each have a leader and one of its complements.
+#[derive(Drop)]
 pub struct Rows<'a> {
-    pub leading: &'a [u16],
-    pub partners: &'a [u16],
+    pub leading: &'a mut [u16],
+    pub partners: &'a mut [u16],
+    pub count: u16,
 }

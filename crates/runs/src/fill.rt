@@ -51,6 +51,7 @@ pub fn fill_repeats<F: Fn(u16) -> u16>(s: &[u8], key: F, table: &mut [u16])
     requires { F.IsAlwaysCallable key }
     ensures { (f : ℕ → ℕ) → NumbersBelow 65536 (F.post key) f → (length table.new ≡ length table.old) × KeyRight (sheet_of s.now) f table.new }
 {
+    // 65535 for none: the tables are fixed memory of words, and no `Option` stands in a word
     let mut later: [u16; 65536] = [65535; 65536];
     let mut next: u16 = 65535;
     for y in (0..count(s, REFERENCES)).rev() {

@@ -5,7 +5,7 @@ ghost use Rattle.profile.specs.Relations.{complement, includes, leader_of, lone,
 ghost use Rattle.sheet.specs.Words.{sheet_of};
 ghost use Rattle.tables.specs.steps.Right.{Complemented, Included, Leaders, NamedSets, ObjectsTabled, Owners, GroupsTabled, Tops, told};
 
-use crate::{ObjectTables, GroupTables};
+use crate::{GroupTables, ObjectTables};
 use relations::groups::leader_of;
 use relations::objects::leader;
 use relations::programmes::{includes, names_set};
@@ -49,7 +49,7 @@ impl<'a> ObjectTables<'a> {
     }
 }
 
-// What stands for a number: one more than it, or 0 for none.
+// What stands for a number: one more than it, or 0 for none. The tables are fixed memory of words, and no `Option` stands in a word.
 fn told(d: u16, c: u16) -> u16
     ensures { result ≡ told d c }
 {

@@ -1,8 +1,9 @@
 -- The groups as rows of two lists, each a leader and a complement. Assumes nothing.
-use Rattle.std.specs.Prelude.{ℕ, ◌+◌, ◌<◌, ◌≤◌, ◌≡◌, List, ◌⊎◌, length, get_or}
+use Rattle.std.specs.Prelude.{ℕ, ◌+◌, ◌<◌, ◌≡◌, List, ◌⊎◌, length, get_or}
 use Rattle.sheet.specs.Words.{Sheet}
 use Rattle.sheet.specs.Layout.{count, number, entry}
 use Rattle.sheet.specs.Fields.{objects, complement_list}
+use Rattle.inclusion.specs.declared.Rows.{Rows}
 use Rattle.inclusion.specs.steps.Groups.{GroupKept}
 
 -- a leader has m as its complement where it has one
@@ -13,29 +14,33 @@ OnlyComplement s l m = number s objects l complement_list ≡ 1 → m ≡ entry 
 abbrev pub RowKept : Sheet → List ℕ → ℕ → ℕ → Type 0
 RowKept s t l m = (get_or t l 0 ≡ get_or t m 0) ⊎ GroupKept s t l
 
+-- the same lent lists, as long as they were
+pub record SameLists (before after : Rows) : Type 0 where
+  pub same_leading : after.leading.ghost_name ≡ before.leading.ghost_name
+  pub same_partners : after.partners.ghost_name ≡ before.partners.ghost_name
+  pub long_leading : length after.leading.now ≡ length before.leading.now
+  pub long_partners : length after.partners.now ≡ length before.partners.now
+
 -- x stands at place g, and before it what stood there
-abbrev pub RowAdded : List ℕ → List ℕ → ℕ → ℕ → Type 0
-RowAdded t t' g x = ((i : ℕ) → i < g → get_or t' i 0 ≡ get_or t i 0) × (get_or t' g 0 ≡ x)
+abbrev pub PlaceWritten : List ℕ → List ℕ → ℕ → ℕ → Type 0
+PlaceWritten t t' g x = ((i : ℕ) → i < g → get_or t' i 0 ≡ get_or t i 0) × (get_or t' g 0 ≡ x)
 
--- one of the first g rows of two lists has these two
-abbrev pub HasRow : List ℕ → List ℕ → ℕ → ℕ → ℕ → Type 0
-HasRow t u g l m = (i : ℕ) × (i < g) × (get_or t i 0 ≡ l) × (get_or u i 0 ≡ m)
+-- there is one row more, of l and m
+pub record RowAdded (before after : Rows) (l m : ℕ) : Type 0 where
+  pub more : after.count ≡ before.count + 1
+  pub leader : PlaceWritten before.leading.now after.leading.now before.count l
+  pub partner : PlaceWritten before.partners.now after.partners.now before.count m
 
--- the g rows have the objects below l with each of their complements, and l with the first j of its own
-abbrev pub RowsListed : Sheet → List ℕ → List ℕ → ℕ → ℕ → ℕ → Type 0
-RowsListed s t u g l j =
-    ((k : ℕ) → k < l → (i : ℕ) → i < number s objects k complement_list → HasRow t u g k (entry s objects k complement_list i))
-    × ((i : ℕ) → i < j → HasRow t u g l (entry s objects l complement_list i))
-    × ((i : ℕ) → i < g → OnlyComplement s (get_or t i 0) (get_or u i 0))
+-- one of the rows has these two
+abbrev pub HasRow : Rows → ℕ → ℕ → Type 0
+HasRow rows l m = (i : ℕ) × (i < rows.count) × (get_or rows.leading.now i 0 ≡ l) × (get_or rows.partners.now i 0 ≡ m)
 
--- two lists have places for g rows
-abbrev pub Placed : List ℕ → List ℕ → ℕ → Type 0
-Placed t u g = (g ≤ length t) × (g ≤ length u)
+-- the rows have the objects below l with each of their complements, and l with the first j of its own
+pub record RowsListed (s : Sheet) (rows : Rows) (l j : ℕ) : Type 0 where
+  pub objects_before : (k : ℕ) → k < l → (i : ℕ) → i < number s objects k complement_list → HasRow rows k (entry s objects k complement_list i)
+  pub own : (i : ℕ) → i < j → HasRow rows l (entry s objects l complement_list i)
+  pub each : (i : ℕ) → i < rows.count → OnlyComplement s (get_or rows.leading.now i 0) (get_or rows.partners.now i 0)
 
 -- the rows have all
-abbrev pub RowsComplete : Sheet → List ℕ → List ℕ → ℕ → Type 0
-RowsComplete s t u g = RowsListed s t u g (count s objects) 0
-
--- the rows of object l are added to those of the objects before it
-abbrev pub RowsAdded : Sheet → List ℕ → List ℕ → List ℕ → List ℕ → ℕ → ℕ → ℕ → Type 0
-RowsAdded s t u t' u' before l g = (Placed t u before → Placed t' u' g) × (RowsListed s t u before l 0 → RowsListed s t' u' g (l + 1) 0)
+abbrev pub RowsComplete : Sheet → Rows → Type 0
+RowsComplete s rows = RowsListed s rows (count s objects) 0

@@ -1,14 +1,10 @@
-use Rattle.std.proofs.Common.{not, refl, ap, ◌∙◌, arith}
+use Rattle.std.proofs.Common.{rules, not, ap, ◌∙◌, arith}
 use Rattle.std.specs.Prelude.{is_some}
 use Rattle.std.specs.Option.{option_copied}
 use Rattle.inclusion.specs.steps.Alike.{owners_of, alike_of}
 use Rattle.sheet.specs.Words.{sheet_of}
-use Rattle.inclusion.proofs.RowLaws.{rows_cut}
 use Rattle.grouping.proofs.KeptLaws.{programme_more, repeated_kept}
 use Rattle.grouping.proofs.programmes.rows_from.Goals as goal
-
-pub slice_bounds-rows-end : goal.slice_bounds-rows-end
-slice_bounds-rows-end c = (c.in-Some.ensures.2 c.in-Some.g refl).0.0
 
 pub loop-p-init : goal.loop-p-init
 loop-p-init c = λ pass full before. before
@@ -20,12 +16,11 @@ loop-p-preserved-then-repeats_before c = λ pass full before.
 pub loop-p-preserved : goal.loop-p-preserved
 loop-p-preserved c = λ pass full before.
     let a = c.args in let here = c.loop-p in let cleared = c.clear in let enter = c.enter in let at = c.section_offsets-sections.ensures in
-    let rows = c.in-Some.ensures.2 c.in-Some.g refl in
-    let entered = enter.ensures.1 (c.is_none.ensures ∙ ap not c.if-is_none.false) at pass.0 in
+    let entered = enter.ensures.1 (c.is_none-in-loop-p.ensures ∙ ap not c.if-is_none-2.false) at pass.0 in
     programme_more (sheet_of a.s.now) (is_some (option_copied a.sets)) (owners_of (option_copied a.sets)) (alike_of (option_copied a.sets)) here.p cleared.new.table enter.new.included pass
     entered cleared.ensures.1 (cleared.ensures.0 ∙ here.auto.included ∙ full)
-    (c.groups_kept.ensures c.if-not-groups_kept.false at (rows_cut (sheet_of a.s.now) c.list_leaders.new.leading c.list_leaders.new.partners c.in-Some.g rows.0 rows.1)) (here.invariant pass full before)
+    (c.groups_kept.ensures c.if-not-groups_kept.false at (c.list.ensures.1 (c.is_none.ensures ∙ ap not c.if-is_none.false))) (here.invariant pass full before)
 
 pub returns : goal.returns
 returns c =
-    let rows = c.list_leaders.ensures in record { first = rows.0; second = rows.1; third = c.loop-p.auto.included; kept = λ pass full apart before q l. c.loop-p.invariant pass full.2 before q (omega (arith, l, c.max.ensures)) }
+    record { first = search rules; second = search rules; third = c.loop-p.auto.included; kept = λ pass full apart before q l. c.loop-p.invariant pass full.2 before q (omega (arith, l, c.max.ensures)) }

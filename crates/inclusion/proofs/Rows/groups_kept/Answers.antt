@@ -1,4 +1,4 @@
-use Rattle.std.proofs.Common.{true, ℕ, ◌≡◌, Option, Some, get_or, length, sym, subst, arith}
+use Rattle.std.proofs.Common.{true, ℕ, ◌≡◌, Option, Some, get_or, sym, subst, arith}
 use Rattle.std.proofs.lemmas.Option.{cond_some, none-some}
 use mathlib.Core.Logic.{⊎_elim, inl, inr}
 use borrow.Author.Count.{below_more}
@@ -6,8 +6,8 @@ use Rattle.sheet.specs.Words.{sheet_of}
 use Rattle.inclusion.specs.steps.Groups.{GroupKept}
 use Rattle.inclusion.specs.steps.Rows.{RowKept}
 use Rattle.inclusion.proofs.RowLaws.{rows_kept}
-use Rattle.inclusion.proofs.groups.groups_kept.Goals as goal
-use Rattle.inclusion.proofs.groups.groups_kept.Goals.{then-not-row_passes+else-not-row_kept, else-not-row_passes}
+use Rattle.inclusion.proofs.Rows.groups_kept.Goals as goal
+use Rattle.inclusion.proofs.Rows.groups_kept.Goals.{then-not-row_passes+else-not-row_kept, else-not-row_passes}
 
 pub loop-i-init : goal.loop-i-init
 loop-i-init c = λ at listed. (λ k e. absurd (none-some k e), λ j h. absurd (omega arith))
@@ -15,18 +15,18 @@ loop-i-init c = λ at listed. (λ k e. absurd (none-some k e), λ j h. absurd (o
 pub loop-i-preserved : goal.loop-i-preserved
 loop-i-preserved c = λ at listed.
     let a = c.args in let i : ℕ = c.loop-i.i in let Kept : ℕ → Type 0 = GroupKept (sheet_of a.s.now) a.included.now in
-    let leading = a.rows.now.leading.now in
-    let P : ℕ → Type 0 = λ j. RowKept (sheet_of a.s.now) a.included.now (get_or leading j 0) (get_or a.rows.now.partners.now j 0) in
+    let leading = a.self.now.leading.now in
+    let P : ℕ → Type 0 = λ j. RowKept (sheet_of a.s.now) a.included.now (get_or leading j 0) (get_or a.self.now.partners.now j 0) in
     let Asked : Option ℕ → Type 0 = λ o. (k : ℕ) → o ≡ Some k → Kept k in
     let so = c.loop-i.invariant at listed in
     elim c.if-not-row_passes.branch [
       | then-not-row_passes+else-not-row_kept w ↦
-          let kept = w.row_kept.ensures w.if-not-row_kept.false at (listed.2 i c.loop-i-test.true) in
+          let kept = w.row_kept.ensures w.if-not-row_kept.false at (listed.each i c.loop-i-test.true) in
           (subst Asked (sym w.asked-is) (λ k e. subst Kept (cond_some true _ _ e).1 kept), below_more P i so.1 (inr kept))
       | else-not-row_passes w ↦ (subst Asked (sym w.asked-is) so.0, below_more P i so.1 (⊎_elim (λ q. inl q) (λ q. inr (so.0 (get_or leading i 0) q)) (c.row_passes.ensures w.if-not-row_passes.false)))
     ]
 
 pub returns : goal.returns
 returns c = λ e at listed.
-    let rows = c.args.rows.now in let here = c.loop-i in let z : here.i ≡ length rows.leading.now = omega arith in
-    rows_kept (sheet_of c.args.s.now) c.args.included.now rows.leading.now rows.partners.now (length rows.leading.now) listed (rw z at (here.invariant at listed).1)
+    let rows = c.args.self.now in let here = c.loop-i in let z : here.i ≡ rows.count = omega arith in
+    rows_kept (sheet_of c.args.s.now) c.args.included.now rows listed (rw z at (here.invariant at listed).1)
