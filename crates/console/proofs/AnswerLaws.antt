@@ -11,27 +11,32 @@ use Rattle.profile.specs.Counting.{sum}
 use Rattle.profile.proofs.ListLaws.{length_concat}
 use Rattle.listener.specs.declared.Setting.{Setting}
 use Rattle.listener.specs.declared.State.{State}
-use Rattle.listener.specs.declared.Answer.{Answer}
-use Rattle.listener.specs.declared.Answer.TheVariants.{Done, Refused}
+use Rattle.std.specs.Prelude.{Ok, Err, Option, Some, None}
+use Rattle.sheet.specs.Words.{Sheet}
+use Rattle.guarantee.specs.Run.{reply}
 use Rattle.listener.specs.State.{state_objects, setting, is_resting, refusal_number}
+use Rattle.listener.specs.Calls.{Answer}
 use Rattle.text.proofs.BytesLaws.{join_length, none_length}
 use Rattle.text.proofs.DecimalLaws.{decimal_fits, signed_fits, gain_fits_lem}
-use Rattle.console.specs.Answers.{answer_line, words_text, tracks_line, activity_text, name_text, values_text, setting_line, object_line, object_lines, state_lines}
+use Rattle.console.specs.Answers.{answer_line, words_text, tracks_line, activity_text, name_text, values_text, setting_line, object_line, object_lines, state_lines, listing_line, unknown_line}
+use Rattle.console.specs.declared.commands.Command.{Command}
+use Rattle.console.specs.declared.commands.Command.TheVariants as command
+use Rattle.console.specs.Bench.{call_of, answer_to}
 
 pub answer_fits : (a : Answer) → length (answer_line a) ≤ 29
 unfolding answer_line
-answer_fits Done = omega arith
-answer_fits (Refused r) = simp (join_length, none_length) (omega (arith, decimal_fits (refusal_number r)))
+answer_fits (Ok done) = omega arith
+answer_fits (Err r) = simp (join_length, none_length) (omega (arith, decimal_fits (refusal_number r)))
 
 words_fit : (ws : List ℕ) → length (words_text ws) ≤ 21 * length ws
 unfolding words_text
 words_fit [] = omega arith
 words_fit (w ∷ ws) = simp length-append (omega (arith, decimal_fits w, words_fit ws))
 
-pub tracks_fit : (tracks : List ℕ) (a : Answer) → (a ≡ Done → length tracks ≤ 28) → length (tracks_line tracks a) ≤ 600
+pub tracks_fit : (tracks : List ℕ) (a : Answer) → (a ≡ Ok tt → length tracks ≤ 28) → length (tracks_line tracks a) ≤ 600
 unfolding tracks_line
-tracks_fit tracks Done l = simp (join_length, none_length) (omega (arith, words_fit tracks, l refl))
-tracks_fit tracks (Refused r) l = omega (arith, answer_fits (Refused r))
+tracks_fit tracks (Ok done) l = simp (join_length, none_length) (omega (arith, words_fit tracks, l refl))
+tracks_fit tracks (Err r) l = omega (arith, answer_fits (Err r))
 
 activity_fits : (active : Bool) → length (activity_text active) ≤ 9
 unfolding activity_text
@@ -73,3 +78,11 @@ state_fits st =
       length_concat (λ o. object_line o (setting st o)) state_objects,
       sum_fits (λ o. length (object_line o (setting st o))) 93 state_objects (λ o. object_fits o (setting st o)),
     ))
+
+-- every answer
+pub answer_to_fits : (s : Sheet) (langs : List ℕ) (st : State) (c : Option Command) → length (listing_line s langs st) ≤ 600 → length (answer_to s langs st c) ≤ 8192
+unfolding answer_to unknown_line
+answer_to_fits s langs st (Some (command.Call c)) l = omega (arith, answer_fits (reply s langs st (call_of c)).answer)
+answer_to_fits s langs st (Some command.List) l = omega (arith, l)
+answer_to_fits s langs st (Some command.State) l = state_fits st
+answer_to_fits s langs st None l = omega arith

@@ -5,6 +5,7 @@ use mathlib.Core.Path.{◌≡◌, refl, ap, subst}
 use mathlib.Core.Bool.{Bool, false}
 use mathlib.Core.List.{List, [], ◌∷◌, ◌++◌}
 use mathlib.Core.Logic.{◌⊎◌}
+use Rattle.std.specs.Prelude.{Option, Some, None}
 use Rattle.sheet.specs.Words.{Sheet}
 use Rattle.sheet.specs.Layout.{level}
 use Rattle.profile.specs.declared.Verdict.TheVariants.{Accepted}
@@ -21,16 +22,16 @@ use Rattle.console.specs.declared.commands.Command.TheVariants as command
 use Rattle.console.specs.Bench.{call_of, state_after, obeyed, calls_of, answered_line, answered_part}
 
 -- commands do to the state what the calls among them do
-obeyed_run : (s : Sheet) (langs : List ℕ) (st : State) (cs : List Command) → run s langs st (calls_of cs) ≡ obeyed s langs st cs
+obeyed_run : (s : Sheet) (langs : List ℕ) (st : State) (cs : List (Option Command)) → run s langs st (calls_of cs) ≡ obeyed s langs st cs
 unfolding run calls_of obeyed state_after
 obeyed_run s langs st [] = refl
-obeyed_run s langs st (command.Call c ∷ cs) = obeyed_run s langs (reply s langs st (call_of c)).state cs
-obeyed_run s langs st (command.List ∷ cs) = obeyed_run s langs st cs
-obeyed_run s langs st (command.State ∷ cs) = obeyed_run s langs st cs
-obeyed_run s langs st (command.Unknown ∷ cs) = obeyed_run s langs st cs
+obeyed_run s langs st (Some (command.Call c) ∷ cs) = obeyed_run s langs (reply s langs st (call_of c)).state cs
+obeyed_run s langs st (Some command.List ∷ cs) = obeyed_run s langs st cs
+obeyed_run s langs st (Some command.State ∷ cs) = obeyed_run s langs st cs
+obeyed_run s langs st (None ∷ cs) = obeyed_run s langs st cs
 
 -- demand 3: for a sheet accepted at level 1 or 2, after every list of commands from its opening
-pub bench_listening : (s : Sheet) (langs : List ℕ) → verdict s langs ≡ Accepted → (level s ≡ 1) ⊎ (level s ≡ 2) → (cs : List Command)
+pub bench_listening : (s : Sheet) (langs : List ℕ) → verdict s langs ≡ Accepted → (level s ≡ 1) ⊎ (level s ≡ 2) → (cs : List (Option Command))
     → Promises s langs (last_chosen s langs (calls_of cs)) (obeyed s langs (opened s langs).state cs)
 unfolding after
 bench_listening s langs accepted at cs =

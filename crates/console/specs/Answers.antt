@@ -1,21 +1,20 @@
 -- The answers of the listening bench as text. Assumes nothing.
-use Rattle.std.specs.Prelude.{ℕ, Bool, cond, List, [], ◌∷◌, ◌++◌, ℤ}
+use Rattle.std.specs.Prelude.{ℕ, Bool, cond, List, [], ◌∷◌, ◌++◌, ℤ, Ok, Err}
 use Rattle.sheet.specs.Words.{Sheet}
 use Rattle.values.specs.declared.Gain.{Gain}
 use Rattle.profile.specs.Counting.{concat_below}
 use Rattle.listener.specs.declared.Setting.{Setting}
 use Rattle.listener.specs.declared.State.{State}
-use Rattle.listener.specs.declared.Answer.{Answer}
-use Rattle.listener.specs.declared.Answer.TheVariants.{Done, Refused}
 use Rattle.listener.specs.State.{state_objects, setting, is_resting, refusal_number}
+use Rattle.listener.specs.Calls.{Answer}
 use Rattle.listener.specs.Listing.{listed_tracks, enough_words, listing_answer}
 use Rattle.text.specs.Bytes.{ascii, join}
 use Rattle.text.specs.Decimal.{decimal, signed_decimal, gain_text}
 
 -- `done`, or as in `refused 28`
 unfoldable pub answer_line : Answer → List ℕ
-answer_line Done = ascii "done\n"
-answer_line (Refused r) = join (ascii "refused " ∷ decimal (refusal_number r) ∷ ascii "\n" ∷ [])
+answer_line (Ok done) = ascii "done\n"
+answer_line (Err r) = join (ascii "refused " ∷ decimal (refusal_number r) ∷ ascii "\n" ∷ [])
 
 -- each word behind a space
 unfoldable pub words_text : List ℕ → List ℕ
@@ -24,8 +23,8 @@ words_text (w ∷ ws) = ascii " " ++ decimal w ++ words_text ws
 
 -- as in `tracks 0 1 5`, or why not
 unfoldable pub tracks_line : List ℕ → Answer → List ℕ
-tracks_line tracks Done = join (ascii "tracks" ∷ words_text tracks ∷ ascii "\n" ∷ [])
-tracks_line tracks (Refused r) = answer_line (Refused r)
+tracks_line tracks (Ok done) = join (ascii "tracks" ∷ words_text tracks ∷ ascii "\n" ∷ [])
+tracks_line tracks (Err r) = answer_line (Err r)
 
 -- the listing of a state
 unfoldable pub listing_line : Sheet → List ℕ → State → List ℕ

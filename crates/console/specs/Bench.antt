@@ -1,6 +1,6 @@
 -- The listening bench: what a command does to the listener's state, and what it is answered. All its calls are lent one sheet, `s`, and
 -- one list of languages, `langs`. Assumes nothing.
-use Rattle.std.specs.Prelude.{ℕ, Bool, true, false, List, [], ◌∷◌}
+use Rattle.std.specs.Prelude.{ℕ, Bool, true, false, List, [], ◌∷◌, Option, Some, None}
 use Rattle.sheet.specs.Words.{Sheet}
 use Rattle.listener.specs.declared.State.{State}
 use Rattle.guarantee.specs.Run as run
@@ -22,31 +22,31 @@ call_of (Gain o g) = run.Call.gain o g
 call_of (Offset o z) = run.Call.offset o z
 
 -- the state after a command: only a call changes it
-unfoldable pub state_after : Sheet → List ℕ → State → Command → State
-state_after s langs st (command.Call c) = (reply s langs st (call_of c)).state
-state_after s langs st command.List = st
-state_after s langs st command.State = st
-state_after s langs st command.Unknown = st
+unfoldable pub state_after : Sheet → List ℕ → State → Option Command → State
+state_after s langs st (Some (command.Call c)) = (reply s langs st (call_of c)).state
+state_after s langs st (Some command.List) = st
+state_after s langs st (Some command.State) = st
+state_after s langs st None = st
 
 -- what is answered
-unfoldable pub answer_to : Sheet → List ℕ → State → Command → List ℕ
-answer_to s langs st (command.Call c) = answer_line (reply s langs st (call_of c)).answer
-answer_to s langs st command.List = listing_line s langs st
-answer_to s langs st command.State = state_lines st
-answer_to s langs st command.Unknown = unknown_line
+unfoldable pub answer_to : Sheet → List ℕ → State → Option Command → List ℕ
+answer_to s langs st (Some (command.Call c)) = answer_line (reply s langs st (call_of c)).answer
+answer_to s langs st (Some command.List) = listing_line s langs st
+answer_to s langs st (Some command.State) = state_lines st
+answer_to s langs st None = unknown_line
 
 -- the state after a list of commands
-unfoldable pub obeyed : Sheet → List ℕ → State → List Command → State
+unfoldable pub obeyed : Sheet → List ℕ → State → List (Option Command) → State
 obeyed s langs st [] = st
 obeyed s langs st (c ∷ cs) = obeyed s langs (state_after s langs st c) cs
 
 -- the calls among them
-unfoldable pub calls_of : List Command → List run.Call
+unfoldable pub calls_of : List (Option Command) → List run.Call
 calls_of [] = []
-calls_of (command.Call c ∷ cs) = call_of c ∷ calls_of cs
-calls_of (command.List ∷ cs) = calls_of cs
-calls_of (command.State ∷ cs) = calls_of cs
-calls_of (command.Unknown ∷ cs) = calls_of cs
+calls_of (Some (command.Call c) ∷ cs) = call_of c ∷ calls_of cs
+calls_of (Some command.List ∷ cs) = calls_of cs
+calls_of (Some command.State ∷ cs) = calls_of cs
+calls_of (None ∷ cs) = calls_of cs
 
 -- the state, the line that is being read, and what is answered
 pub record Turn : Type 0 where

@@ -1,124 +1,110 @@
 // Answers of the listener, tracks and states as text.
-ghost use Rattle.std.specs.Prelude.{◌≡◌};
 ghost use Rattle.console.specs.Answers.{activity_text, answer_line, listing_line, name_text, object_line, object_lines, state_lines, values_text, words_text};
 ghost use Rattle.sheet.specs.Words.{sheet_of, words};
-ghost use Rattle.text.specs.Buffer.{buffer as written, put_text};
+ghost use Rattle.text.specs.Buffer.{Appends};
 
 use crate::Lent;
-use listener::refusals::refusal_number;
 use listener::settings::is_resting;
-use listener::{Answer, MOST_ENTRIES, STATE_END, Setting, State};
-use text::writing::{put_gain, put_number, put_signed, put_text};
+use listener::{MOST_ENTRIES, Refusal, STATE_END, Setting, State};
+use text::writing::Text;
 use values::Gain;
 
 // `done`, or as in `refused 28`.
-pub fn put_answer(buffer: &mut [u8], count: usize, answer: Answer) -> usize
-    ensures { written buffer.new result ≡ put_text (written buffer.old count) (answer_line answer) }
+pub fn put_answer(text: &mut Text, answer: Result<(), Refusal>)
+    ensures { Appends text.old (answer_line answer) text.new }
 {
     match answer {
-        Answer::Done => put_text(buffer, count, b"done\n"),
-        Answer::Refused(refusal) => {
-            let mut n = put_text(buffer, count, b"refused ");
-            n = put_number(buffer, n, refusal_number(refusal) as u64);
-            put_text(buffer, n, b"\n")
+        Ok(()) => text.text(b"done\n"),
+        Err(refusal) => {
+            text.text(b"refused ");
+            text.number(u64::from(u16::from(refusal)));
+            text.text(b"\n");
         }
     }
 }
 
 // Each word behind a space.
-pub fn put_words(buffer: &mut [u8], count: usize, words: &[u16]) -> usize
-    ensures { written buffer.new result ≡ put_text (written buffer.old count) (words_text words.now) }
+pub fn put_words(text: &mut Text, words: &[u16])
+    ensures { Appends text.old (words_text words.now) text.new }
 {
-    let mut n = count;
-    let mut i = 0;
-    while i < words.len() {
-        let space = put_text(buffer, n, b" ");
-        n = put_number(buffer, space, words[i] as u64);
-        i += 1;
+    for word in words {
+        text.text(b" ");
+        text.number(u64::from(*word));
     }
-    n
 }
 
 // As in `tracks 0 1 5`, or why not.
-pub fn put_listing(buffer: &mut [u8], count: usize, lent: Lent, state: State) -> usize
-    ensures { written buffer.new result ≡ put_text (written buffer.old count) (listing_line (sheet_of lent.entry.sheet.now) (words lent.entry.langs.now) state) }
+pub fn put_listing(text: &mut Text, lent: Lent, state: State)
+    ensures { Appends text.old (listing_line (sheet_of lent.entry.sheet.now) (words lent.entry.langs.now) state) text.new }
 {
     let mut words = [0u16; MOST_ENTRIES];
-    let listing = state.list(lent.sheet, lent.langs, &mut words);
-    let answer = listing.answer;
-    match answer {
-        Answer::Done => {
-            let entries = listing.entries as usize;
-            let mut n = put_text(buffer, count, b"tracks");
-            n = put_words(buffer, n, &words[..entries]);
-            put_text(buffer, n, b"\n")
+    match state.list(lent.sheet, lent.langs, &mut words) {
+        Ok(entries) => {
+            text.text(b"tracks");
+            put_words(text, &words[..entries as usize]);
+            text.text(b"\n");
         }
-        Answer::Refused(refusal) => put_answer(buffer, count, Answer::Refused(refusal)),
+        Err(refusal) => put_answer(text, Err(refusal)),
     }
 }
 
-fn put_activity(buffer: &mut [u8], count: usize, active: bool) -> usize
-    ensures { written buffer.new result ≡ put_text (written buffer.old count) (activity_text active) }
+#[tactic(auto, unfolding(crate::specs::Answers::activity_text))]
+fn put_activity(text: &mut Text, active: bool)
+    ensures { Appends text.old (activity_text active) text.new }
 {
     if active {
-        put_text(buffer, count, b" active")
+        text.text(b" active");
     } else {
-        put_text(buffer, count, b" inactive")
+        text.text(b" inactive");
     }
 }
 
 // The beginning of an object's line.
-fn put_name(buffer: &mut [u8], count: usize, o: u16, active: bool) -> usize
-    ensures { written buffer.new result ≡ put_text (written buffer.old count) (name_text o active) }
+fn put_name(text: &mut Text, o: u16, active: bool)
+    ensures { Appends text.old (name_text o active) text.new }
 {
-    let mut n = put_text(buffer, count, b"object ");
-    n = put_number(buffer, n, o as u64);
-    put_activity(buffer, n, active)
+    text.text(b"object ");
+    text.number(u64::from(o));
+    put_activity(text, active);
 }
 
 // Its end.
-fn put_values(buffer: &mut [u8], count: usize, gain: Gain, offset: i16) -> usize
-    ensures { written buffer.new result ≡ put_text (written buffer.old count) (values_text gain offset) }
+fn put_values(text: &mut Text, gain: Gain, offset: i16)
+    ensures { Appends text.old (values_text gain offset) text.new }
 {
-    let mut n = put_text(buffer, count, b" gain ");
-    n = put_gain(buffer, n, gain);
-    n = put_text(buffer, n, b" offset ");
-    n = put_signed(buffer, n, offset);
-    put_text(buffer, n, b"\n")
+    text.text(b" gain ");
+    text.gain(gain);
+    text.text(b" offset ");
+    text.signed(offset);
+    text.text(b"\n");
 }
 
 // As in `object 3 active gain -60 offset 0`; an object at rest has no line.
-fn put_setting(buffer: &mut [u8], count: usize, o: u16, x: Setting) -> usize
-    ensures { written buffer.new result ≡ put_text (written buffer.old count) (object_line o x) }
+fn put_setting(text: &mut Text, o: u16, x: Setting)
+    ensures { Appends text.old (object_line o x) text.new }
 {
     if is_resting(x) {
-        return count;
+        return;
     }
-    let gain = x.gain;
-    let name = put_name(buffer, count, o, x.active);
-    put_values(buffer, name, gain, x.offset)
+    put_name(text, o, x.active);
+    put_values(text, x.gain, x.offset);
 }
 
 // Each object that is not at rest.
-fn put_objects(buffer: &mut [u8], count: usize, state: State) -> usize
-    ensures { written buffer.new result ≡ put_text (written buffer.old count) (object_lines state) }
+fn put_objects(text: &mut Text, state: State)
+    ensures { Appends text.old (object_lines state) text.new }
 {
-    let mut n = count;
-    let mut o: u16 = 0;
-    while o < STATE_END {
-        let x = state.objects[o as usize];
-        n = put_setting(buffer, n, o, x);
-        o += 1;
+    for o in 0..STATE_END {
+        put_setting(text, o, state.objects[usize::from(o)]);
     }
-    n
 }
 
 // The programme, then each object that is not at rest.
-pub fn put_state(buffer: &mut [u8], count: usize, state: State) -> usize
-    ensures { written buffer.new result ≡ put_text (written buffer.old count) (state_lines state) }
+pub fn put_state(text: &mut Text, state: State)
+    ensures { Appends text.old (state_lines state) text.new }
 {
-    let mut n = put_text(buffer, count, b"programme ");
-    n = put_number(buffer, n, state.programme as u64);
-    n = put_text(buffer, n, b"\n");
-    put_objects(buffer, n, state)
+    text.text(b"programme ");
+    text.number(u64::from(state.programme));
+    text.text(b"\n");
+    put_objects(text, state);
 }

@@ -5,15 +5,15 @@ ghost use Rattle.console.specs.Bench.{answer_to, call_of, answered_part, state_a
 ghost use Rattle.guarantee.specs.Run.{reply};
 ghost use Rattle.listener.specs.Calls.{opened};
 ghost use Rattle.sheet.specs.Words.{sheet_of, words};
-ghost use Rattle.text.specs.Buffer.{TextFilled, buffer as written};
+ghost use Rattle.text.specs.Buffer.{Appends, TextFilled, written};
 
 use crate::Lent;
 use crate::answers::{put_answer, put_listing, put_state};
 use crate::commands::{Call, Command, command_of};
 use listener::calls::open;
 use listener::{Reply, State};
-use text::lines::{ROOM, part, said};
-use text::writing::put_text;
+use text::lines::said;
+use text::writing::Text;
 
 // More room than any answer takes: a state's has a line for each of its 84 objects.
 pub const ANSWER_ROOM: usize = 8192;
@@ -31,13 +31,16 @@ pub fn opened(lent: Lent, answer: &mut [u8; ANSWER_ROOM]) -> Answered
     ensures text_filled { TextFilled answer.old (answer_line (opened (sheet_of lent.entry.sheet.now) (words lent.entry.langs.now)).answer) result.count answer.new }
 {
     let opening = open(lent.sheet, lent.langs);
-    let told = opening.answer;
-    let count = put_answer(answer, 0, told);
-    let state = opening.state;
-    Answered { state, count }
+    let mut text = Text::new(answer);
+    put_answer(&mut text, opening.answer);
+    Answered {
+        state: opening.state,
+        count: text.count,
+    }
 }
 
 // What a call hands back.
+#[tactic(auto, unfolding(guarantee::specs::Run::reply, crate::specs::Bench::call_of))]
 fn reply_to(lent: Lent, state: State, call: Call) -> Reply
     ensures { result ≡ reply (sheet_of lent.entry.sheet.now) (words lent.entry.langs.now) state (call_of call) }
 {
@@ -49,71 +52,63 @@ fn reply_to(lent: Lent, state: State, call: Call) -> Reply
     }
 }
 
-// Answers a command, and gives the state after it.
-pub fn obey(lent: Lent, state: State, command: Command, answer: &mut [u8; ANSWER_ROOM]) -> Answered
+// Writes the answer to a command, and gives the state after it.
+#[tactic(auto, unfolding(crate::specs::Bench::state_after, crate::specs::Bench::answer_to, crate::specs::Answers::unknown_line))]
+fn put_answer_to(text: &mut Text, lent: Lent, state: State, command: Option<Command>) -> State
+    ensures state_value { result ≡ state_after (sheet_of lent.entry.sheet.now) (words lent.entry.langs.now) state command }
+    ensures appended { Appends text.old (answer_to (sheet_of lent.entry.sheet.now) (words lent.entry.langs.now) state command) text.new }
+{
+    match command {
+        Some(Command::Call(call)) => {
+            let reply = reply_to(lent, state, call);
+            put_answer(text, reply.answer);
+            return reply.state;
+        }
+        Some(Command::List) => put_listing(text, lent, state),
+        Some(Command::State) => put_state(text, state),
+        None => text.text(b"?\n"),
+    }
+    state
+}
+
+// Answers a command, or a line that is none, and gives the state after it.
+pub fn obey(
+    lent: Lent,
+    state: State,
+    command: Option<Command>,
+    answer: &mut [u8; ANSWER_ROOM],
+) -> Answered
     ensures state_value { result.state ≡ state_after (sheet_of lent.entry.sheet.now) (words lent.entry.langs.now) state command }
     ensures text_filled { TextFilled answer.old (answer_to (sheet_of lent.entry.sheet.now) (words lent.entry.langs.now) state command) result.count answer.new }
 {
-    match command {
-        Command::Call(call) => {
-            let reply = reply_to(lent, state, call);
-            let told = reply.answer;
-            let count = put_answer(answer, 0, told);
-            let next = reply.state;
-            Answered { state: next, count }
-        }
-        Command::List => {
-            let count = put_listing(answer, 0, lent, state);
-            Answered { state, count }
-        }
-        Command::State => {
-            let count = put_state(answer, 0, state);
-            Answered { state, count }
-        }
-        Command::Unknown => {
-            let count = put_text(answer, 0, b"?\n");
-            Answered { state, count }
-        }
+    let mut text = Text::new(answer);
+    let next = put_answer_to(&mut text, lent, state, command);
+    Answered {
+        state: next,
+        count: text.count,
     }
-}
-
-// Where the bench stands: the listener's state, the bytes of the line that is being read, and those of the answer.
-#[derive(Clone, Copy)]
-pub struct Bench {
-    pub state: State,
-    pub line: usize,
-    pub answer: usize,
 }
 
 // Adds what was read to the line, and answers the line if it is whole.
+#[tactic(auto, unfolding(crate::specs::Bench::answered_part, crate::specs::Bench::answered_line))]
 pub fn answer_part(
     lent: Lent,
-    bench: Bench,
-    line: &mut [u8; ROOM],
+    state: State,
+    line: &mut Text,
     more: &[u8],
     whole: bool,
     answer: &mut [u8; ANSWER_ROOM],
-) -> Bench
-    ensures state_value { result.state ≡ (answered_part (sheet_of lent.entry.sheet.now) (words lent.entry.langs.now) bench.state (written line.old bench.line) more.now whole).state }
-    ensures line_after { written line.new result.line ≡ (answered_part (sheet_of lent.entry.sheet.now) (words lent.entry.langs.now) bench.state (written line.old bench.line) more.now whole).line }
-    ensures text_filled { TextFilled answer.old (answered_part (sheet_of lent.entry.sheet.now) (words lent.entry.langs.now) bench.state (written line.old bench.line) more.now whole).answer result.answer answer.new }
+) -> Answered
+    ensures state_value { result.state ≡ (answered_part (sheet_of lent.entry.sheet.now) (words lent.entry.langs.now) state (written line.old) more.now whole).state }
+    ensures same_buffer { line.new.buffer.ghost_name ≡ line.old.buffer.ghost_name }
+    ensures line_after { written line.new ≡ (answered_part (sheet_of lent.entry.sheet.now) (words lent.entry.langs.now) state (written line.old) more.now whole).line }
+    ensures text_filled { TextFilled answer.old (answered_part (sheet_of lent.entry.sheet.now) (words lent.entry.langs.now) state (written line.old) more.now whole).answer result.count answer.new }
 {
-    let count = put_text(line, bench.line, more);
-    let state = bench.state;
-    if whole {
-        let command = command_of(said(part(line, 0, count)));
-        let answered = obey(lent, state, command, answer);
-        let next = answered.state;
-        Bench {
-            state: next,
-            line: 0,
-            answer: answered.count,
-        }
-    } else {
-        Bench {
-            state,
-            line: count,
-            answer: 0,
-        }
+    line.text(more);
+    if !whole {
+        return Answered { state, count: 0 };
     }
+    let answered = obey(lent, state, command_of(said(line.as_bytes())), answer);
+    line.count = 0;
+    answered
 }

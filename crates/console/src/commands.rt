@@ -1,11 +1,11 @@
 // The commands of the listening bench, a line each:
 //     programme N | object N | gain N V | offset N V | list | state
-// N is 0 to 65535, V is -32768 to 32767 tenths, or `silence` for a gain. Any other line is unknown.
-ghost use Rattle.std.specs.Prelude.{◌≡◌};
-ghost use Rattle.console.specs.Commands.{alone, command_of, gain_command, offset_command, with_number, with_value};
+// N is 0 to 65535, V is -32768 to 32767 tenths, or `silence` for a gain. Any other line is none.
+ghost use Rattle.std.specs.Prelude.{Some, ◌≡◌};
+ghost use Rattle.console.specs.Commands.{alone, command_of, with_number, with_value};
 
 use text::lines::{field, field_count, same};
-use text::numbers::{GainValue, Number, Tenths, gain_value_of, number_of, tenths_of};
+use text::numbers::{gain_value_of, number_of, tenths_of};
 use values::Gain;
 
 // A call of the listener.
@@ -22,85 +22,58 @@ pub enum Command {
     Call(Call),
     List,
     State,
-    Unknown,
 }
 
-// The command that a line says.
-pub fn command_of(line: &[u8]) -> Command
+// The command that a line says, if it is one.
+pub fn command_of(line: &[u8]) -> Option<Command>
     ensures { result ≡ command_of line.now }
 {
-    let n = field_count(line);
-    if n == 1 {
-        return alone(field(line, 0));
+    match field_count(line) {
+        1 => alone(field(line, 0)),
+        2 => with_number(field(line, 0), number_of(field(line, 1))?),
+        3 => with_value(field(line, 0), number_of(field(line, 1))?, field(line, 2)),
+        _ => None,
     }
-    if n == 2 {
-        return with_number(field(line, 0), number_of(field(line, 1)));
-    }
-    if n == 3 {
-        return with_value(field(line, 0), number_of(field(line, 1)), field(line, 2));
-    }
-    Command::Unknown
 }
 
 // `list` and `state`.
-fn alone(name: &[u8]) -> Command
+#[tactic(auto, unfolding(crate::specs::Commands::alone))]
+fn alone(name: &[u8]) -> Option<Command>
     ensures { result ≡ alone name.now }
 {
     if same(name, b"list") {
-        return Command::List;
+        return Some(Command::List);
     }
     if same(name, b"state") {
-        return Command::State;
+        return Some(Command::State);
     }
-    Command::Unknown
+    None
 }
 
 // `programme N` and `object N`.
-fn with_number(name: &[u8], n: Number) -> Command
-    ensures { result ≡ with_number name.now n }
+#[tactic(auto, unfolding(crate::specs::Commands::with_number))]
+fn with_number(name: &[u8], n: u16) -> Option<Command>
+    ensures { result ≡ with_number name.now (Some n) }
 {
-    let Number::Of(k) = n else {
-        return Command::Unknown;
-    };
     if same(name, b"programme") {
-        return Command::Call(Call::Programme(k));
+        return Some(Command::Call(Call::Programme(n)));
     }
     if same(name, b"object") {
-        return Command::Call(Call::Object(k));
+        return Some(Command::Call(Call::Object(n)));
     }
-    Command::Unknown
+    None
 }
 
 // `gain N V` and `offset N V`.
-fn with_value(name: &[u8], n: Number, value: &[u8]) -> Command
-    ensures { result ≡ with_value name.now n value.now }
+#[tactic(auto, unfolding(crate::specs::Commands::with_value, crate::specs::Commands::gain_command, crate::specs::Commands::offset_command))]
+fn with_value(name: &[u8], n: u16, value: &[u8]) -> Option<Command>
+    ensures { result ≡ with_value name.now (Some n) value.now }
 {
-    let Number::Of(k) = n else {
-        return Command::Unknown;
-    };
     if same(name, b"gain") {
-        return gain_command(k, gain_value_of(value));
+        return Some(Command::Call(Call::Gain(n, gain_value_of(value)?)));
     }
     if same(name, b"offset") {
-        return offset_command(k, tenths_of(value));
+        return Some(Command::Call(Call::Offset(n, tenths_of(value)?)));
     }
-    Command::Unknown
-}
-
-fn gain_command(k: u16, value: GainValue) -> Command
-    ensures { result ≡ gain_command k value }
-{
-    match value {
-        GainValue::Nothing => Command::Unknown,
-        GainValue::Of(gain) => Command::Call(Call::Gain(k, gain)),
-    }
-}
-
-fn offset_command(k: u16, value: Tenths) -> Command
-    ensures { result ≡ offset_command k value }
-{
-    match value {
-        Tenths::Nothing => Command::Unknown,
-        Tenths::Of(offset) => Command::Call(Call::Offset(k, offset)),
-    }
+    None
 }

@@ -3,144 +3,109 @@
 #![tactic(auto)]
 
 use console::Lent;
-use console::bench::{ANSWER_ROOM, Bench, answer_part, opened};
+use console::bench::{ANSWER_ROOM, answer_part, opened};
+use listener::State;
 use std::env::Env;
 use std::fs::Files;
 use std::io::{Input, Read};
-use text::lines::{ROOM, line_end, part};
+use text::lines::{ROOM, part};
 use text::output::{say_failure, write_output};
 use text::reading::{LANGS_ROOM, arg_count, argument_is, read_argument, read_langs};
+use text::writing::Text;
 
-// The bench, and whether it goes on: not where the input ended, or an answer could not be written.
+// The bench goes on no more: the input ended, a read failed, or an answer could not be written.
 #[derive(Clone, Copy)]
-struct Session {
-    bench: Bench,
-    open: bool,
+struct Ended;
+
+// What the bench is lent, the listener's state, the line that is being read, and the room for an answer.
+#[derive(Drop)]
+struct Bench<'a> {
+    lent: Lent<'a>,
+    state: State,
+    line: Text<'a>,
+    answer: &'a mut [u8; ANSWER_ROOM],
 }
 
-// Takes a part of a line, and writes what is answered.
-fn write_answer<R: Print + Eprint>(
-    rt: &R,
-    lent: Lent,
-    bench: Bench,
-    line: &mut [u8; ROOM],
-    more: &[u8],
-    whole: bool,
-    answer: &mut [u8; ANSWER_ROOM],
-) -> Session {
-    let next = answer_part(lent, bench, line, more, whole, answer);
-    let open = write_output(rt, part(answer, 0, next.answer));
-    Session { bench: next, open }
-}
-
-// Answers the lines that end in what was read, and keeps the beginning of the next.
-fn answer_read<R: Print + Eprint>(
-    rt: &R,
-    lent: Lent,
-    start: Bench,
-    line: &mut [u8; ROOM],
-    read: &[u8],
-    answer: &mut [u8; ANSWER_ROOM],
-) -> Session {
-    let mut session = Session {
-        bench: start,
-        open: true,
-    };
-    let mut at = 0;
-    while at < read.len() {
-        let end = line_end(read, at);
-        let bench = session.bench;
-        session = write_answer(
-            rt,
-            lent,
-            bench,
-            line,
-            part(read, at, end),
-            end < read.len(),
-            answer,
+impl<'a> Bench<'a> {
+    // Takes a part of a line, and writes what is answered.
+    fn write_answer<R: Print + Eprint>(
+        &mut self,
+        rt: &R,
+        more: &[u8],
+        whole: bool,
+    ) -> Result<(), Ended> {
+        let answered = answer_part(
+            self.lent,
+            self.state,
+            &mut self.line,
+            more,
+            whole,
+            self.answer,
         );
-        if !session.open {
-            return session;
-        }
-        at = end + 1;
-    }
-    session
-}
-
-// At the end of the input a line without a newline is answered, unless it is empty.
-fn answer_last<R: Print + Eprint>(
-    rt: &R,
-    lent: Lent,
-    bench: Bench,
-    line: &mut [u8; ROOM],
-    answer: &mut [u8; ANSWER_ROOM],
-) -> Session {
-    let last = write_answer(rt, lent, bench, line, b"", bench.line > 0, answer);
-    let next = last.bench;
-    Session {
-        bench: next,
-        open: false,
-    }
-}
-
-// Reads what is there, and answers it before more is read.
-fn answer_some<R: Print + Eprint, I: Read>(
-    rt: &R,
-    input: &mut I,
-    lent: Lent,
-    bench: Bench,
-    line: &mut [u8; ROOM],
-    answer: &mut [u8; ANSWER_ROOM],
-) -> Session {
-    let mut buffer = io::buffer();
-    match input.read(&mut buffer) {
-        Ok(0) => answer_last(rt, lent, bench, line, answer),
-        Ok(n) => answer_read(rt, lent, bench, line, &buffer[..n], answer),
-        Err(error) => {
-            say_failure(rt, "standard input", error);
-            Session { bench, open: false }
+        self.state = answered.state;
+        if write_output(rt, part(self.answer, 0, answered.count)) {
+            Ok(())
+        } else {
+            Err(Ended)
         }
     }
-}
 
-// Answers until the input ends. A proved loop has to end, and nothing says that the input does: so this one counts its turns down, from
-// a number that no run uses up.
-fn answer_all<R: Input + Print + Eprint>(
-    rt: &R,
-    lent: Lent,
-    start: Bench,
-    answer: &mut [u8; ANSWER_ROOM],
-) {
-    let mut input = rt.reader();
-    let mut line = [0u8; ROOM];
-    let mut session = Session {
-        bench: start,
-        open: true,
-    };
-    let mut turns = u64::MAX;
-    while turns > 0 {
-        let bench = session.bench;
-        session = answer_some(rt, &mut input, lent, bench, &mut line, answer);
-        if !session.open {
-            return;
+    // Answers the lines that end in what was read, and keeps the beginning of the next.
+    fn answer_read<R: Print + Eprint>(&mut self, rt: &R, read: &[u8]) -> Result<(), Ended> {
+        for part in read.split_inclusive(|byte| *byte == b'\n') {
+            match part.strip_suffix(b"\n") {
+                Some(line) => self.write_answer(rt, line, true)?,
+                None => self.write_answer(rt, part, false)?,
+            }
         }
-        turns -= 1;
+        Ok(())
+    }
+
+    // At the end of the input a line without a newline is answered, unless it is empty.
+    fn answer_last<R: Print + Eprint>(&mut self, rt: &R) -> Result<(), Ended> {
+        let whole = self.line.count > 0;
+        self.write_answer(rt, b"", whole)?;
+        Err(Ended)
+    }
+
+    // Reads what is there, and answers it before more is read.
+    fn answer_some<R: Print + Eprint, I: Read>(
+        &mut self,
+        rt: &R,
+        input: &mut I,
+    ) -> Result<(), Ended> {
+        let mut buffer = io::buffer();
+        match input.read(&mut buffer) {
+            Ok(0) => self.answer_last(rt),
+            Ok(n) => self.answer_read(rt, &buffer[..n]),
+            Err(error) => {
+                say_failure(rt, "standard input", error);
+                Err(Ended)
+            }
+        }
     }
 }
 
-// Opens the sheet, and answers.
+// Opens the sheet, and answers until the input ends. A proved loop has to end, and nothing says that the input does: so this one counts its
+// turns, to a number that no run comes to.
 fn answer_input<R: Input + Print + Eprint>(rt: &R, lent: Lent) {
     let mut answer = [0u8; ANSWER_ROOM];
     let start = opened(lent, &mut answer);
-    let n = start.count;
-    if write_output(rt, &answer[..n]) {
-        let state = start.state;
-        let bench = Bench {
-            state,
-            line: 0,
-            answer: 0,
-        };
-        answer_all(rt, lent, bench, &mut answer);
+    if !write_output(rt, &answer[..start.count]) {
+        return;
+    }
+    let mut room = [0u8; ROOM];
+    let mut bench = Bench {
+        lent,
+        state: start.state,
+        line: Text::new(&mut room),
+        answer: &mut answer,
+    };
+    let mut input = rt.reader();
+    for _ in 0..u64::MAX {
+        if bench.answer_some(rt, &mut input).is_err() {
+            return;
+        }
     }
 }
 
@@ -152,12 +117,10 @@ fn write_usage<R: Eprint>(rt: &R) {
 // follows.
 fn answer_under<R: Input + Env + Files + Print + Eprint>(rt: &R, langs: &[u8]) {
     let mut buffer = io::large_buffer();
-    let input = read_argument(rt, 1, &mut buffer);
-    if input.failed.is_some() {
+    let Ok(count) = read_argument(rt, 1, &mut buffer) else {
         return;
-    }
-    let n = input.count;
-    let sheet = &buffer[..n];
+    };
+    let sheet = &buffer[..count];
     answer_input(rt, Lent { sheet, langs });
 }
 
@@ -171,10 +134,8 @@ fn main(rt: HostRuntime) {
         return;
     }
     let mut langs = [0u8; LANGS_ROOM];
-    let input = read_langs(&rt, &mut langs);
-    if input.failed.is_some() {
+    let Ok(count) = read_langs(&rt, &mut langs) else {
         return;
-    }
-    let n = input.count;
-    answer_under(&rt, &langs[..n]);
+    };
+    answer_under(&rt, &langs[..count]);
 }

@@ -15,11 +15,9 @@ use text::reading::{LANGS_ROOM, arg_count, read_argument, refuse_argument, write
 // Runs the script that an argument names, on a sheet under a list of languages.
 fn run_script<R: Env + Files + Print + Eprint>(rt: &R, lent: Lent, i: usize) {
     let mut script = [0u8; 65537];
-    let input = read_argument(rt, i, &mut script);
-    if input.failed.is_some() {
+    let Ok(n) = read_argument(rt, i, &mut script) else {
         return;
-    }
-    let n = input.count;
+    };
     if n > 65536 {
         refuse_argument(rt, i, "longer than 65536 bytes");
         return;
@@ -33,11 +31,9 @@ fn run_script<R: Env + Files + Print + Eprint>(rt: &R, lent: Lent, i: usize) {
 // Runs the script that argument j names on the sheet that argument i names, under a list of languages.
 fn run_sheet<R: Env + Files + Print + Eprint>(rt: &R, langs: &[u8], i: usize, j: usize) {
     let mut buffer = io::large_buffer();
-    let input = read_argument(rt, i, &mut buffer);
-    if input.failed.is_some() {
+    let Ok(n) = read_argument(rt, i, &mut buffer) else {
         return;
-    }
-    let n = input.count;
+    };
     let sheet = &buffer[..n];
     run_script(rt, Lent { sheet, langs }, j);
 }
@@ -45,11 +41,9 @@ fn run_sheet<R: Env + Files + Print + Eprint>(rt: &R, langs: &[u8], i: usize, j:
 // The same, under the list that argument h names.
 fn run_triple<R: Env + Files + Print + Eprint>(rt: &R, h: usize, i: usize, j: usize) {
     let mut langs = [0u8; LANGS_ROOM];
-    let input = read_argument(rt, h, &mut langs);
-    if input.failed.is_some() {
+    let Ok(n) = read_argument(rt, h, &mut langs) else {
         return;
-    }
-    let n = input.count;
+    };
     run_sheet(rt, &langs[..n], i, j);
 }
 

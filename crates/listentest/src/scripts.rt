@@ -1,87 +1,73 @@
 // A script's steps, each answered with a line.
-use crate::steps::{Step, WordList, step_of};
+use crate::steps::{Step, TestStep, WordList, step_of};
 use console::Lent;
 use console::answers::put_words;
 use console::bench::{ANSWER_ROOM, Answered, obey, opened};
-use listener::refusals::refusal_number;
-use listener::{Answer, Listing, STATE_OBJECTS, Setting, State};
-use text::lines::{line_end, part, said};
+use listener::{Refusal, Setting, State};
+use text::lines::{part, said};
 use text::output::write_output;
-use text::writing::{put_number, put_text};
+use text::writing::Text;
 
-// As in `tracks 3` or `refused 32`.
-fn put_outcome(answer: &mut [u8], listing: Listing) -> usize {
-    let told = listing.answer;
-    match told {
-        Answer::Done => {
-            let count = put_text(answer, 0, b"tracks ");
-            put_number(answer, count, listing.entries)
+// As in `tracks 3 of 5 : 0 1 5 65535 65535`, or `refused 32 of ..`.
+fn put_listing(text: &mut Text, listing: Result<u64, Refusal>, words: &[u16]) {
+    match listing {
+        Ok(entries) => {
+            text.text(b"tracks ");
+            text.number(entries);
         }
-        Answer::Refused(refusal) => {
-            let count = put_text(answer, 0, b"refused ");
-            put_number(answer, count, refusal_number(refusal) as u64)
+        Err(refusal) => {
+            text.text(b"refused ");
+            text.number(u64::from(u16::from(refusal)));
         }
     }
-}
-
-// As in `tracks 3 of 5 : 0 1 5 65535 65535`.
-fn put_words_of(answer: &mut [u8], listing: Listing, words: &[u16]) -> usize {
-    let mut count = put_outcome(answer, listing);
-    count = put_text(answer, count, b" of ");
-    count = put_number(answer, count, words.len() as u64);
-    count = put_text(answer, count, b" :");
-    count = put_words(answer, count, words);
-    put_text(answer, count, b"\n")
-}
-
-// Lists into lent words, and writes the answer with all of them.
-fn list_words(lent: Lent, state: State, words: &mut [u16], answer: &mut [u8]) -> usize {
-    let listing = state.list(lent.sheet, lent.langs, words);
-    put_words_of(answer, listing, words)
+    text.text(b" of ");
+    text.number(words.len() as u64);
+    text.text(b" :");
+    put_words(text, words);
+    text.text(b"\n");
 }
 
 // Lists into the first n words of a buffer of 64.
-fn list_into(lent: Lent, state: State, n: usize, answer: &mut [u8]) -> usize {
+fn list_into(text: &mut Text, lent: Lent, state: State, n: usize) {
     let mut buffer = [65535u16; 64];
-    let words: &mut [u16] = &mut buffer;
-    if n <= words.len() {
-        list_words(lent, state, &mut words[..n], answer)
-    } else {
-        put_text(answer, 0, b"?\n")
+    match buffer.get_mut(..n) {
+        Some(words) => {
+            let listing = state.list(lent.sheet, lent.langs, words);
+            put_listing(text, listing, words);
+        }
+        None => text.text(b"?\n"),
     }
-}
-
-// The state with another programme.
-fn put_programme(state: State, p: u16, answer: &mut [u8]) -> Answered {
-    let count = put_text(answer, 0, b"put\n");
-    let objects = state.objects;
-    let next = State {
-        programme: p,
-        objects,
-    };
-    Answered { state: next, count }
 }
 
 // The state with another setting for an object.
-fn put_object(state: State, o: u16, x: Setting, answer: &mut [u8]) -> Answered {
-    let i = o as usize;
-    if i < STATE_OBJECTS {
-        let count = put_text(answer, 0, b"put\n");
-        let mut next = state;
-        next.objects[i] = x;
-        Answered { state: next, count }
-    } else {
-        let count = put_text(answer, 0, b"?\n");
-        Answered { state, count }
+fn put_object(text: &mut Text, state: State, o: u16, x: Setting) -> State {
+    let mut next = state;
+    match next.objects.get_mut(usize::from(o)) {
+        Some(setting) => {
+            *setting = x;
+            text.text(b"put\n");
+        }
+        None => text.text(b"?\n"),
     }
+    next
 }
 
-// As in `lent 3`; the state stays.
-fn put_lent(state: State, list: WordList, answer: &mut [u8]) -> Answered {
-    let mut count = put_text(answer, 0, b"lent ");
-    count = put_number(answer, count, (list.count / 2) as u64);
-    count = put_text(answer, count, b"\n");
-    Answered { state, count }
+// Answers a test's own step, and gives the state after it.
+fn take_test(text: &mut Text, lent: Lent, state: State, step: TestStep) -> State {
+    match step {
+        TestStep::List(n) => list_into(text, lent, state, usize::from(n)),
+        TestStep::PutObject(o, x) => return put_object(text, state, o, x),
+        TestStep::PutProgramme(programme) => {
+            text.text(b"put\n");
+            return State { programme, ..state };
+        }
+        TestStep::Lend(list) => {
+            text.text(b"lent ");
+            text.number((list.as_bytes().len() / 2) as u64);
+            text.text(b"\n");
+        }
+    }
+    state
 }
 
 // Answers a step, and gives the state after it.
@@ -89,67 +75,48 @@ fn take(lent: Lent, state: State, step: Step, answer: &mut [u8; ANSWER_ROOM]) ->
     match step {
         Step::Bench(command) => obey(lent, state, command, answer),
         Step::Open => opened(lent, answer),
-        Step::List(n) => {
-            let count = list_into(lent, state, n as usize, answer);
-            Answered { state, count }
+        Step::Test(test) => {
+            let mut text = Text::new(answer);
+            let next = take_test(&mut text, lent, state, test);
+            Answered {
+                state: next,
+                count: text.count,
+            }
         }
-        Step::PutProgramme(p) => put_programme(state, p, answer),
-        Step::PutObject(o, x) => put_object(state, o, x, answer),
-        Step::Lend(list) => put_lent(state, list, answer),
-    }
-}
-
-// Writes an answer, and gives the state.
-fn written<R: Print + Eprint>(rt: &R, answered: Answered, answer: &[u8]) -> State {
-    write_output(rt, part(answer, 0, answered.count));
-    answered.state
-}
-
-// Opens the sheet.
-fn begin<R: Print + Eprint>(rt: &R, lent: Lent, answer: &mut [u8; ANSWER_ROOM]) -> State {
-    let answered = opened(lent, answer);
-    written(rt, answered, answer)
-}
-
-// The list of the script's own that holds after a step: the last that it lent, if it lent one.
-fn list_after(list: Option<WordList>, step: Step) -> Option<WordList> {
-    match step {
-        Step::Lend(words) => Some(words),
-        _ => list,
     }
 }
 
 // Answers a step under the script's own list, or else under the one that the opening was lent.
-fn answer_step<R: Print + Eprint>(
-    rt: &R,
+fn take_under(
     lent: Lent,
-    list: Option<WordList>,
+    list: &Option<WordList>,
     state: State,
     step: Step,
     answer: &mut [u8; ANSWER_ROOM],
-) -> State {
-    let answered = match list {
+) -> Answered {
+    match list {
         None => take(lent, state, step, answer),
         Some(words) => {
             let sheet = lent.sheet;
-            let langs = part(&words.bytes, 0, words.count);
+            let langs = words.as_bytes();
             take(Lent { sheet, langs }, state, step, answer)
         }
-    };
-    written(rt, answered, answer)
+    }
 }
 
-// Opens the sheet, then answers each line of the script; what follows its last newline is a line too, unless it is empty.
+// Opens the sheet, then answers each line of the script; what follows its last newline is a line too, unless it is empty. The script's own
+// list is the last that it lent.
 pub fn answer_script<R: Print + Eprint>(rt: &R, lent: Lent, script: &[u8]) {
     let mut answer = [0u8; ANSWER_ROOM];
-    let mut state = begin(rt, lent, &mut answer);
+    let mut answered = opened(lent, &mut answer);
+    write_output(rt, part(&answer, 0, answered.count));
     let mut list = None;
-    let mut at = 0;
-    while at < script.len() {
-        let end = line_end(script, at);
-        let step = step_of(said(part(script, at, end)));
-        list = list_after(list, step);
-        state = answer_step(rt, lent, list, state, step, &mut answer);
-        at = end + 1;
+    for line in script.split_inclusive(|byte| *byte == b'\n') {
+        let step = step_of(said(line.strip_suffix(b"\n").unwrap_or(line)));
+        if let Step::Test(TestStep::Lend(words)) = step {
+            list = Some(words);
+        }
+        answered = take_under(lent, &list, answered.state, step, &mut answer);
+        write_output(rt, part(&answer, 0, answered.count));
     }
 }

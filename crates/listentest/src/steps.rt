@@ -4,20 +4,28 @@
 // `lend` lends another list of languages to all that follows in the script: 0 to 64 words.
 use console::commands::{Command, command_of};
 use listener::Setting;
-use text::lines::{field, field_count, same};
-use text::numbers::{GainValue, Number, Tenths, gain_value_of, number_of, tenths_of};
+use text::lines::{field, field_count, part, same};
+use text::numbers::{gain_value_of, number_of, tenths_of};
 
-// A list of words as bytes, high byte first, and how many bytes it has.
+// The most words that `lend` lends.
+const MOST_WORDS: usize = 64;
+
+// A list of words as bytes, high byte first. They stand in the step itself, so that no heap is used.
 #[derive(Clone, Copy)]
 pub struct WordList {
-    pub bytes: [u8; 128],
-    pub count: usize,
+    bytes: [u8; 2 * MOST_WORDS],
+    count: usize,
 }
 
+impl WordList {
+    pub fn as_bytes(&self) -> &[u8] {
+        part(&self.bytes, 0, self.count)
+    }
+}
+
+// A step that only a test takes.
 #[derive(Clone, Copy)]
-pub enum Step {
-    Bench(Command),
-    Open,
+pub enum TestStep {
     // Lists into so many words.
     List(u16),
     PutProgramme(u16),
@@ -25,115 +33,77 @@ pub enum Step {
     Lend(WordList),
 }
 
+#[derive(Clone, Copy)]
+pub enum Step {
+    // A command, or a line that is none.
+    Bench(Option<Command>),
+    Open,
+    Test(TestStep),
+}
+
 // The step that a line says.
 pub fn step_of(line: &[u8]) -> Step {
     let n = field_count(line);
-    if same(field(line, 0), b"put") {
-        return put_step(line, n);
+    if n == 1 && same(field(line, 0), b"open") {
+        return Step::Open;
     }
-    if same(field(line, 0), b"lend") {
-        return lend_step(line, n);
-    }
-    if n == 1 {
-        if same(field(line, 0), b"open") {
-            return Step::Open;
-        }
-    }
-    if n == 2 {
-        if same(field(line, 0), b"list") {
-            return list_step(number_of(field(line, 1)));
-        }
-    }
-    Step::Bench(command_of(line))
-}
-
-// `list N`.
-fn list_step(n: Number) -> Step {
-    match n {
-        Number::Nothing => Step::Bench(Command::Unknown),
-        Number::Of(k) => Step::List(k),
+    match test_step_of(line, n) {
+        Some(step) => Step::Test(step),
+        None => Step::Bench(command_of(line)),
     }
 }
 
-// `lend W W W ..`.
-fn lend_step(line: &[u8], n: usize) -> Step {
-    if n > 65 {
-        return Step::Bench(Command::Unknown);
+fn test_step_of(line: &[u8], n: usize) -> Option<TestStep> {
+    let name = field(line, 0);
+    if n == 2 && same(name, b"list") {
+        return Some(TestStep::List(number_of(field(line, 1))?));
     }
-    let mut bytes = [0u8; 128];
-    let mut k: u8 = 0;
-    while (k as usize) + 1 < n {
-        let Number::Of(w) = number_of(field(line, k + 1)) else {
-            return Step::Bench(Command::Unknown);
-        };
-        let at = 2 * (k as usize);
-        bytes[at] = (w / 256) as u8;
-        bytes[at + 1] = (w % 256) as u8;
-        k += 1;
+    if same(name, b"lend") {
+        return Some(TestStep::Lend(words_of(line, n)?));
     }
-    let count = 2 * (k as usize);
-    Step::Lend(WordList { bytes, count })
+    if n == 3 && same(name, b"put") && same(field(line, 1), b"programme") {
+        return Some(TestStep::PutProgramme(number_of(field(line, 2))?));
+    }
+    if n == 6 && same(name, b"put") && same(field(line, 1), b"object") {
+        let o = number_of(field(line, 2))?;
+        return Some(TestStep::PutObject(o, setting_of(line)?));
+    }
+    None
 }
 
-// `put programme N`, or `put object I active V W`.
-fn put_step(line: &[u8], n: usize) -> Step {
-    if n == 3 {
-        if same(field(line, 1), b"programme") {
-            return programme_step(number_of(field(line, 2)));
-        }
+// The words behind the first field.
+fn words_of(line: &[u8], n: usize) -> Option<WordList> {
+    let mut bytes = [0u8; 2 * MOST_WORDS];
+    let words = n.checked_sub(1)?;
+    if words > MOST_WORDS {
+        return None;
     }
-    if n == 6 {
-        if same(field(line, 1), b"object") {
-            return object_step(line, number_of(field(line, 2)));
-        }
+    for k in 0..words {
+        let word = number_of(field(line, k as u8 + 1))?.to_be_bytes();
+        bytes[2 * k] = word[0];
+        bytes[2 * k + 1] = word[1];
     }
-    Step::Bench(Command::Unknown)
-}
-
-fn programme_step(n: Number) -> Step {
-    match n {
-        Number::Nothing => Step::Bench(Command::Unknown),
-        Number::Of(k) => Step::PutProgramme(k),
-    }
+    Some(WordList {
+        bytes,
+        count: 2 * words,
+    })
 }
 
 // The object's setting stands in the fields from 3 on.
-fn object_step(line: &[u8], n: Number) -> Step {
-    let Number::Of(k) = n else {
-        return Step::Bench(Command::Unknown);
-    };
-    if same(field(line, 3), b"active") {
-        return setting_step(
-            k,
-            true,
-            gain_value_of(field(line, 4)),
-            tenths_of(field(line, 5)),
-        );
-    }
-    if same(field(line, 3), b"inactive") {
-        return setting_step(
-            k,
-            false,
-            gain_value_of(field(line, 4)),
-            tenths_of(field(line, 5)),
-        );
-    }
-    Step::Bench(Command::Unknown)
+fn setting_of(line: &[u8]) -> Option<Setting> {
+    Some(Setting {
+        active: activity_of(field(line, 3))?,
+        gain: gain_value_of(field(line, 4))?,
+        offset: tenths_of(field(line, 5))?,
+    })
 }
 
-fn setting_step(k: u16, active: bool, gain: GainValue, offset: Tenths) -> Step {
-    let GainValue::Of(g) = gain else {
-        return Step::Bench(Command::Unknown);
-    };
-    let Tenths::Of(z) = offset else {
-        return Step::Bench(Command::Unknown);
-    };
-    Step::PutObject(
-        k,
-        Setting {
-            active,
-            gain: g,
-            offset: z,
-        },
-    )
+fn activity_of(name: &[u8]) -> Option<bool> {
+    if same(name, b"active") {
+        return Some(true);
+    }
+    if same(name, b"inactive") {
+        return Some(false);
+    }
+    None
 }

@@ -3,9 +3,9 @@ use Prim.Native.Nat.{ℕ, suc, ◌+◌, ◌≤◌, ◌<◌}
 use mathlib.Core.Path.{◌≡◌, refl, sym, ap, ◌∙◌}
 use mathlib.Core.List.{List, [], ◌∷◌, ◌++◌}
 use native.Mathlib.Omega.{arith}
-use borrow.Author.Tests.{lt-ltb, le-ltb}
-use lib.ListN.{length, drop, set, length-append, get_or, length-set, drop_of_length-le}
-use lib.Seq.{sets, sets-eq, drop-cons, take-append_seam}
+use borrow.Author.Tests.{lt-ltb}
+use lib.ListN.{length, drop, set, length-append, length-set}
+use lib.Seq.{sets, sets-eq, take-append_seam}
 use Rattle.io.specs.Counts.{IsPrefixLen}
 use Rattle.text.specs.Bytes.{join}
 use Rattle.text.specs.declared.writing.Text.{Text}
@@ -17,38 +17,10 @@ unfolding put_text
 put_append b [] t = refl
 put_append b (x ∷ s) t = put_append (put_byte b x) s t
 
--- texts one behind the other
-pub put_join : (b : Buffer) (s : List ℕ) (ss : List (List ℕ)) → put_text b (join (s ∷ ss)) ≡ put_text (put_text b s) (join ss)
-unfolding join
-put_join b s ss = put_append b s (join ss)
-
-pub put_none : (b : Buffer) → put_text b (join []) ≡ b
-unfolding join put_text
-put_none b = refl
-
--- nothing is put behind the end
-pub no_room : (bytes : List ℕ) (n : ℕ) (t : List ℕ) → length bytes ≤ n → put_text (buffer bytes n) t ≡ buffer bytes n
-unfolding put_text put_byte
-no_room bytes n [] h = refl
-no_room bytes n (x ∷ t) h = rw (le-ltb n (length bytes) h) (no_room bytes n t h)
-
 -- a byte that has room
 pub put_room : (bytes : List ℕ) (n x : ℕ) (t : List ℕ) → n < length bytes → put_text (buffer bytes n) (x ∷ t) ≡ put_text (buffer (set bytes n x) (n + 1)) t
 unfolding put_text put_byte
 put_room bytes n x t h = rw (lt-ltb n (length bytes) h) refl
-
--- a byte of a text is put
-module _ (bytes : List ℕ) (n : ℕ) (t : List ℕ) (i : ℕ) (b : Buffer) where
-  pub put_step : n < length bytes → i < length t → put_text (buffer bytes n) (drop i t) ≡ b
-      → put_text (buffer (set bytes n (get_or t i 0)) (n + 1)) (drop (i + 1) t) ≡ b
-  put_step h l e =
-      let next : i + 1 ≡ suc i = omega arith in
-      rw next (sym (put_room bytes n (get_or t i 0) (drop (suc i) t) h) ∙ (rw (drop-cons t i 0 l) at e))
-
-  -- and all of it
-  pub put_end : length t ≤ i → put_text (buffer bytes n) (drop i t) ≡ b → buffer bytes n ≡ b
-  unfolding put_text
-  put_end l e = rw (drop_of_length-le t l) at e
 
 -- a text that has room
 put_sets : (t bytes : List ℕ) (n : ℕ) → n + length t ≤ length bytes → put_text (buffer bytes n) t ≡ buffer (sets bytes n t) (n + length t)

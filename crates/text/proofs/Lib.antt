@@ -1,4 +1,3 @@
-mod BoolLaws
 mod NumberLaws
 pub mod BytesLaws
 pub mod DecimalLaws

@@ -1,26 +1,18 @@
 -- What the digits read so far say of a text's number. Assumes nothing.
 use Prim.Native.Nat.{ℕ, ◌+◌, ◌*◌, ◌-◌, ◌≤◌, ◌<◌}
 use mathlib.Core.Path.{◌≡◌, refl, sym}
-use mathlib.Core.Bool.{true, false, cond, ◌&&◌}
+use mathlib.Core.Bool.{true, false}
 use mathlib.Core.List.{List, [], ◌∷◌}
 use native.Mathlib.Numerals.{add-one}
 use native.Mathlib.Omega.{arith}
-use borrow.Author.Tests.{leb-true, lt-ltb, le-leb, lt-leb}
-use lib.Dec.{leb, ltb}
+use borrow.Author.Tests.{lt-ltb, le-leb, lt-leb}
 use lib.ListN.{length, get_or, drop}
 use lib.Seq.{drop-cons, drop-length}
-use Rattle.std.specs.Prelude.{Some, None}
-use Rattle.std.proofs.lemmas.Option.{cond_some}
-use Rattle.text.proofs.BoolLaws.{and_both, and_false}
+use Rattle.std.proofs.Math.Bool.{and-false}
 use Rattle.std.specs.Char.{is_ascii_digit}
 use Rattle.text.specs.Numbers.{is_digit, digits, value, is_number}
 
--- a digit's range
-pub digit_range : (b : ℕ) → is_digit b ≡ true → (48 ≤ b) × (b ≤ 57)
-unfolding is_digit
-digit_range b h = let r = and_both (leb 48 b) (leb b 57) h in (leb-true 48 b r.0, leb-true b 57 r.1)
-
--- it is what the library's test says
+-- a digit, as the library tests it
 pub digit_test : (b : ℕ) → is_digit b ≡ is_ascii_digit b
 unfolding is_digit
 digit_test b = refl
@@ -49,7 +41,7 @@ module _ (s : List ℕ) (i n : ℕ) (h : i < length s) (v : value n (drop i s) �
   unfolding is_number
   above most l =
       let m : most < value 0 s = omega (arith, l, valued, grows (drop (i + 1) s) (n * 10 + (get_or s i 0 - 48))) in
-      simp (lt-leb (value 0 s) most m, and_false)
+      simp (lt-leb (value 0 s) most m, and-false)
 
 pub empty : (most : ℕ) (s : List ℕ) → length s ≡ 0 → is_number most s ≡ false
 unfolding is_number
@@ -64,11 +56,3 @@ finished most s i n e h l v d =
     let w : n ≡ value 0 s = rw z at v in
     let f : true ≡ digits s = rw z at d in
     (simp (lt-ltb 0 (length s) h, sym f, sym w, le-leb n most l), w)
-
--- and it is small
-pub number_small : (most n : ℕ) (s : List ℕ) → cond (is_number most s) (Some (value 0 s)) None ≡ Some n → n ≤ most
-unfolding is_number
-number_small most n s h =
-    let p = cond_some (is_number most s) (value 0 s) n h in
-    let l = leb-true (value 0 s) most (and_both (ltb 0 (length s) && digits s) (leb (value 0 s) most) p.0).1 in
-    rw p.1 at l

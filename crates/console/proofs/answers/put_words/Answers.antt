@@ -1,15 +1,13 @@
-use Rattle.console.proofs.PutLaws.{word_put, words_put}
-use native.Mathlib.Omega.{arith}
-use mathlib.Core.Path.{◌∙◌}
+use Rattle.text.proofs.BufferLaws.{appends_none, appends_more}
+use Rattle.console.specs.Answers.{words_text}
+use Rattle.console.proofs.PutLaws.{words_more}
 use Rattle.console.proofs.answers.put_words.Goals as goal
 
-pub loop-i-preserved : goal.loop-i-preserved
-loop-i-preserved c =
-    let inv = c.loop-i.invariant in (
-      omega arith,
-      c.put_number-n.auto.buffer ∙ c.put_text-space.auto.buffer ∙ inv.1,
-      word_put _ _ _ _ _ _ c.loop-i-test.true c.put_text-space.ensures c.put_number-n.ensures inv.2,
-    )
+pub loop-word-init : goal.loop-word-init
+unfolding words_text
+loop-word-init c = appends_none c.args.text.now
 
-pub returns : goal.returns
-returns c = words_put _ _ _ _ c.loop-i-test.false c.loop-i.invariant.2
+pub loop-word-preserved : goal.loop-word-preserved
+loop-word-preserved c =
+    rw (words_more c.args.words.now c.loop-word.word-index c.loop-word-test.true)
+    (appends_more _ _ _ _ _ c.loop-word.invariant (appends_more _ _ _ _ _ c.text.ensures (rw c.from.ensures at c.number.ensures)))

@@ -1,28 +1,32 @@
 -- By the number of fields. Assumes nothing.
 use mathlib.Core.Path.{sym, ◌∙◌}
+use borrow.Author.Rules.{rules}
+use Rattle.console.specs.Commands.{command_of, with_number, with_value}
 use Rattle.console.proofs.CommandLaws.{one_field, two_fields, three_fields, other_fields}
-use Rattle.console.specs.Commands.{command_of}
 use Rattle.console.proofs.commands.command_of.Goals as goal
 
-pub returns-then-n-eq1 : goal.returns-then-n-eq1
+pub returns-in-1 : goal.returns-in-1
 unfolding command_of
-returns-then-n-eq1 c =
-    let n = sym c.field_count-n.ensures ∙ c.if-n-eq1.true in
-    rw (c.alone.ensures, c.field.ensures) (one_field _ n)
+returns-in-1 c = rw (one_field _ (sym c.field_count.ensures ∙ c.in-1.is), ← c.field.ensures) c.alone.ensures
 
-pub returns-then-n-eq2 : goal.returns-then-n-eq2
-unfolding command_of
-returns-then-n-eq2 c =
-    let n = sym c.field_count-n.ensures ∙ c.if-n-eq2.true in
-    rw (c.with_number.ensures, c.number_of.ensures, c.field-then-n-eq2.ensures, c.field-then-n-eq2-2.ensures) (two_fields _ n)
+pub returns-in_err-number_of-in-2 : goal.returns-in_err-number_of-in-2
+unfolding command_of with_number
+returns-in_err-number_of-in-2 c = rw (two_fields _ (sym c.field_count.ensures ∙ c.in-2.is), ← c.field-in-2-2.ensures, ← c.number_of.ensures, c.in_err-number_of-in-2.was) (search rules)
 
-pub returns-then-n-eq3 : goal.returns-then-n-eq3
+pub returns-in_ok-number_of-in-2 : goal.returns-in_ok-number_of-in-2
 unfolding command_of
-returns-then-n-eq3 c =
-    let n = sym c.field_count-n.ensures ∙ c.if-n-eq3.true in
-    rw (c.with_value.ensures, c.number_of-then-n-eq3.ensures, c.field-then-n-eq3.ensures, c.field-then-n-eq3-2.ensures, c.field-then-n-eq3-3.ensures) (three_fields _ n)
+returns-in_ok-number_of-in-2 c =
+    rw (two_fields _ (sym c.field_count.ensures ∙ c.in-2.is), ← c.field-in-2.ensures, ← c.field-in-2-2.ensures, ← c.number_of.ensures, c.in_ok-number_of-in-2.was) c.with_number.ensures
 
-pub returns : goal.returns
+pub returns-in_err-number_of-in-3 : goal.returns-in_err-number_of-in-3
+unfolding command_of with_value
+returns-in_err-number_of-in-3 c = rw (three_fields _ (sym c.field_count.ensures ∙ c.in-3.is), ← c.field-in-3-2.ensures, ← c.number_of-in-3.ensures, c.in_err-number_of-in-3.was) (search rules)
+
+pub returns-in_ok-number_of-in-3 : goal.returns-in_ok-number_of-in-3
 unfolding command_of
-returns c =
-    let n = c.field_count-n.ensures in other_fields _ (λ e. c.if-n-eq1.false (n ∙ e)) (λ e. c.if-n-eq2.false (n ∙ e)) (λ e. c.if-n-eq3.false (n ∙ e))
+returns-in_ok-number_of-in-3 c =
+    rw (three_fields _ (sym c.field_count.ensures ∙ c.in-3.is), ← c.field-in-3.ensures, ← c.field-in-3-2.ensures, ← c.field-in-3-3.ensures, ← c.number_of-in-3.ensures, c.in_ok-number_of-in-3.was) c.with_value.ensures
+
+pub returns-in_default : goal.returns-in_default
+unfolding command_of
+returns-in_default c = let n = c.field_count.ensures in search (rules, other_fields)
