@@ -124,7 +124,7 @@ module _ {s : Sheet} {langs : List ℕ} {p n : ℕ} {words : List ℕ} (t : Told
       let h : ltb (length buffer) (2 * start_number s p) ≡ false = rw (← t.number) (le-ltb _ _ l) in
       rw (done_room s langs p (length buffer) t.answer, h) (ap Ok t.number, ap (λ (x : List ℕ). sets buffer 0 (bytes_of x)) t.written)
 
--- a refusal's number negated is no overflow, and is handed on as it is
+-- a refusal's number negated is handed on as it is
 pub number_negated : (q : Refusal) → to_z w32 (of_z w32 (pos 0 -ℤ to_z w32 (of_z w32 (pos (refusal_number q))))) ≡ negated (refusal_number q)
 unfolding negated
 number_negated NotAccepted = refl
@@ -136,17 +136,6 @@ number_negated NoRange = refl
 number_negated Outside = refl
 number_negated TooFewWords = refl
 
-pub code_kept : (q : Refusal) → to_z w32 (of_z w32 (negated (refusal_number q))) ≡ negated (refusal_number q)
-unfolding negated
-code_kept NotAccepted = refl
-code_kept Unsound = refl
-code_kept NoProgramme = refl
-code_kept NotIncluded = refl
-code_kept NotInGroup = refl
-code_kept NoRange = refl
-code_kept Outside = refl
-code_kept TooFewWords = refl
-
--- and a small number
+-- so is a small number
 pub number_kept : (n : ℕ) → n ≤ host_words → to_z w32 (of_z w32 (pos n)) ≡ pos n
 number_kept n l = to_z-of_z {w = w32} (record { sfits = omega arith })

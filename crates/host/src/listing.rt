@@ -1,21 +1,13 @@
 // Host players call "the listing of a programme's start, directly on byte slices and numbers".
 ghost use Rattle.std.specs.Prelude.{◌*◌, ◌≤◌, length, ◌≡◌};
 ghost use Rattle.std.proofs.lemmas.List.Edits.{sets};
-ghost use Rattle.host.specs.HostListing.{bytes_of, host_answer, host_buffered, host_listed, negated};
+ghost use Rattle.host.specs.HostListing.{bytes_of, host_answer, host_buffered, host_listed};
 ghost use Rattle.listener.specs.Listing.{listed_by};
 ghost use Rattle.listener.specs.StartListing.{start_number};
-ghost use Rattle.listener.specs.State.{refusal_number};
 ghost use Rattle.sheet.specs.Words.{sheet_of, words};
 
 use listener::writing::list_start;
 use listener::{MOST_ENTRIES, Refusal};
-
-// "the refusal's number negated"
-fn refusal_code(refusal: Refusal) -> i32
-    ensures { result ≡ negated (refusal_number refusal) }
-{
-    -i32::from(u16::from(refusal))
-}
 
 // Writes each word "as two bytes, high first", from the buffer's start.
 fn write_words(words: &[u16], buffer: &mut [u8])
@@ -60,6 +52,7 @@ pub extern "C" fn sheet_start_listing(
 {
     match write_listing(sheet, langs, programme, buffer) {
         Ok(entries) => entries as i32,
-        Err(refusal) => refusal_code(refusal),
+        // "the refusal's number negated"
+        Err(refusal) => -i32::from(u16::from(refusal)),
     }
 }

@@ -181,6 +181,7 @@ impl State {
     }
 
     // Stores a gain in an object, active or not.
+    // Two calls, as document 01 has them: what they share is in `value_answer` and `changed`.
     pub fn set_gain(self, s: &[u8], langs: &[u8], o: u16, gain: Gain) -> Reply
         ensures { result ≡ gain_set (sheet_of s.now) (words langs.now) self o gain }
     {

@@ -1,14 +1,11 @@
 -- The number, or the refusal's. Assumes nothing.
 use mathlib.Core.Path.{ap, ◌∙◌}
 use native.Mathlib.Omega.{arith}
-use lib.IntN.{ℤ}
 use lib.ListN.{length}
-use mir.Syntax.{w32}
-use mir.Val.{to_z, of_z}
 use Rattle.sheet.specs.Words.{sheet_of, words}
 use Rattle.listener.proofs.TakenLaws.{told_refusal, told_number}
 use Rattle.host.specs.HostListing.{answer_code, host_listed}
-use Rattle.host.proofs.HostLaws.{host_most, number_kept, code_kept}
+use Rattle.host.proofs.HostLaws.{host_most, number_kept, number_negated}
 use Rattle.host.proofs.listing.sheet_start_listing.Goals as goal
 
 pub overflow_cast-result : goal.overflow_cast-result
@@ -27,4 +24,4 @@ pub returns-in-Err : goal.returns-in-Err
 unfolding host_listed answer_code
 returns-in-Err c =
     let t = told_refusal _ _ _ c.write_listing.ensures.0 _ c.in-Err.is in
-    (rw t (ap (λ (z : ℤ). to_z w32 (of_z w32 z)) c.refusal_code.ensures ∙ code_kept c.in-Err.refusal), c.write_listing.ensures.1)
+    (rw (t, c.from-in-Err.ensures, c.from.ensures) (number_negated c.in-Err.refusal), c.write_listing.ensures.1)
