@@ -19,6 +19,7 @@ use tables::entry_counts::fewer_entries;
 use tables::marks::{clear, first_namers, mark_objects};
 
 // Whether two programmes have the same list at a position.
+#[tactic(auto, unfolding(crate::specs::steps::Passing::same_list))]
 fn same_list(s: &[u8], p: u16, q: u16, at: u8) -> bool
     requires { at < 8 }
     ensures { result ≡ same_list (sheet_of s.now) p q at }
@@ -122,6 +123,7 @@ fn leaders_from(
 }
 
 // Whether the content lists have, one with another, less than an entry for 32 objects. Nothing rests on this but time.
+#[tactic(auto, using(sheet::proofs::IndexLaws::product))]
 fn short_lists(s: &[u8]) -> bool {
     let o = count(s, OBJECTS);
     if o < 64 {

@@ -14,6 +14,7 @@ use sheet::layout::{count, field, number, offset};
 use tables::marks::mark_at;
 
 // The set that stands for a set.
+#[tactic(auto, unfolding(crate::specs::steps::Alike::representative), using(tables::proofs::TableLaws::told_by))]
 pub fn representative(alike: &[u16], v: u16) -> u16
     ensures { result ≡ representative alike.now v }
 {
@@ -22,6 +23,7 @@ pub fn representative(alike: &[u16], v: u16) -> u16
 
 // The first set with the words of v among the n sets of a span, of which 8 at most are tried; v where there is none. Section 7 begins at
 // `base`.
+#[tactic(auto, using(crate::proofs::PassLaws::sets_own))]
 fn first_alike(s: &[u8], base: u16, from: u16, n: u16, v: u16) -> u16
     ensures { (v < 65535 → result < 65535) × (base ≡ offset (sheet_of s.now) value_sets → sets_differ (sheet_of s.now) result v ≡ false) }
 {
@@ -34,6 +36,7 @@ fn first_alike(s: &[u8], base: u16, from: u16, n: u16, v: u16) -> u16
 }
 
 // The same with the span of the object that stands for the owner of v, the leader of its group.
+#[tactic(auto, using(crate::proofs::PassLaws::sets_own))]
 fn leader_alike(s: &[u8], base: u16, owners: &[u16], leaders: &[u16], v: u16) -> u16
     ensures { (v < 65535 → result < 65535) × (base ≡ offset (sheet_of s.now) value_sets → sets_differ (sheet_of s.now) result v ≡ false) }
 {

@@ -14,6 +14,7 @@ use sheet::layout::{count, field, number};
 use sheet::words::{word, word_count};
 
 // The object of the content that an entry of a content list names.
+#[tactic(auto, unfolding(crate::specs::steps::Entering::object_from))]
 pub fn object_from(s: &[u8], sections: SectionOffsets, from: u16, i: u16) -> u16
     ensures { result ≡ object_from (sheet_of s.now) sections from i }
 {

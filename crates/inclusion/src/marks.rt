@@ -5,6 +5,7 @@ ghost use Rattle.tables.specs.steps.Marks.{Standing};
 use tables::reads::look;
 
 // Writes `to` at a place where `from` stands.
+#[tactic(auto, using(crate::proofs::PassLaws::written))]
 pub fn change(table: &mut [u16], x: u16, from: u16, to: u16) -> Option<()>
     ensures { (length table.new ≡ length table.old) × (IsSome result → (x < length table.old) × (get_or table.old x 0 ≡ from) × Standing (λ z. cond (eqb x z) to (get_or table.old z 0)) table.new) }
 {
@@ -20,6 +21,7 @@ pub fn change(table: &mut [u16], x: u16, from: u16, to: u16) -> Option<()>
 }
 
 // What stands at a place, 0 past the end.
+#[tactic(auto, using(crate::proofs::PassLaws::looked))]
 pub fn at(table: &[u16], x: u16) -> u16
     ensures { result ≡ get_or table.now x 0 }
 {

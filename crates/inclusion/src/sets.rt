@@ -19,6 +19,7 @@ fn bytes_differ(s: &[u8], a: usize, b: usize) -> bool
 }
 
 // Whether two sets may differ in any of seven words, where section 7 begins at `base`. One past the sheet's end may.
+#[tactic(auto, using(crate::proofs::PassLaws::bytes_alike))]
 pub fn sets_differ(s: &[u8], base: u16, u: u16, v: u16) -> bool
     ensures { result ≡ false → base ≡ offset (sheet_of s.now) value_sets → sets_differ (sheet_of s.now) u v ≡ false }
 {

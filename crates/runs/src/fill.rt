@@ -35,6 +35,7 @@ pub fn fill_next<F: Fn(u16) -> bool>(s: &[u8], test: F, table: &mut [u16])
 }
 
 // Keeps an index as the least one of a key, and gives the one kept before.
+#[tactic(auto, using(tables::proofs::MarkLaws::set_standing))]
 fn keep(later: &mut [u16], e: u16, x: u16) -> u16
     requires { length later.old ≡ 65536 }
     ensures { (length later.new ≡ 65536) × (result ≡ get_or later.old e 0) × Standing (λ z. cond (eqb e z) x (get_or later.old z 0)) later.new }

@@ -33,6 +33,7 @@ fn run_begin(s: &[u8], kind: Naming, q: u16) -> u16
 }
 
 // The index after its last.
+#[tactic(auto, unfolding(crate::specs::steps::Coverage::run_end))]
 fn run_end(s: &[u8], kind: Naming, q: u16) -> u32
     ensures { result ≡ run_end (sheet_of s.now) kind q }
 {
@@ -81,6 +82,7 @@ fn tally<F: Fn(u16) -> u32>(n: u16, edge: F, table: &mut [u16])
 }
 
 // A count that goes on so many times.
+#[tactic(auto, unfolding(crate::specs::steps::Marks::repeat))]
 fn counted_on(c: u16, times: u32) -> u16
     ensures { result ≡ repeat counted_once times c }
 {

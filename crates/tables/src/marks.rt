@@ -24,6 +24,7 @@ pub fn counted_once(c: u16) -> u16
 }
 
 // What stands at a place becomes what the mark makes of it.
+#[tactic(auto, using(crate::proofs::MarkLaws::mark_standing, crate::proofs::MarkLaws::past_standing))]
 pub fn mark_at<F: Fn(u16) -> u16>(table: &mut [u16], x: u32, mark: F)
     requires { x < length table.old → F.pre mark (get_or table.old x 0) }
     ensures { (f : ℕ → ℕ) → NumbersBelow 65536 (F.post mark) f → Filled (λ z. cond (eqb x z) (f (get_or table.old z 0)) (get_or table.old z 0)) table.old table.new }
@@ -86,6 +87,7 @@ pub fn mark_objects<F: Fn(u16) -> u16>(s: &[u8], p: u16, mark: F, table: &mut [u
 }
 
 // Marks the entries of the list at a position of a record.
+#[tactic(auto, unfolding(profile::specs::Relations::times, sheet::specs::Layout::entry, sheet::specs::Layout::reference))]
 fn mark_entries<F: Fn(u16) -> u16>(
     s: &[u8],
     section: u8,
@@ -129,6 +131,7 @@ pub fn mark_items<F: Fn(u16) -> u16>(s: &[u8], kind: Naming, q: u16, mark: F, ta
 }
 
 // The same, with nothing to do for a record that names none, as most.
+#[tactic(auto, unfolding(crate::specs::steps::Marks::times_by, profile::specs::Counting::how_many, crate::specs::steps::Marks::repeat))]
 pub fn mark_some<F: Fn(u16) -> u16>(s: &[u8], kind: Naming, q: u16, mark: F, table: &mut [u16])
     requires { F.IsAlwaysCallable mark }
     ensures { (f : ℕ → ℕ) → NumbersBelow 65536 (F.post mark) f → MarkedTimes f (times_by (sheet_of s.now) kind q) table.old table.new }
@@ -158,6 +161,7 @@ pub fn first_namers(s: &[u8], kind: Naming, table: &mut [u16])
 }
 
 // Writes 0 everywhere.
+#[tactic(auto, using(crate::proofs::MarkLaws::nought))]
 pub fn clear(table: &mut [u16])
     ensures { Filled (λ x. 0) table.old table.new }
 {

@@ -8,6 +8,7 @@ use relations::entries::how_many_entries;
 use sheet::fields::{COMPLEMENT_LIST, OBJECTS};
 
 // Whether an object is flagged.
+#[tactic(auto, unfolding(crate::specs::steps::Members::flagged))]
 pub fn flagged(table: &[u16], o: u16) -> bool
     ensures { result ≡ flagged table.now o }
 {

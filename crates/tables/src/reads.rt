@@ -21,6 +21,7 @@ pub fn look(table: &[u16], x: u16) -> Option<u16>
 }
 
 // "A top object is one that a content names."
+#[tactic(auto, using(crate::proofs::TableLaws::standing_read, crate::proofs::TableLaws::top_counted))]
 pub fn top_by(s: &[u8], tops: &[u16], o: u16) -> bool
     ensures { Tops (sheet_of s.now) tops.now → result ≡ top (sheet_of s.now) o }
 {
@@ -31,6 +32,7 @@ pub fn top_by(s: &[u8], tops: &[u16], o: u16) -> bool
 }
 
 // Some complement list names the object.
+#[tactic(auto, using(crate::proofs::TableLaws::standing_read, crate::proofs::TableLaws::complement_counted))]
 pub fn complement_by(s: &[u8], complements: &[u16], o: u16) -> bool
     ensures { Complemented (sheet_of s.now) complements.now → result ≡ complement (sheet_of s.now) o }
 {
@@ -42,6 +44,7 @@ pub fn complement_by(s: &[u8], complements: &[u16], o: u16) -> bool
 
 impl<'a> ObjectTables<'a> {
     // A top object in no group.
+    #[tactic(auto, unfolding(profile::specs::Relations::lone))]
     pub fn lone_by(&self, s: &[u8], o: u16) -> bool
         ensures { ObjectsTabled (sheet_of s.now) self.now → result ≡ lone (sheet_of s.now) o }
     {
@@ -50,6 +53,7 @@ impl<'a> ObjectTables<'a> {
 }
 
 // What stands for a number: one more than it, or 0 for none. The tables are fixed memory of words, and no `Option` stands in a word.
+#[tactic(auto, using(crate::proofs::TableLaws::told_by))]
 fn told(d: u16, c: u16) -> u16
     ensures { result ≡ told d c }
 {
@@ -57,6 +61,7 @@ fn told(d: u16, c: u16) -> u16
 }
 
 // The leader of an object's group.
+#[tactic(auto, using(crate::proofs::TableLaws::standing_read, crate::proofs::TableLaws::leader_told))]
 pub fn leader_by(s: &[u8], leaders: &[u16], o: u16) -> u16
     ensures { Leaders (sheet_of s.now) leaders.now → result ≡ leader_of (sheet_of s.now) o }
 {
@@ -67,6 +72,7 @@ pub fn leader_by(s: &[u8], leaders: &[u16], o: u16) -> u16
 }
 
 // The object whose set v is, the number of objects where there is none.
+#[tactic(auto, using(crate::proofs::TableLaws::standing_read, crate::proofs::TableLaws::owner_told))]
 pub fn owner_by(s: &[u8], owners: &[u16], v: u16) -> u16
     ensures { Owners (sheet_of s.now) owners.now → result ≡ owner (sheet_of s.now) v }
 {
@@ -86,6 +92,7 @@ impl<'a> GroupTables<'a> {
 }
 
 // "A programme includes the top objects of its contents"
+#[tactic(auto, using(crate::proofs::TableLaws::standing_read, crate::proofs::TableLaws::flag))]
 pub fn included_by(s: &[u8], p: u16, marks: &[u16], o: u16) -> bool
     ensures { Included (sheet_of s.now) p marks.now → result ≡ includes (sheet_of s.now) p o }
 {

@@ -15,6 +15,7 @@ use sheet::layout::count;
 
 impl<'a> ObjectTables<'a> {
     // What an object adds to the counted tracks.
+    #[tactic(auto, unfolding(profile::specs::Relations::share, relations::specs::steps::Sizes::largest_member))]
     pub fn share(&self, s: &[u8], o: u16) -> u32
         ensures { ObjectsTabled (sheet_of s.now) self.now → result ≡ share (sheet_of s.now) o }
     {
@@ -47,6 +48,7 @@ impl<'a> ObjectTables<'a> {
     }
 
     // "groups plus top objects in no group"
+    #[tactic(auto, unfolding(profile::specs::Relations::units, relations::specs::steps::Sizes::lone_objects))]
     pub fn units(&self, s: &[u8]) -> u32
         ensures { ObjectsTabled (sheet_of s.now) self.now → result ≡ units (sheet_of s.now) }
     {
