@@ -4,7 +4,7 @@ use mathlib.Core.Path.{◌≡◌, refl, sym, ap, ◌∙◌}
 use mathlib.Core.Bool.{Bool, true, false, cond}
 use mathlib.Core.List.{List, []}
 use native.Mathlib.Omega.{arith}
-use borrow.Author.Tests.{lt-ltb, le-ltb, ltb-true, ltb-false}
+use borrow.Author.Tests.{lt-ltb, le-ltb}
 use lib.Dec.{ltb}
 use lib.ListN.{length, get_or}
 use Rattle.std.proofs.Common.{Some, None}
@@ -19,17 +19,12 @@ use Rattle.profile.proofs.CountingLaws.{finds_none, lowest_at, lowest_none}
 use Rattle.profile.proofs.VerdictLaws.{position_number}
 use Rattle.grouping.specs.steps.Groups.{GroupsApart}
 use Rattle.checker.proofs.GroupLaws.{groups_apart}
-use Rattle.tables.specs.declared.Naming.TheVariants.{ContentObjects, Children, SetSpans}
 use Rattle.tables.specs.declared.Naming.{Naming}
-use Rattle.tables.specs.steps.Marks.{Standing, counted_once, repeat, named_by, first_by}
-use Rattle.tables.specs.steps.Right as tables
-use Rattle.tables.specs.steps.Right.{counted}
-use Rattle.tables.proofs.TableLaws.{namings_added, span_namings}
+use Rattle.tables.specs.steps.Marks.{Standing, first_by}
 use Rattle.checker.specs.declared.Table.{Table}
 use Rattle.checker.specs.declared.Table.TheVariants.{Nothing, Named, Spanned, Listed, Tops, Complements, Owners, Leaders, Lacking, Languages, Repeats, Strays, Ordinals}
-use Rattle.checker.specs.steps.Rows.{KindsFrom, rule_verdict}
+use Rattle.checker.specs.steps.Rows.{rule_verdict}
 use Rattle.checker.specs.steps.Tables.{Right}
-use Rattle.checker.proofs.SubjectLaws.{rest_ended}
 
 -- what is lent only where a test holds was not lent
 pub none_lent : {A : Type 0} (b : Bool) (x : A) → cond b (Some x) None ≡ None → b ≡ false
@@ -64,16 +59,6 @@ module _ (s : Sheet) (langs : List ℕ) where
   rule_none rule none =
       let e : lowest (section_broken s langs rule) section_count ≡ section_count = lowest_none (section_broken s langs rule) section_count none in
       rw e refl
-
-  pub rule_ended : (rule section row : ℕ) → KindsFrom rule section row → row ≡ 0 → ((j : ℕ) → j < section → section_broken s langs rule j ≡ false) → Accepted ≡ rule_verdict s langs rule
-  rule_ended rule section row rest z before = rule_none rule each
-    where
-      each : (j : ℕ) → j < section_count → section_broken s langs rule j ≡ false
-      each j h =
-          (elim (ltb j section) as (λ b. ltb j section ≡ b → section_broken s langs rule j ≡ false) [
-            | true ↦ λ e. before j (ltb-true j section e)
-            | false ↦ λ e. rest_ended s langs rule section row rest z j (ltb-false j section e) h
-          ]) refl
 
   -- a rule that gives no acceptance is broken, and one that does is not
   pub broken_one : (rule : ℕ) (r : ℕ) (p : Place) → Broken r p ≡ rule_verdict s langs rule → rule_broken s langs rule ≡ true
@@ -127,25 +112,6 @@ module _ (s : Sheet) (langs : List ℕ) where
   empty_right Strays = λ x l. absurd (omega arith)
   empty_right Ordinals = λ x l. absurd (omega arith)
 
-module _ (s : Sheet) where
-  module _ (t₀ : List ℕ) (noughts : Standing (λ x. 0) t₀) where
-    pub counts_made : (kind : Naming) (t : List ℕ) → length t ≡ length t₀ → Standing (λ x. repeat counted_once (named_by s kind x) (get_or t₀ x 0)) t
-        → Standing (λ x. counted (named_by s kind x)) t
-    unfolding counted
-    counts_made kind t e h x l = h x l ∙ ap (repeat counted_once (named_by s kind x)) (noughts x (rw e at l))
-
-    pub spans_made : (t : List ℕ) → length t ≡ length t₀ → Standing (λ x. repeat counted_once (named_by s SetSpans x) (get_or t₀ x 0)) t → tables.Spanned s t
-    spans_made t e h x l = counts_made SetSpans t e h x l ∙ ap counted (span_namings s x)
-
-    pub named_made : (t u : List ℕ) → length t ≡ length t₀ → length u ≡ length t
-        → Standing (λ x. repeat counted_once (named_by s ContentObjects x) (get_or t₀ x 0)) t
-        → Standing (λ x. repeat counted_once (named_by s Children x) (get_or t x 0)) u → tables.Named s u
-    named_made t u d e h k x l =
-        let m : x < length t = rw e at l in
-        k x l
-        ∙ ap (repeat counted_once (named_by s Children x)) (h x m ∙ ap (repeat counted_once (named_by s ContentObjects x)) (noughts x (rw d at m)))
-        ∙ namings_added s x
-
-    pub firsts_made : (kind : Naming) (t : List ℕ) → length t ≡ length t₀ → Standing (λ x. first_by s kind x (get_or t₀ x 0)) t
-        → Standing (λ x. first_by s kind x 0) t
-    firsts_made kind t e h x l = h x l ∙ ap (first_by s kind x) (noughts x (rw e at l))
+-- the first that names each, where a table had noughts
+pub firsts_made : (s : Sheet) (t₀ t : List ℕ) → Standing (λ x. 0) t₀ → length t ≡ length t₀ → (kind : Naming) → Standing (λ x. first_by s kind x (get_or t₀ x 0)) t → Standing (λ x. first_by s kind x 0) t
+firsts_made s t₀ t noughts e kind h x l = h x l ∙ ap (first_by s kind x) (noughts x (rw e at l))

@@ -1,26 +1,27 @@
 -- The rows of the code are the rules of the list, and the subjects by their digits. Assumes nothing.
-use Prim.Native.Nat.{zero-le, ℕ, zero, suc, ◌+◌, ◌-◌, ◌/◌, ◌%◌, ◌<◌, ◌≤◌}
-use mathlib.Core.List.{List}
-use mathlib.Core.Path.{◌≡◌, refl, sym, ap, ◌∙◌}
-use mathlib.Core.Bool.{true, false, ◌&&◌}
-use native.Mathlib.Omega.{arith}
+use Rattle.std.proofs.Common.{ℕ, zero, suc, ◌<◌, ◌≡◌, refl, sym, ap, ◌∙◌, true, false, List, [], ◌∷◌, get_or, replicate, eqb, arith}
 use mathlib.Core.Logic.{⊎_elim}
 use native.Mathlib.Nat.{eq-or-lt_of_le, le_of_suc-le-suc}
-use lib.Dec.{eqb, ltb}
-use borrow.Author.Tests.{eqb-true, le-ltb, ne_eqb}
+use Rattle.std.proofs.lemmas.List.{get_or-replicate}
+use borrow.Author.Tests.{eqb-true, ne_eqb}
 use Rattle.sheet.specs.Words.{Sheet}
+use Rattle.sheet.specs.Layout.{count}
 use Rattle.profile.specs.Counting.{every}
-use Rattle.profile.specs.Verdict.{section_count, rules, rule_count, rule_at, number_at, position, breaks, subject_kind, subjects, broken_record, section_broken}
-use Rattle.profile.proofs.BoolLaws.{and_both}
+use Rattle.profile.specs.Verdict.{section_count, rules, rule_count, rule_at, number_at, position, breaks, subject_kind, subjects}
 use Rattle.profile.proofs.CountingLaws.{lowest_none}
 use Rattle.profile.proofs.ListLaws.{every_at}
-use Rattle.checker.specs.declared.RuleRow.{RuleRow}
-use Rattle.checker.specs.steps.Rows.{KindsFrom, packed, digit, row_of, row_at, subjects_of}
+use Rattle.checker.specs.declared.SubjectKind.{SubjectKind}
+use Rattle.checker.specs.declared.SubjectKind.TheVariants.{Nothing, Itself, Records}
+use Rattle.checker.specs.steps.Rows.{KindsOf, kind_number, subjects_of}
 
 -- the code's number of rules
 pub rule_count_lem : rule_count ≡ 25
 unfolding rule_count rules
 rule_count_lem = refl
+
+-- the code's numbers of the rules
+abbrev pub numbers : List ℕ
+numbers = 33 ∷ 1 ∷ 2 ∷ 3 ∷ 4 ∷ 5 ∷ 6 ∷ 7 ∷ 8 ∷ 9 ∷ 10 ∷ 11 ∷ 12 ∷ 13 ∷ 14 ∷ 15 ∷ 16 ∷ 17 ∷ 18 ∷ 19 ∷ 20 ∷ 21 ∷ 22 ∷ 23 ∷ 24 ∷ []
 
 -- n is the number of none of the first k rules: what a `match` on these numbers leaves to its last arm
 abbrev pub NoneOf : ℕ → ℕ → Type 0
@@ -42,64 +43,32 @@ no_rule s langs n section k none =
     let e : position n ≡ rule_count = unfold position in lowest_none (λ i. eqb (number_at i) n) rule_count (other_numbers n rule_count none) in
     ap (λ (i : ℕ). (rule_at i).test s langs section k) (sym e)
 
--- a digit that is neither 1 nor 2 stands for no subject
-pub other_kind : (s : Sheet) (section kind : ℕ) → (kind ≡ 1 → ⊥) → (kind ≡ 2 → ⊥) → 0 ≡ subjects_of s section kind
-unfolding subjects_of
-other_kind s section zero a b = refl
-other_kind s section (suc zero) a b = absurd (a refl)
-other_kind s section (suc (suc zero)) a b = absurd (b refl)
-other_kind s section (suc (suc (suc kind))) a b = refl
+-- the numbers are those of the list of rules: one test over the whole list
+numbers_right : every (λ i. eqb (get_or numbers i 0) (number_at i)) rule_count ≡ true
+unfolding every number_at rule_at rule_count rules
+numbers_right = refl
 
--- the rows are those of the list of rules: one test over the whole list
-rows_right : every (λ i. eqb (row_at i).0 (number_at i) && every (λ j. eqb (digit (row_at i).1 j) (subject_kind (number_at i) j)) section_count) rule_count ≡ true
-unfolding every row_at row_of packed digit subject_kind
-rows_right = refl
+pub numbered : (i : ℕ) → i < rule_count → get_or numbers i 0 ≡ number_at i
+numbered i l = eqb-true _ _ (every_at (λ j. eqb (get_or numbers j 0) (number_at j)) rule_count i numbers_right l)
 
-module _ (i : ℕ) (l : i < rule_count) where
-  row_right : (eqb (row_at i).0 (number_at i) ≡ true) × (every (λ j. eqb (digit (row_at i).1 j) (subject_kind (number_at i) j)) section_count ≡ true)
-  row_right =
-      and_both _ _ (every_at (λ k. eqb (row_at k).0 (number_at k) && every (λ j. eqb (digit (row_at k).1 j) (subject_kind (number_at k) j)) section_count) rule_count i rows_right l)
+-- kinds that are right at each section
+pub kinds_right : (rule : ℕ) (kinds : List SubjectKind) → every (λ j. eqb (kind_number (get_or kinds j Nothing)) (subject_kind rule j)) section_count ≡ true → KindsOf rule kinds
+kinds_right rule kinds e i l = eqb-true _ _ (every_at (λ j. eqb (kind_number (get_or kinds j Nothing)) (subject_kind rule j)) section_count i e l)
 
-  row_number : (row_at i).0 ≡ number_at i
-  row_number = eqb-true _ _ row_right.0
+-- a number that is no rule's has no subjects
+pub no_kinds : (n : ℕ) → NoneOf n rule_count → KindsOf n (replicate 8 Nothing)
+unfolding subject_kind kind_number
+no_kinds n none i l =
+    let e : position n ≡ rule_count = unfold position in lowest_none (λ i. eqb (number_at i) n) rule_count (other_numbers n rule_count none) in
+    ap kind_number (get_or-replicate 8 i Nothing Nothing (omega (arith, l))) ∙ sym (ap (λ (k : ℕ). get_or (rule_at k).subject_kinds i 0) e)
 
-  row_kinds : KindsFrom (row_at i).0 0 (row_at i).1
-  row_kinds j m =
-      let z : 0 + j ≡ j = omega arith in
-      rw (row_number, z) (eqb-true _ _ (every_at (λ k. eqb (digit (row_at i).1 k) (subject_kind (number_at i) k)) section_count j row_right.1 (omega (arith, m))))
+-- how many subjects a section has, by their kind
+by_kind : (s : Sheet) (section : ℕ) (kind : SubjectKind) → subjects_of s section kind ≡ get_or (0 ∷ 1 ∷ count s section ∷ []) (kind_number kind) 0
+unfolding subjects_of kind_number
+by_kind s section Nothing = refl
+by_kind s section Itself = refl
+by_kind s section Records = refl
 
-  -- of a row that was read
-  module _ (row : RuleRow) (e : row ≡ row_at i) where
-    pub row_is : row.0 ≡ number_at i
-    row_is = ap (λ (r : RuleRow). r.0) e ∙ row_number
-
-    pub row_has : KindsFrom row.0 0 row.1
-    row_has = rw e row_kinds
-
-no_digit : (i : ℕ) → digit 0 i ≡ 0
-unfolding digit
-no_digit zero = refl
-no_digit (suc i) = no_digit i
-
-module _ (rule section row : ℕ) (rest : KindsFrom rule section row) where
-  pub rest_kind : section < section_count → row % 4 ≡ subject_kind rule section
-  unfolding digit
-  rest_kind l = let z : section + 0 ≡ section = omega arith in rest 0 (omega arith) ∙ ap (λ (n : ℕ). subject_kind rule n) z
-
-  pub rest_next : KindsFrom rule (section + 1) (row / 4)
-  unfolding digit
-  rest_next i l = let z : section + suc i ≡ section + 1 + i = omega arith in rest (suc i) (omega arith) ∙ ap (λ (n : ℕ). subject_kind rule n) z
-
--- how many subjects a section has, by its digit
-pub all_subjects : (s : Sheet) (rule section kind n : ℕ) → kind ≡ subject_kind rule section → n ≡ subjects_of s section kind → n ≡ subjects s rule section
-unfolding subjects subjects_of
-all_subjects s rule section kind n e f = f ∙ ap (subjects_of s section) e
-
--- no section from one on has subjects where nothing is left of the row
-pub rest_ended : (s : Sheet) (langs : List ℕ) (rule section row : ℕ) → KindsFrom rule section row → row ≡ 0 → (j : ℕ) → section ≤ j → j < section_count → section_broken s langs rule j ≡ false
-unfolding section_broken subjects
-rest_ended s langs rule section row rest z j l h =
-    let e : section + (j - section) ≡ j = omega arith in
-    let f : subject_kind rule j ≡ 0 = sym (ap (λ (n : ℕ). subject_kind rule n) e) ∙ sym (rest (j - section) (omega arith)) ∙ ap (λ (n : ℕ). digit n (j - section)) z ∙ no_digit (j - section) in
-    let g : subjects s rule j ≡ 0 = rw f refl in
-    ap (ltb (broken_record s langs rule j)) g ∙ le-ltb (broken_record s langs rule j) 0 zero-le
+pub all_subjects : (s : Sheet) (rule section : ℕ) (kind : SubjectKind) (n : ℕ) → kind_number kind ≡ subject_kind rule section → n ≡ subjects_of s section kind → n ≡ subjects s rule section
+unfolding subjects
+all_subjects s rule section kind n e f = f ∙ by_kind s section kind ∙ ap (λ (k : ℕ). get_or (0 ∷ 1 ∷ count s section ∷ []) k 0) e

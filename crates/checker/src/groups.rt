@@ -47,7 +47,7 @@ pub fn grouped_programmes(s: &[u8], from: u16) -> u16
     if groups_of_two(s) {
         return n;
     }
-    let m = count(s, OBJECTS) as usize;
+    let m = usize::from(count(s, OBJECTS));
     if 2048 < m {
         return from;
     }
@@ -69,7 +69,7 @@ pub fn grouped_programmes(s: &[u8], from: u16) -> u16
 pub fn kept_programmes(s: &[u8]) -> u16
     ensures { GroupsApart (sheet_of s.now) → KeptBelow (sheet_of s.now) result }
 {
-    let m = count(s, OBJECTS) as usize;
+    let m = usize::from(count(s, OBJECTS));
     if 2048 < m {
         return 0;
     }

@@ -65,7 +65,7 @@ pub fn second_table(rule: u8, section: u8) -> Table
 fn ordinal_at(s: &[u8], y: u16) -> u16
     ensures { result ≡ ordinal_at (sheet_of s.now) y }
 {
-    field(s, TRACKS, reference(s, y as u32), TRACK_ORDINAL)
+    field(s, TRACKS, reference(s, u32::from(y)), TRACK_ORDINAL)
 }
 
 // Fills a table of noughts.
@@ -85,10 +85,10 @@ pub fn fill_table(s: &[u8], langs: &Languages, which: Table, table: &mut [u16])
         Table::Owners => first_namers(s, Naming::SetSpans, table),
         Table::Leaders => first_namers(s, Naming::Complements, table),
         Table::Lacking(target) => {
-            fill_next(s, |y| lacks(s, target, reference(s, y as u32)), table);
+            fill_next(s, |y| lacks(s, target, reference(s, u32::from(y))), table);
         }
-        Table::Languages => fill_next(s, |y| !langs.good(reference(s, y as u32)), table),
-        Table::Repeats => fill_repeats(s, |y| reference(s, y as u32), table),
+        Table::Languages => fill_next(s, |y| !langs.good(reference(s, u32::from(y))), table),
+        Table::Repeats => fill_repeats(s, |y| reference(s, u32::from(y)), table),
         Table::Strays => fill_next(s, |y| stray_after(s, y), table),
         Table::Ordinals => fill_repeats(s, |y| ordinal_at(s, y), table),
     }

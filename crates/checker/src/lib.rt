@@ -6,12 +6,32 @@ pub mod lent;
 pub mod search;
 pub mod subjects;
 
-// A rule: its number, and its subjects in one number, a digit to the base 4 for each section from 0 on: 0 no subject, 1 the header or
-// section itself, 2 each record.
+// What of a section a rule can have as its place.
 #[derive(Clone, Copy)]
-pub struct RuleRow(pub u8, pub u16);
+pub enum SubjectKind {
+    Nothing,
+    // the header or section itself
+    Itself,
+    // each record
+    Records,
+}
 
-// A table that a rule is lent, to find by one look what it would search for.
+// A rule that is asked of records of a section. The number is document 01's, and a caller may ask with any.
+#[derive(Clone, Copy)]
+pub struct Asked {
+    pub rule: u8,
+    pub section: u8,
+}
+
+// The tables that a rule is lent.
+#[derive(Clone, Copy)]
+pub struct LentTables<'a> {
+    pub first: &'a [u16],
+    pub second: &'a [u16],
+}
+
+// A table that a rule is lent, to find by one look what it would search for. Contracts say by its variant what stands in a table, which a
+// closure that fills it would have no name for.
 #[derive(Clone, Copy)]
 pub enum Table {
     // none

@@ -1,80 +1,97 @@
 // The search for the first broken rule, "within one rule the lowest section, then the lowest record".
-ghost use Rattle.std.specs.Prelude.{length, ◌≡◌};
+ghost use Rattle.std.specs.Prelude.{◌^◌, ◌<◌, length, true, ◌≡◌};
 ghost use Rattle.checker.specs.Checked.{checked};
 ghost use Rattle.checker.specs.steps.Kept.{KeptBelow, Unbroken};
-ghost use Rattle.checker.specs.steps.Rows.{KindsFrom, rule_verdict};
+ghost use Rattle.checker.specs.steps.Rows.{rule_verdict};
 ghost use Rattle.checker.specs.steps.Tables.{Right, first_table, second_table};
 ghost use Rattle.grouping.specs.steps.Groups.{GroupsApart};
 ghost use Rattle.profile.specs.Counting.{lowest};
 ghost use Rattle.profile.specs.Verdict.{breaks, verdict};
+ghost use Rattle.profile.specs.declared.Verdict.TheVariants.{Accepted};
 ghost use Rattle.sheet.specs.Words.{sheet_of};
 
-use crate::RuleRow;
 use crate::groups::{grouped_programmes, kept_programmes};
 use crate::lent::{fill_table, first_table, second_table};
-use crate::subjects::{RULE_COUNT, breaks, rule_at, subjects};
+use crate::subjects::{RULES, breaks, subject_kinds};
+use crate::{Asked, LentTables};
 use languages::list::Languages;
 use languages::table::LANGUAGE_WORDS;
 use profile::places::place_at;
 use profile::{Place, Verdict};
-use screen::screening::{passes, small_passes};
+use screen::screening::{large_passes, middling_passes, small_passes};
 use sheet::fields::{OBJECTS, PROGRAMMES};
 use sheet::layout::count;
+use std::ops::Range;
 use tables::entry_counts::{fewer_entries, list_entries};
 
-// The lowest of the first n records of a section that breaks a rule, or n, by the tables that the rule is lent, where those before `from`
-// keep it.
+// The lowest record of a section before the last of some that breaks the rule asked, or their end, by the tables that the rule is lent,
+// where those before the first of them keep it.
 fn broken_below(
     s: &[u8],
     langs: &Languages,
-    first: &[u16],
-    second: &[u16],
+    tables: &LentTables,
     marks: &mut [u16],
-    rule: u8,
-    section: u8,
-    from: u16,
-    n: u16,
+    asked: Asked,
+    records: Range<u16>,
 ) -> u16
-    requires { Unbroken (sheet_of s.now) langs.now rule section from }
-    ensures { (length marks.new ≡ length marks.old) × (Right (sheet_of s.now) langs.now (first_table rule section) first.now → Right (sheet_of s.now) langs.now (second_table rule section) second.now → result ≡ lowest (breaks (sheet_of s.now) langs.now rule section) n) }
+    requires { Unbroken (sheet_of s.now) langs.now asked.rule asked.section records.start }
+    ensures { (length marks.new ≡ length marks.old) × (Right (sheet_of s.now) langs.now (first_table asked.rule asked.section) tables.now.first.now → Right (sheet_of s.now) langs.now (second_table asked.rule asked.section) tables.now.second.now → result ≡ lowest (breaks (sheet_of s.now) langs.now asked.rule asked.section) records.end) }
 {
-    let mut k: u16 = from;
-    while k < n {
-        if breaks(s, langs, first, second, marks, rule, section, k) {
+    for k in records.start..records.end {
+        if breaks(s, langs, tables, marks, asked, k) {
             return k;
         }
-        k += 1;
     }
-    n
+    records.end
 }
 
-// The same with empty tables: each relation is found by its own search.
-fn plainly(s: &[u8], langs: &Languages, rule: u8, section: u8, n: u16) -> u16
-    ensures { result ≡ lowest (breaks (sheet_of s.now) langs.now rule section) n }
+// The lowest of n records that does, with empty tables: each relation is found by its own search.
+fn plainly(s: &[u8], langs: &Languages, asked: Asked, n: u16) -> u16
+    ensures { result ≡ lowest (breaks (sheet_of s.now) langs.now asked.rule asked.section) n }
 {
-    let none: [u16; 1] = [0];
-    let mut marks: [u16; 1] = [0];
-    let t = &none[..0];
-    broken_below(s, langs, t, t, &mut marks[..0], rule, section, 0, n)
+    let tables = LentTables {
+        first: &[],
+        second: &[],
+    };
+    broken_below(s, langs, &tables, &mut [], asked, 0..n)
 }
 
-// With tables over the records of a section, where the records before `from` keep the rule. No sheet has more contents, or objects, than
-// a table has words.
-fn by_tables(s: &[u8], langs: &Languages, rule: u8, section: u8, from: u16, n: u16) -> u16
-    requires { Unbroken (sheet_of s.now) langs.now rule section from }
-    ensures { result ≡ lowest (breaks (sheet_of s.now) langs.now rule section) n }
+// The same with filled tables of so many places, and marks for so many objects.
+fn tabled_below<const FIRST: usize, const SECOND: usize, const MARKS: usize>(
+    s: &[u8],
+    langs: &Languages,
+    asked: Asked,
+    records: Range<u16>,
+) -> u16
+    requires { Unbroken (sheet_of s.now) langs.now asked.rule asked.section records.start × (FIRST < 2 ^ 62) × (SECOND < 2 ^ 62) × (MARKS < 2 ^ 62) }
+    ensures { result ≡ lowest (breaks (sheet_of s.now) langs.now asked.rule asked.section) records.end }
 {
-    if n <= from {
-        return n;
+    let mut first = [0; FIRST];
+    fill_table(s, langs, first_table(asked.rule, asked.section), &mut first);
+    let mut second = [0; SECOND];
+    fill_table(
+        s,
+        langs,
+        second_table(asked.rule, asked.section),
+        &mut second,
+    );
+    let mut marks = [0; MARKS];
+    let tables = LentTables {
+        first: &first,
+        second: &second,
+    };
+    broken_below(s, langs, &tables, &mut marks, asked, records)
+}
+
+// With tables over the records of a section. No sheet has more contents, or objects, than a table has words.
+fn by_tables(s: &[u8], langs: &Languages, asked: Asked, records: Range<u16>) -> u16
+    requires { Unbroken (sheet_of s.now) langs.now asked.rule asked.section records.start }
+    ensures { result ≡ lowest (breaks (sheet_of s.now) langs.now asked.rule asked.section) records.end }
+{
+    if records.end <= records.start {
+        return records.end;
     }
-    let mut first: [u16; 6552] = [0; 6552];
-    fill_table(s, langs, first_table(rule, section), &mut first);
-    let mut second: [u16; 2048] = [0; 2048];
-    fill_table(s, langs, second_table(rule, section), &mut second);
-    let mut marks: [u16; 2048] = [0; 2048];
-    broken_below(
-        s, langs, &first, &second, &mut marks, rule, section, from, n,
-    )
+    tabled_below::<6552, 2048, 2048>(s, langs, asked, records)
 }
 
 // A table over the references is worth its filling where the lists of a section's records have more entries together.
@@ -89,81 +106,59 @@ fn crowded(s: &[u8], section: u8) -> bool {
 }
 
 // With tables over the references, where the section's lists have many entries. No sheet has more references.
-fn by_lists(s: &[u8], langs: &Languages, rule: u8, section: u8, n: u16) -> u16
-    ensures { result ≡ lowest (breaks (sheet_of s.now) langs.now rule section) n }
+fn by_lists(s: &[u8], langs: &Languages, asked: Asked, n: u16) -> u16
+    ensures { result ≡ lowest (breaks (sheet_of s.now) langs.now asked.rule asked.section) n }
 {
-    if !crowded(s, section) {
-        return plainly(s, langs, rule, section, n);
+    if !crowded(s, asked.section) {
+        return plainly(s, langs, asked, n);
     }
-    let mut first: [u16; 32768] = [0; 32768];
-    fill_table(s, langs, first_table(rule, section), &mut first);
-    let mut second: [u16; 32768] = [0; 32768];
-    fill_table(s, langs, second_table(rule, section), &mut second);
-    let mut marks: [u16; 1] = [0];
-    broken_below(
-        s,
-        langs,
-        &first,
-        &second,
-        &mut marks[..0],
-        rule,
-        section,
-        0,
-        n,
-    )
+    tabled_below::<32768, 32768, 0>(s, langs, asked, 0..n)
 }
 
 // The lowest of n records of a section that breaks a rule, or n. A small sheet is searched without tables. Rules that go the same
 // way stand in several arms, so that the compiler keeps the functions with large tables apart (docs/SPEED.md). The programmes before
 // `kept` keep rules 21 and 22, and rule 21 comes where rule 19 is kept.
-fn lowest_broken(s: &[u8], langs: &Languages, rule: u8, section: u8, n: u16, kept: u16) -> u16
-    requires { KeptBelow (sheet_of s.now) kept × (rule ≡ 21 → GroupsApart (sheet_of s.now)) }
-    ensures { result ≡ lowest (breaks (sheet_of s.now) langs.now rule section) n }
+fn lowest_broken(s: &[u8], langs: &Languages, asked: Asked, n: u16, kept: u16) -> u16
+    requires { KeptBelow (sheet_of s.now) kept × (asked.rule ≡ 21 → GroupsApart (sheet_of s.now)) }
+    ensures { result ≡ lowest (breaks (sheet_of s.now) langs.now asked.rule asked.section) n }
 {
     if (s.len() < 1024) | (n == 0) {
-        return plainly(s, langs, rule, section, n);
+        return plainly(s, langs, asked, n);
     }
-    match rule {
-        5 | 6 | 9 | 14 => by_lists(s, langs, rule, section, n),
+    match asked.rule {
+        5 | 6 | 9 | 14 => by_lists(s, langs, asked, n),
         11 | 12 => {
-            if (rule == 12) & (section == PROGRAMMES) {
-                return by_lists(s, langs, rule, section, n);
+            if (asked.rule == 12) & (asked.section == PROGRAMMES) {
+                return by_lists(s, langs, asked, n);
             }
-            by_tables(s, langs, rule, section, 0, n)
+            by_tables(s, langs, asked, 0..n)
         }
-        15 | 19 => by_tables(s, langs, rule, section, 0, n),
+        15 | 19 => by_tables(s, langs, asked, 0..n),
         17 | 18 => {
-            if section == OBJECTS {
-                return plainly(s, langs, rule, section, n);
+            if asked.section == OBJECTS {
+                return plainly(s, langs, asked, n);
             }
-            by_tables(s, langs, rule, section, 0, n)
+            by_tables(s, langs, asked, 0..n)
         }
-        21 => by_tables(s, langs, rule, section, grouped_programmes(s, kept), n),
-        22 => by_tables(s, langs, rule, section, kept, n),
-        23 | 24 => by_tables(s, langs, rule, section, 0, n),
-        _ => plainly(s, langs, rule, section, n),
+        21 => by_tables(s, langs, asked, grouped_programmes(s, kept)..n),
+        22 => by_tables(s, langs, asked, kept..n),
+        23 | 24 => by_tables(s, langs, asked, 0..n),
+        _ => plainly(s, langs, asked, n),
     }
 }
 
 // The verdict by one rule alone.
-fn rule_verdict(s: &[u8], langs: &Languages, row: RuleRow, kept: u16) -> Verdict
-    requires { KeptBelow (sheet_of s.now) kept × (row.0 ≡ 21 → GroupsApart (sheet_of s.now)) × KindsFrom row.0 0 row.1 }
-    ensures { result ≡ rule_verdict (sheet_of s.now) langs.now row.0 }
+fn rule_verdict(s: &[u8], langs: &Languages, rule: u8, kept: u16) -> Verdict
+    requires { KeptBelow (sheet_of s.now) kept × (rule ≡ 21 → GroupsApart (sheet_of s.now)) }
+    ensures { result ≡ rule_verdict (sheet_of s.now) langs.now rule }
 {
-    let rule = row.0;
-    let mut kinds = row.1;
-    let mut section: u8 = 0;
-    while section < 8 {
-        if kinds == 0 {
-            return Verdict::Accepted;
-        }
-        let n = subjects(s, section, kinds % 4);
-        let k = lowest_broken(s, langs, rule, section, n, kept);
+    let kinds = subject_kinds(rule);
+    for section in 0..8 {
+        let n = kinds[usize::from(section)].how_many(s, section);
+        let k = lowest_broken(s, langs, Asked { rule, section }, n, kept);
         if k < n {
             return Verdict::Broken(rule, place_at(section, k));
         }
-        kinds = kinds / 4;
-        section += 1;
     }
     Verdict::Accepted
 }
@@ -184,38 +179,51 @@ fn first_broken(sheet: &[u8], langs: &Languages) -> Verdict
     ensures { result ≡ verdict (sheet_of sheet.now) langs.now }
 {
     let mut kept: u16 = 0;
-    let mut i: usize = 0;
-    while i < RULE_COUNT {
-        let row = rule_at(i);
-        kept = kept_at(sheet, row.0, kept);
-        let v = rule_verdict(sheet, langs, row, kept);
-        match v {
+    for rule in RULES {
+        kept = kept_at(sheet, rule, kept);
+        match rule_verdict(sheet, langs, rule, kept) {
             Verdict::Broken(rule, place) => return Verdict::Broken(rule, place),
             Verdict::Accepted => {}
         }
-        i += 1;
     }
     Verdict::Accepted
 }
 
-// The verdict by the screening with the tables of a number, or else by the search. It is called from several places, so that the compiler
+// How large the tables of the screening are.
+#[derive(Clone, Copy)]
+enum TableSize {
+    Middling,
+    Large,
+}
+
+// Whether the sheet passes the screening with them.
+fn sized_passes(sheet: &[u8], langs: &Languages, size: TableSize) -> bool
+    ensures { result ≡ true → verdict (sheet_of sheet.now) langs.now ≡ Accepted }
+{
+    match size {
+        TableSize::Middling => middling_passes(sheet, langs),
+        TableSize::Large => large_passes(sheet, langs),
+    }
+}
+
+// The verdict by the screening with tables of a size, or else by the search. It is called from several places, so that the compiler
 // keeps it apart and a small sheet does not pay for its tables (docs/SPEED.md).
-fn sized_verdict(sheet: &[u8], langs: &Languages, tables: u8) -> Verdict
+fn sized_verdict(sheet: &[u8], langs: &Languages, size: TableSize) -> Verdict
     ensures { result ≡ verdict (sheet_of sheet.now) langs.now }
 {
-    if passes(sheet, langs, tables) {
+    if sized_passes(sheet, langs, size) {
         return Verdict::Accepted;
     }
     first_broken(sheet, langs)
 }
 
 // The same with a table of the list.
-fn tabled_verdict(sheet: &[u8], langs: &Languages, tables: u8) -> Verdict
+fn tabled_verdict(sheet: &[u8], langs: &Languages, size: TableSize) -> Verdict
     ensures { result ≡ verdict (sheet_of sheet.now) langs.now }
 {
     let mut table = [0u8; LANGUAGE_WORDS];
     let tabled = langs.tabled(&mut table);
-    sized_verdict(sheet, &tabled, tables)
+    sized_verdict(sheet, &tabled, size)
 }
 
 // The verdict under a list that rises. Most accepted sheets pass the screening; for the others the search decides. A large sheet may have
@@ -228,13 +236,17 @@ fn verdict_under(sheet: &[u8], langs: &Languages) -> Verdict
         if small_passes(sheet, langs) {
             return Verdict::Accepted;
         }
-        return sized_verdict(sheet, langs, 0);
+        return first_broken(sheet, langs);
     }
-    let tables = if n < 16384 { 1 } else { 2 };
+    let size = if n < 16384 {
+        TableSize::Middling
+    } else {
+        TableSize::Large
+    };
     if (n < 4096) | !langs.is_short_for(n) {
-        return sized_verdict(sheet, langs, tables);
+        return sized_verdict(sheet, langs, size);
     }
-    tabled_verdict(sheet, langs, tables)
+    tabled_verdict(sheet, langs, size)
 }
 
 // The verdict on a lent sheet, under a lent list of languages: any length, any bytes.

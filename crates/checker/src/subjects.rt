@@ -1,11 +1,12 @@
 // The rules in checking order, which records can be a rule's place, and whether one breaks it.
 ghost use Rattle.std.specs.Prelude.{length, ◌≡◌};
 ghost use Rattle.checker.specs.steps.Tables.{Right, first_table, second_table};
-ghost use Rattle.checker.specs.steps.Rows.{row_at, subjects_of};
+ghost use Rattle.checker.specs.steps.Rows.{KindsOf, subjects_of};
 ghost use Rattle.profile.specs.Verdict.{breaks};
 ghost use Rattle.sheet.specs.Words.{sheet_of};
 
-use crate::RuleRow;
+use crate::SubjectKind::{Itself, Nothing, Records};
+use crate::{Asked, LentTables, SubjectKind};
 use languages::list::Languages;
 use rules::groups::{rule19, rule20, rule21};
 use rules::header::{rule1, rule2, rule3};
@@ -19,57 +20,113 @@ use rules::totals::{rule23, rule24};
 use rules::words::rule6;
 use sheet::layout::count;
 use tables::marks::mark_included;
+use tables::{GroupTables, ObjectTables};
 
 // The rules in checking order.
-pub const RULE_COUNT: usize = 25;
-
-const RULES: [RuleRow; RULE_COUNT] = [
-    RuleRow(33, 1),
-    RuleRow(1, 1),
-    RuleRow(2, 1),
-    RuleRow(3, 21844),
-    RuleRow(4, 168),
-    RuleRow(5, 2216),
-    RuleRow(6, 33448),
-    RuleRow(7, 1364),
-    RuleRow(8, 168),
-    RuleRow(9, 40),
-    RuleRow(10, 512),
-    RuleRow(11, 32896),
-    RuleRow(12, 40),
-    RuleRow(13, 128),
-    RuleRow(14, 128),
-    RuleRow(15, 128),
-    RuleRow(16, 128),
-    RuleRow(17, 32896),
-    RuleRow(18, 32896),
-    RuleRow(19, 128),
-    RuleRow(20, 128),
-    RuleRow(21, 8),
-    RuleRow(22, 8),
-    RuleRow(23, 1),
-    RuleRow(24, 1),
+pub const RULES: [u8; 25] = [
+    33, 1, 2, 3, 4, 5, 6, 7, 8, 9, 10, 11, 12, 13, 14, 15, 16, 17, 18, 19, 20, 21, 22, 23, 24,
 ];
 
-// The rule at a position, 0 without subjects past the last.
-pub fn rule_at(i: usize) -> RuleRow
-    ensures { result ≡ row_at i }
+// The header.
+const HEADER: [SubjectKind; 8] = [
+    Itself, Nothing, Nothing, Nothing, Nothing, Nothing, Nothing, Nothing,
+];
+
+// Sections 1 to 7 themselves.
+const EACH_SECTION: [SubjectKind; 8] = [
+    Nothing, Itself, Itself, Itself, Itself, Itself, Itself, Itself,
+];
+
+// Sections 1 to 5 themselves.
+const LIMITED_SECTIONS: [SubjectKind; 8] = [
+    Nothing, Itself, Itself, Itself, Itself, Itself, Nothing, Nothing,
+];
+
+// Programmes, contents and objects.
+const LISTING: [SubjectKind; 8] = [
+    Nothing, Records, Records, Records, Nothing, Nothing, Nothing, Nothing,
+];
+
+// Those and tracks.
+const REFERRING: [SubjectKind; 8] = [
+    Nothing, Records, Records, Records, Nothing, Records, Nothing, Nothing,
+];
+
+// Programmes, contents, objects, packs and value sets.
+const WITH_VALUES: [SubjectKind; 8] = [
+    Nothing, Records, Records, Records, Records, Nothing, Nothing, Records,
+];
+
+// Programmes and contents.
+const LABELLED: [SubjectKind; 8] = [
+    Nothing, Records, Records, Nothing, Nothing, Nothing, Nothing, Nothing,
+];
+
+// Packs.
+const PACKS: [SubjectKind; 8] = [
+    Nothing, Nothing, Nothing, Nothing, Records, Nothing, Nothing, Nothing,
+];
+
+// Objects.
+const OBJECTS: [SubjectKind; 8] = [
+    Nothing, Nothing, Nothing, Records, Nothing, Nothing, Nothing, Nothing,
+];
+
+// Objects and value sets.
+const OBJECTS_AND_SETS: [SubjectKind; 8] = [
+    Nothing, Nothing, Nothing, Records, Nothing, Nothing, Nothing, Records,
+];
+
+// Programmes.
+const PROGRAMMES: [SubjectKind; 8] = [
+    Nothing, Records, Nothing, Nothing, Nothing, Nothing, Nothing, Nothing,
+];
+
+// What of each section, from 0 on, a rule can have as its place.
+pub fn subject_kinds(rule: u8) -> [SubjectKind; 8]
+    ensures { KindsOf rule result }
 {
-    if i < RULE_COUNT {
-        RULES[i]
-    } else {
-        RuleRow(0, 0)
+    match rule {
+        1 => HEADER,
+        2 => HEADER,
+        3 => EACH_SECTION,
+        4 => LISTING,
+        5 => REFERRING,
+        6 => WITH_VALUES,
+        7 => LIMITED_SECTIONS,
+        8 => LISTING,
+        9 => LABELLED,
+        10 => PACKS,
+        11 => OBJECTS_AND_SETS,
+        12 => LABELLED,
+        13 => OBJECTS,
+        14 => OBJECTS,
+        15 => OBJECTS,
+        16 => OBJECTS,
+        17 => OBJECTS_AND_SETS,
+        18 => OBJECTS_AND_SETS,
+        19 => OBJECTS,
+        20 => OBJECTS,
+        21 => PROGRAMMES,
+        22 => PROGRAMMES,
+        23 => HEADER,
+        24 => HEADER,
+        33 => HEADER,
+        _ => [Nothing; 8],
     }
 }
 
-// How many records of a section a rule can have as its place, by the section's digit.
-pub fn subjects(s: &[u8], section: u8, kind: u16) -> u16
-    ensures { result ≡ subjects_of (sheet_of s.now) section kind }
-{
-    match kind {
-        1 => 1,
-        2 => count(s, section),
-        _ => 0,
+impl SubjectKind {
+    // How many records of a section a rule can have as its place.
+    #[tactic(auto, unfolding(crate::specs::steps::Rows::subjects_of))]
+    pub fn how_many(self, s: &[u8], section: u8) -> u16
+        ensures { result ≡ subjects_of (sheet_of s.now) section self }
+    {
+        match self {
+            Nothing => 0,
+            Itself => 1,
+            Records => count(s, section),
+        }
     }
 }
 
@@ -78,16 +135,24 @@ pub fn subjects(s: &[u8], section: u8, kind: u16) -> u16
 pub fn breaks(
     s: &[u8],
     langs: &Languages,
-    first: &[u16],
-    second: &[u16],
+    tables: &LentTables,
     marks: &mut [u16],
-    rule: u8,
-    section: u8,
+    asked: Asked,
     k: u16,
 ) -> bool
-    ensures { (length marks.new ≡ length marks.old) × (Right (sheet_of s.now) langs.now (first_table rule section) first.now → Right (sheet_of s.now) langs.now (second_table rule section) second.now → result ≡ breaks (sheet_of s.now) langs.now rule section k) }
+    ensures { (length marks.new ≡ length marks.old) × (Right (sheet_of s.now) langs.now (first_table asked.rule asked.section) tables.now.first.now → Right (sheet_of s.now) langs.now (second_table asked.rule asked.section) tables.now.second.now → result ≡ breaks (sheet_of s.now) langs.now asked.rule asked.section k) }
 {
-    match rule {
+    let section = asked.section;
+    let LentTables { first, second } = *tables;
+    let objects = ObjectTables {
+        tops: first,
+        complements: second,
+    };
+    let groups = GroupTables {
+        owners: first,
+        leaders: second,
+    };
+    match asked.rule {
         1 => rule1(s, section, k),
         2 => rule2(s, section, k),
         3 => rule3(s, section, k),
@@ -106,7 +171,7 @@ pub fn breaks(
         16 => rule16(s, section, k),
         17 => rule17(s, first, section, k),
         18 => rule18(s, first, section, k),
-        19 => rule19(s, first, second, section, k),
+        19 => rule19(s, &objects, section, k),
         20 => rule20(s, section, k),
         21 => {
             mark_included(s, k, marks);
@@ -114,14 +179,14 @@ pub fn breaks(
         },
         22 => {
             if marks.len() == 0 {
-                rule22(s, first, second, marks, section, k)
+                rule22(s, &groups, marks, section, k)
             } else {
                 mark_included(s, k, marks);
-                rule22(s, first, second, marks, section, k)
+                rule22(s, &groups, marks, section, k)
             }
         },
-        23 => rule23(s, first, second, section, k),
-        24 => rule24(s, first, second, section, k),
+        23 => rule23(s, &objects, section, k),
+        24 => rule24(s, &objects, section, k),
         33 => !langs.rises(),
         _ => false,
     }

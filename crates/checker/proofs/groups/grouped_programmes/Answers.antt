@@ -22,6 +22,6 @@ returns-then-m-gt2048 c = λ kept apart p l. (kept p l).1
 pub returns : goal.returns
 returns c =
     λ kept apart p l.
-    let objects = c.count-m in let full = length-take-le {A = ℕ} objects.result (replicate 2048 0) (omega (arith, c.if-m-gt2048.false)) ∙ objects.ensures in
+    let m = c.from-m.result in let objects = c.from-m.ensures ∙ c.count.ensures in let full = length-take-le {A = ℕ} m (replicate 2048 0) (omega (arith, c.if-m-gt2048.false)) ∙ objects in
     (c.kept_from.ensures.kept (λ x h. absurd (omega (arith, h)), alike_empty (sheet_of c.args.s.now), λ f. absurd (true≢false (sym f))) (full, full, full) apart
     (λ q h. ((kept q h).0, (kept q h).1, λ f. absurd (true≢false (sym f)))) p l).1

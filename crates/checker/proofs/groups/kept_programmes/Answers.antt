@@ -19,9 +19,9 @@ returns-then-not-sets_once c = λ apart p l. absurd (omega (arith, l))
 pub returns : goal.returns
 returns c =
     λ apart.
-    let objects = c.count-m in let owners = c.first_namers in let leaders = c.first_namers-2 in let full = length-take-le {A = ℕ} objects.result (replicate 2048 0) (omega (arith, c.if-m-gt2048.false)) ∙ objects.ensures in
+    let m = c.from-m.result in let objects = c.from-m.ensures ∙ c.count.ensures in let owners = c.first_namers in let leaders = c.first_namers-2 in let full = length-take-le {A = ℕ} m (replicate 2048 0) (omega (arith, c.if-m-gt2048.false)) ∙ objects in
     c.kept_from.ensures.kept (
-      firsts_made (sheet_of c.args.s.now) (replicate 4680 0) (λ x h. nought 4680 x) SetSpans owners.new.table owners.ensures.0 owners.ensures.1,
+      firsts_made (sheet_of c.args.s.now) (replicate 4680 0) owners.new.table (λ x h. nought 4680 x) owners.ensures.0 SetSpans owners.ensures.1,
       c.fill_alike.ensures.1 (λ x h. nought 4680 x),
       λ f. c.sets_once.ensures c.if-not-sets_once.false,
-    ) (length-take-le objects.result leaders.new.table (omega (arith, c.if-m-gt2048.false, leaders.ensures.0)) ∙ objects.ensures, full, full) apart (λ q h. absurd (omega (arith, h)))
+    ) (length-take-le m leaders.new.table (omega (arith, c.if-m-gt2048.false, leaders.ensures.0)) ∙ objects, full, full) apart (λ q h. absurd (omega (arith, h)))

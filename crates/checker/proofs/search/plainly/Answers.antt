@@ -10,4 +10,4 @@ broken_below-requires c = λ j l. absurd (omega (arith, l))
 
 pub returns : goal.returns
 returns c =
-    c.broken_below.ensures.1 (empty_right (sheet_of c.args.s.now) c.args.langs.now (first_table c.args.rule c.args.section)) (empty_right (sheet_of c.args.s.now) c.args.langs.now (second_table c.args.rule c.args.section))
+    c.broken_below.ensures.1 (empty_right (sheet_of c.args.s.now) c.args.langs.now (first_table c.args.asked.rule c.args.asked.section)) (empty_right (sheet_of c.args.s.now) c.args.langs.now (second_table c.args.asked.rule c.args.asked.section))

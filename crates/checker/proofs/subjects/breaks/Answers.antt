@@ -51,11 +51,11 @@ returns-in-10 c = (refl, λ first second. simp (c.rule10.ensures, c.in-10.is))
 
 pub returns-in-11 : goal.returns-in-11
 unfolding breaks first_table second_table
-returns-in-11 c = (refl, λ first second. let f : Right (sheet_of c.args.s.now) c.args.langs.now (first_table 11 c.args.section) c.args.first.now = rw c.in-11.is at first in simp (c.rule11.ensures (λ e. rw e at f) (λ e. rw e at f), c.in-11.is))
+returns-in-11 c = (refl, λ first second. let f : Right (sheet_of c.args.s.now) c.args.langs.now (first_table 11 c.args.asked.section) c.args.tables.now.first.now = rw c.in-11.is at first in simp (c.rule11.ensures (λ e. rw e at f) (λ e. rw e at f), c.in-11.is))
 
 pub returns-in-12 : goal.returns-in-12
 unfolding breaks first_table second_table
-returns-in-12 c = (refl, λ first second. let f : Right (sheet_of c.args.s.now) c.args.langs.now (first_table 12 c.args.section) c.args.first.now = rw c.in-12.is at first in simp (c.rule12.ensures (λ e. rw e at f) (λ e. rw e at f), c.in-12.is))
+returns-in-12 c = (refl, λ first second. let f : Right (sheet_of c.args.s.now) c.args.langs.now (first_table 12 c.args.asked.section) c.args.tables.now.first.now = rw c.in-12.is at first in simp (c.rule12.ensures (λ e. rw e at f) (λ e. rw e at f), c.in-12.is))
 
 pub returns-in-13 : goal.returns-in-13
 unfolding breaks
@@ -83,7 +83,7 @@ returns-in-18 c = (refl, λ first second. let k = c.in-18.is in simp (c.rule18.e
 
 pub returns-in-19 : goal.returns-in-19
 unfolding breaks first_table second_table
-returns-in-19 c = (refl, λ first second. let k = c.in-19.is in simp (c.rule19.ensures (rw k at first) (rw k at second), k))
+returns-in-19 c = (refl, λ first second. let k = c.in-19.is in simp (c.rule19.ensures (rw k at first, rw k at second), k))
 
 pub returns-in-20 : goal.returns-in-20
 unfolding breaks
@@ -101,7 +101,7 @@ returns-in-21 c =
 pub returns-then-marks-eq0 : goal.returns-then-marks-eq0
 unfolding breaks first_table second_table
 returns-then-marks-eq0 c =
-    let k = c.in-22.is in (refl, λ first second. simp (c.rule22.ensures (rw k at first) (rw k at second) (λ x l. absurd (omega (arith, c.if-marks-eq0.true, l))), k))
+    let k = c.in-22.is in (refl, λ first second. simp (c.rule22.ensures (rw k at first, rw k at second) (λ x l. absurd (omega (arith, c.if-marks-eq0.true, l))), k))
 
 pub shape_of-marks-else-marks-eq0 : goal.shape_of-marks-else-marks-eq0
 shape_of-marks-else-marks-eq0 c = c.mark_included-else-marks-eq0.ensures.0
@@ -109,15 +109,15 @@ shape_of-marks-else-marks-eq0 c = c.mark_included-else-marks-eq0.ensures.0
 pub returns-else-marks-eq0 : goal.returns-else-marks-eq0
 unfolding breaks first_table second_table
 returns-else-marks-eq0 c =
-    let k = c.in-22.is in (c.mark_included-else-marks-eq0.ensures.0, λ first second. simp (c.rule22-else-marks-eq0.ensures (rw k at first) (rw k at second) c.mark_included-else-marks-eq0.ensures.1, k))
+    let k = c.in-22.is in (c.mark_included-else-marks-eq0.ensures.0, λ first second. simp (c.rule22-else-marks-eq0.ensures (rw k at first, rw k at second) c.mark_included-else-marks-eq0.ensures.1, k))
 
 pub returns-in-23 : goal.returns-in-23
 unfolding breaks first_table second_table
-returns-in-23 c = (refl, λ first second. let k = c.in-23.is in simp (c.rule23.ensures (rw k at first) (rw k at second), k))
+returns-in-23 c = (refl, λ first second. let k = c.in-23.is in simp (c.rule23.ensures (rw k at first, rw k at second), k))
 
 pub returns-in-24 : goal.returns-in-24
 unfolding breaks first_table second_table
-returns-in-24 c = (refl, λ first second. let k = c.in-24.is in simp (c.rule24.ensures (rw k at first) (rw k at second), k))
+returns-in-24 c = (refl, λ first second. let k = c.in-24.is in simp (c.rule24.ensures (rw k at first, rw k at second), k))
 
 pub returns-in-33 : goal.returns-in-33
 unfolding breaks rule33
@@ -125,4 +125,4 @@ returns-in-33 c = (refl, λ first second. simp (c.rises.ensures, c.in-33.is))
 
 pub returns-in_default : goal.returns-in_default
 unfolding number_at rule_at rule_count rules
-returns-in_default c = (refl, λ first second. no_rule _ _ c.args.rule _ _ (search found))
+returns-in_default c = (refl, λ first second. no_rule _ _ c.args.asked.rule _ _ (search found))
