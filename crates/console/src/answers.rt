@@ -1,4 +1,5 @@
 // Answers of the listener, tracks and states as text.
+// Functions over a `Text`, and no `impl Display`: the reason stands at `Text` (crates/text/src/writing.rt).
 ghost use Rattle.console.specs.Answers.{activity_text, answer_line, listing_line, name_text, object_line, object_lines, state_lines, values_text, words_text};
 ghost use Rattle.sheet.specs.Words.{sheet_of, words};
 ghost use Rattle.text.specs.Buffer.{Appends};

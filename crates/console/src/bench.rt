@@ -18,7 +18,7 @@ use text::writing::Text;
 // More room than any answer takes: a state's has a line for each of its 84 objects.
 pub const ANSWER_ROOM: usize = 8192;
 
-// The listener's state after a command, and the length of the answer.
+// The listener's state after a command, and the length of the answer. The answer stands in an array that the caller lends: no heap.
 #[derive(Clone, Copy)]
 pub struct Answered {
     pub state: State,

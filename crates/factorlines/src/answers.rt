@@ -1,4 +1,5 @@
 // The answer to a line.
+// Functions over a `Text`, and no `impl Display`: the reason stands at `Text` (crates/text/src/writing.rt).
 ghost use Rattle.std.specs.Prelude.{◌≡◌};
 ghost use Rattle.factorlines.specs.FactorLines.{conversion_text, factor_line, factor_of};
 ghost use Rattle.text.specs.Buffer.{Appends};

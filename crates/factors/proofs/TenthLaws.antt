@@ -1,15 +1,16 @@
 -- The tenths of the places in the table. Assumes nothing.
-use Prim.Native.Nat.{ℕ, suc, ◌+◌, ◌-◌, ◌<◌, ◌≤◌}
+use Prim.Native.Nat.{ℕ, ◌+◌, ◌-◌, ◌<◌, ◌≤◌}
 use mathlib.Core.Path.{◌≡◌, refl}
 use mathlib.Core.Bool.{true, false, false≢true, cond}
 use native.Mathlib.Omega.{arith}
 use borrow.Author.Tests.{lt-ltb, le-ltb, le-leb, leb-true, ltb-true, ltb-false}
 use lib.Dec.{ltb}
-use lib.IntN.{ℤ, pos, negsuc}
+use lib.IntN.{ℤ, pos, negsuc, ◌-ℤ◌}
+use Rattle.std.proofs.lemmas.Int.{ints, to_z-of_z}
 use lib.ListN.{get_or}
 use lib.Signed.{le_z, lt_z}
 use mir.Syntax.{w16}
-use mir.Val.{to_z}
+use mir.Val.{to_z, of_z}
 use Rattle.std.proofs.lemmas.Bool.{and_parts}
 use Rattle.values.specs.Gain.{legal_gain}
 use Rattle.factors.specs.Table.{entries}
@@ -25,15 +26,6 @@ pub from_nought : (k : ℕ) → 600 ≤ k → tenth_at k ≡ pos (k - 600)
 unfolding tenth_at
 from_nought k h = rw (le-ltb k 600 h) refl
 
--- as the code computes it: 65535 less n are the bits of -(n + 1)
-pub computed_below : (k : ℕ) → k < 600 → to_z w16 (65535 - (599 - k)) ≡ tenth_at k
-computed_below k h =
-    let e : 65536 - suc (65535 - (599 - k)) ≡ 599 - k = omega arith in
-    simp (below_nought k h, le-ltb (65535 - (599 - k)) 32768 (omega arith), e)
-
-pub computed_from : (k : ℕ) → 600 ≤ k → k ≤ 811 → to_z w16 (k - 600) ≡ tenth_at k
-computed_from k h l = simp (from_nought k h, lt-ltb (k - 600) 32768 (omega arith))
-
 -- two cases for a place: what holds of both tenths holds of it
 by_place : (P : ℤ → Type 0) (k : ℕ) → (k < 600 → P (negsuc (599 - k))) → (600 ≤ k → P (pos (k - 600))) → P (tenth_at k)
 unfolding tenth_at
@@ -42,6 +34,13 @@ by_place P k low high =
       | true ↦ λ q. low (ltb-true k 600 q)
       | false ↦ λ q. high (ltb-false k 600 q)
     ]) refl
+
+-- as the code computes it
+pub computed : (k : ℕ) → k ≤ 811 → to_z w16 (of_z w16 (to_z w16 k -ℤ pos 600)) ≡ tenth_at k
+computed k l =
+    by_place (λ d. to_z w16 (of_z w16 (to_z w16 k -ℤ pos 600)) ≡ d) k
+    (λ h. grind (arith, ints, to_z-of_z))
+    (λ h. grind (arith, ints, to_z-of_z))
 
 -- 10 to the power 1800 + d is 10 to the power 1200 + k
 pub exponent_at : (k : ℕ) → exponent (tenth_at k) ≡ 1200 + k

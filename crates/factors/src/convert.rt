@@ -19,16 +19,11 @@ fn first_not_below(factor: u32) -> usize
     LARGEST.partition_point(|entry| *entry < factor)
 }
 
-// The tenth of that place, which is 600 more; `!n` is -(n + 1).
+// The tenth of that place, which is 600 more.
 fn least_tenth(factor: u32) -> i16
     ensures { result ≡ least_tenth factor }
 {
-    let place = first_not_below(factor);
-    if place < 600 {
-        !((599 - place) as i16)
-    } else {
-        (place - 600) as i16
-    }
+    first_not_below(factor) as i16 - 600
 }
 
 // The gain of a factor of so many millionths: "0 is silence".

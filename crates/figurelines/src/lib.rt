@@ -21,6 +21,8 @@ use verdicts::put_verdict;
 // More room than the lines of any sheet take.
 pub const FIGURES_ROOM: usize = 2048;
 
+// Functions over a `Text`, and no `impl Display`: the reason stands at `Text` (crates/text/src/writing.rt).
+
 // The number of a figure: a word with its sign, a kind or a share as it is.
 fn put_figure_number(text: &mut Text, number: FigureNumber)
     ensures { Appends text.old (signed_decimal (printed number)) text.new }

@@ -9,7 +9,7 @@ const LONGEST: usize = 256;
 // The room that a line takes while it is read: one byte more, by which a longer line is known.
 pub const ROOM: usize = LONGEST + 1;
 
-// Whether two texts have the same bytes.
+// Whether two texts have the same bytes: `==`, under the definition that the contracts of the commands name.
 #[tactic(auto, using(crate::proofs::BytesLaws::compared))]
 pub fn same(a: &[u8], b: &[u8]) -> bool
     ensures { result ≡ same a.now b.now }

@@ -30,6 +30,7 @@ pub fn read_input<R: Read>(reader: &mut R, buffer: &mut [u8]) -> Result<usize, R
     ensures whole { IsOk result → bytes_read result < length buffer.new → IsAtEnd (R.remaining reader.new) }
 {
     let mut count = 0;
+    // No `for`: a turn passes as many bytes as the read gave, and the end of the input ends the loop.
     while count < buffer.len() {
         match reader.read(&mut buffer[count..]) {
             Ok(0) => return Ok(count),
