@@ -37,6 +37,7 @@ fn sets_once(s: &[u8]) -> bool
 }
 
 // How many programmes from the first on can be seen to keep rule 21, where those before `from` do. No sheet has more than 2,046 objects.
+#[inline(never)]
 pub fn grouped_programmes(s: &[u8], from: u16) -> u16
     ensures { KeptBelow (sheet_of s.now) from → GroupsApart (sheet_of s.now) → (p : ℕ) → p < result → rule21 (sheet_of s.now) programmes p ≡ false }
 {
@@ -66,6 +67,7 @@ pub fn grouped_programmes(s: &[u8], from: u16) -> u16
 
 // How many can be seen to keep both rules, in one pass for the two. The leaders serve to find sets that are alike; then their table is one
 // of those that the pass writes.
+#[inline(never)]
 pub fn kept_programmes(s: &[u8]) -> u16
     ensures { GroupsApart (sheet_of s.now) → KeptBelow (sheet_of s.now) result }
 {

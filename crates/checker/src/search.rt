@@ -26,6 +26,7 @@ use tables::entry_counts::{fewer_entries, list_entries};
 
 // The lowest record of a section before the last of some that breaks the rule asked, or their end, by the tables that the rule is lent,
 // where those before the first of them keep it.
+#[inline(never)]
 fn broken_below(
     s: &[u8],
     langs: &Languages,
@@ -83,7 +84,9 @@ fn tabled_below<const FIRST: usize, const SECOND: usize, const MARKS: usize>(
     broken_below(s, langs, &tables, &mut marks, asked, records)
 }
 
-// With tables over the records of a section. No sheet has more contents, or objects, than a table has words.
+// With tables over the records of a section. No sheet has more contents, or objects, than a table has words. Like all functions with large
+// tables it is kept apart, since a call touches each page of its frame (docs/SPEED.md).
+#[inline(never)]
 fn by_tables(s: &[u8], langs: &Languages, asked: Asked, records: Range<u16>) -> u16
     requires { Unbroken (sheet_of s.now) langs.now asked.rule asked.section records.start }
     ensures { result ≡ lowest (breaks (sheet_of s.now) langs.now asked.rule asked.section) records.end }
@@ -106,6 +109,7 @@ fn crowded(s: &[u8], section: u8) -> bool {
 }
 
 // With tables over the references, where the section's lists have many entries. No sheet has more references.
+#[inline(never)]
 fn by_lists(s: &[u8], langs: &Languages, asked: Asked, n: u16) -> u16
     ensures { result ≡ lowest (breaks (sheet_of s.now) langs.now asked.rule asked.section) n }
 {
@@ -115,9 +119,8 @@ fn by_lists(s: &[u8], langs: &Languages, asked: Asked, n: u16) -> u16
     tabled_below::<32768, 32768, 0>(s, langs, asked, 0..n)
 }
 
-// The lowest of n records of a section that breaks a rule, or n. A small sheet is searched without tables. Rules that go the same
-// way stand in several arms, so that the compiler keeps the functions with large tables apart (docs/SPEED.md). The programmes before
-// `kept` keep rules 21 and 22, and rule 21 comes where rule 19 is kept.
+// The lowest of n records of a section that breaks a rule, or n. A small sheet is searched without tables. The programmes before `kept`
+// keep rules 21 and 22, and rule 21 comes where rule 19 is kept.
 fn lowest_broken(s: &[u8], langs: &Languages, asked: Asked, n: u16, kept: u16) -> u16
     requires { KeptBelow (sheet_of s.now) kept × (asked.rule ≡ 21 → GroupsApart (sheet_of s.now)) }
     ensures { result ≡ lowest (breaks (sheet_of s.now) langs.now asked.rule asked.section) n }
@@ -127,22 +130,11 @@ fn lowest_broken(s: &[u8], langs: &Languages, asked: Asked, n: u16, kept: u16) -
     }
     match asked.rule {
         5 | 6 | 9 | 14 => by_lists(s, langs, asked, n),
-        11 | 12 => {
-            if (asked.rule == 12) & (asked.section == PROGRAMMES) {
-                return by_lists(s, langs, asked, n);
-            }
-            by_tables(s, langs, asked, 0..n)
-        }
-        15 | 19 => by_tables(s, langs, asked, 0..n),
-        17 | 18 => {
-            if asked.section == OBJECTS {
-                return plainly(s, langs, asked, n);
-            }
-            by_tables(s, langs, asked, 0..n)
-        }
+        12 if asked.section == PROGRAMMES => by_lists(s, langs, asked, n),
+        17 | 18 if asked.section == OBJECTS => plainly(s, langs, asked, n),
+        11 | 12 | 15 | 17 | 18 | 19 | 23 | 24 => by_tables(s, langs, asked, 0..n),
         21 => by_tables(s, langs, asked, grouped_programmes(s, kept)..n),
         22 => by_tables(s, langs, asked, kept..n),
-        23 | 24 => by_tables(s, langs, asked, 0..n),
         _ => plainly(s, langs, asked, n),
     }
 }
@@ -175,6 +167,7 @@ fn kept_at(s: &[u8], rule: u8, kept: u16) -> u16
 }
 
 // The verdict by the search: the rules in their order.
+#[inline(never)]
 fn first_broken(sheet: &[u8], langs: &Languages) -> Verdict
     ensures { result ≡ verdict (sheet_of sheet.now) langs.now }
 {
@@ -206,8 +199,9 @@ fn sized_passes(sheet: &[u8], langs: &Languages, size: TableSize) -> bool
     }
 }
 
-// The verdict by the screening with tables of a size, or else by the search. It is called from several places, so that the compiler
-// keeps it apart and a small sheet does not pay for its tables (docs/SPEED.md).
+// The verdict by the screening with tables of a size, or else by the search. It is kept apart, so that a small sheet does not pay for its
+// tables (docs/SPEED.md).
+#[inline(never)]
 fn sized_verdict(sheet: &[u8], langs: &Languages, size: TableSize) -> Verdict
     ensures { result ≡ verdict (sheet_of sheet.now) langs.now }
 {
@@ -218,6 +212,7 @@ fn sized_verdict(sheet: &[u8], langs: &Languages, size: TableSize) -> Verdict
 }
 
 // The same with a table of the list.
+#[inline(never)]
 fn tabled_verdict(sheet: &[u8], langs: &Languages, size: TableSize) -> Verdict
     ensures { result ≡ verdict (sheet_of sheet.now) langs.now }
 {

@@ -130,8 +130,9 @@ impl SubjectKind {
     }
 }
 
-// Whether a record of a section breaks a rule. `marks` is written for the rules about a programme. Rule 22 is called in two places, so that
-// the compiler keeps its tables out of this function's frame (docs/SPEED.md).
+// Whether a record of a section breaks a rule. `marks` is written for the rules about a programme. It is drawn into the loop over the
+// records (docs/SPEED.md).
+#[inline(always)]
 pub fn breaks(
     s: &[u8],
     langs: &Languages,
@@ -178,12 +179,8 @@ pub fn breaks(
             rule21(s, marks, section, k)
         },
         22 => {
-            if marks.len() == 0 {
-                rule22(s, &groups, marks, section, k)
-            } else {
-                mark_included(s, k, marks);
-                rule22(s, &groups, marks, section, k)
-            }
+            mark_included(s, k, marks);
+            rule22(s, &groups, marks, section, k)
         },
         23 => rule23(s, &objects, section, k),
         24 => rule24(s, &objects, section, k),

@@ -33,6 +33,8 @@ fn partly_set(s: &[u8], p: u16, marks: &[u16], sets: &[u16], l: u16) -> bool
     }
 }
 
+// It is kept apart, since its tables would else stand in the frame of what calls it for each record (docs/SPEED.md).
+#[inline(never)]
 pub fn rule22(s: &[u8], tables: &GroupTables, marks: &[u16], section: u8, p: u16) -> bool
     ensures { GroupsTabled (sheet_of s.now) tables.now → Included (sheet_of s.now) p marks.now → result ≡ rule22 (sheet_of s.now) section p }
 {

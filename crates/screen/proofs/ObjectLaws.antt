@@ -73,7 +73,7 @@ pub values_kept : (s : Sheet) (o : ℕ) → values_broken (object_values s o) �
     × (rule17 s objects o ≡ false)
     × (rule18 s objects o ≡ false)
     × ((eqb (field s objects o interact) 0 && (object_range s o Gains || object_range s o Offsets)) ≡ false)
-unfolding values_broken sort_broken own_leaves offsets_broken object_values values_at has_range words_broken bad_object bad_object_words rule17 rule18 object_leaves own_value object_range field
+unfolding values_broken sort_broken own_leaves offsets_broken object_values values_at bad_object bad_object_words rule17 rule18 object_leaves own_value object_range field
 values_kept s o e =
     let p = or_none_3 (ltb 1 (field s objects o interact)) (sort_broken Gains (object_values s o) (object_gains s (start s objects o))) (offsets_broken (object_values s o)) e in
     let g = or_none_3 (bad_object_words s o Gains) (eqb (field s objects o interact) 0 && object_range s o Gains) (object_leaves s o Gains) p.1 in
@@ -184,7 +184,7 @@ no_complements s o e = (simp e, simp e, simp e)
 
 -- three words that are absent
 pub all_absent : (v : Values) → none_present v ≡ true → (is_absent v.value ≡ true) × (is_absent v.minimum ≡ true) × (is_absent v.maximum ≡ true)
-unfolding none_present has_range
+unfolding
 all_absent v e =
     let p = and_both (is_absent v.value) (not (not (is_absent v.minimum) || not (is_absent v.maximum))) e in
     let q = or_none (not (is_absent v.minimum)) (not (is_absent v.maximum)) (not-true (not (is_absent v.minimum) || not (is_absent v.maximum)) p.1) in
@@ -192,7 +192,7 @@ all_absent v e =
 
 -- a plain object
 pub plain_kept : (s : Sheet) (o : ℕ) → is_plain s o ≡ true → rest_kept s o
-unfolding any is_plain sets_broken leader rule15 values_broken sort_broken own_leaves offsets_broken object_values values_at has_range words_broken bad_words leaves object_range field
+unfolding any is_plain sets_broken leader rule15 values_broken sort_broken own_leaves offsets_broken object_values values_at bad_words leaves object_range field
 plain_kept s o e =
     let offset = and_both _ (none_present (object_offsets s (start s objects o))) e in
     let gain = and_both _ (none_present (object_gains s (start s objects o))) offset.0 in
@@ -231,7 +231,7 @@ pub set_kept : (s : Sheet) (o v : ℕ) → set_broken s (object_values s o) (sta
     × (((not (is_absent (field s value_sets v (set_value Offsets))) || set_range s v Offsets) && not (has_front_pack s o)) ≡ false)
     × (set_leaves s o v Gains ≡ false)
     × (set_leaves s o v Offsets ≡ false)
-unfolding set_broken set_words_broken object_values values_at has_range words_broken value_leaves bad_set bad_set_words set_range set_leaves effective_value effective_minimum effective_maximum own_value field
+unfolding set_broken set_words_broken object_values values_at value_leaves bad_set bad_set_words set_range set_leaves effective_value effective_minimum effective_maximum own_value field
 set_kept s o v e =
     let p = or_none_8
     (ltb 1 (field s value_sets v set_own))
@@ -271,5 +271,5 @@ object_kept s o lists source rest once =
 
 -- no offset and no range of one
 pub no_offset : (v : ObjectValues) → none_present v.offsets ≡ true → offsets_broken v ≡ false
-unfolding offsets_broken sort_broken own_leaves has_range words_broken bad_words leaves
+unfolding offsets_broken sort_broken own_leaves bad_words leaves
 no_offset v e = let p = all_absent v.offsets e in simp (p.0, p.1, p.2, and-false)

@@ -15,7 +15,7 @@ use Rattle.screen.proofs.ObjectLaws.{all_absent}
 
 pub only_gain : (own : ℕ) (gains offsets : Values) (v : ObjectValues) → (eqb own 0 && not (has_range gains) && none_present offsets) ≡ true
     → gain_broken gains v ≡ set_words_broken own gains offsets v
-unfolding gain_broken set_words_broken own_leaves has_range words_broken value_leaves bad_words or_else
+unfolding gain_broken set_words_broken own_leaves value_leaves bad_words or_else
 only_gain own gains offsets v e =
     let p = and_both (eqb own 0 && not (has_range gains)) (none_present offsets) e in
     let q = and_both (eqb own 0) (not (has_range gains)) p.0 in

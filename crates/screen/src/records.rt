@@ -23,7 +23,7 @@ use sheet::fields::{
 use sheet::layout::{count, field};
 use tables::reads::look;
 
-// The header and the sections themselves: rules 1, 2, 3 and 7.
+// The header and the sections themselves: rules 1, 2, 3 and 7. Written out, since a section that is a constant spares the choices by it.
 #[tactic(auto, unfolding(crate::specs::steps::Screened::header_broken))]
 pub fn header_breaks(s: &[u8]) -> bool
     ensures { result ≡ header_broken (sheet_of s.now) }

@@ -1,5 +1,4 @@
 -- Each rule by its number. Assumes nothing.
-use native.Mathlib.Omega.{arith}
 use mathlib.Core.Path.{refl}
 use Rattle.sheet.specs.Words.{sheet_of}
 use Rattle.profile.specs.Verdict.{breaks, number_at, rule_at, rule_count, rules}
@@ -97,19 +96,13 @@ unfolding breaks
 returns-in-21 c =
     (c.mark_included.ensures.0, λ first second. simp (c.rule21.ensures c.mark_included.ensures.1, c.in-21.is))
 
--- an empty table is right
-pub returns-then-marks-eq0 : goal.returns-then-marks-eq0
-unfolding breaks first_table second_table
-returns-then-marks-eq0 c =
-    let k = c.in-22.is in (refl, λ first second. simp (c.rule22.ensures (rw k at first, rw k at second) (λ x l. absurd (omega (arith, c.if-marks-eq0.true, l))), k))
+pub shape_of-marks-in-22 : goal.shape_of-marks-in-22
+shape_of-marks-in-22 c = c.mark_included-in-22.ensures.0
 
-pub shape_of-marks-else-marks-eq0 : goal.shape_of-marks-else-marks-eq0
-shape_of-marks-else-marks-eq0 c = c.mark_included-else-marks-eq0.ensures.0
-
-pub returns-else-marks-eq0 : goal.returns-else-marks-eq0
+pub returns-in-22 : goal.returns-in-22
 unfolding breaks first_table second_table
-returns-else-marks-eq0 c =
-    let k = c.in-22.is in (c.mark_included-else-marks-eq0.ensures.0, λ first second. simp (c.rule22-else-marks-eq0.ensures (rw k at first, rw k at second) c.mark_included-else-marks-eq0.ensures.1, k))
+returns-in-22 c =
+    (c.mark_included-in-22.ensures.0, λ first second. let k = c.in-22.is in simp (c.rule22.ensures (rw k at first, rw k at second) c.mark_included-in-22.ensures.1, k))
 
 pub returns-in-23 : goal.returns-in-23
 unfolding breaks first_table second_table

@@ -9,5 +9,5 @@ pub returns-then-none_present : goal.returns-then-none_present
 returns-then-none_present c = sym (no_offset c.args.self (sym c.none_present.ensures ∙ c.if-none_present.true))
 
 pub returns : goal.returns
-unfolding offsets_broken has_range
+unfolding offsets_broken
 returns c = simp (c.sort_breaks.ensures, c.has_range.ensures, c.is_absent.ensures)
