@@ -20,7 +20,7 @@ use Rattle.profile.proofs.CountingLaws.{any_none}
 use Rattle.profile.proofs.SumLaws.{any_nowhere, how_many_eq}
 use Rattle.lists.specs.steps.Entries.{entry_at, bad_child_at, out_of_order_at}
 use Rattle.std.proofs.Math.Bool.{and-false}
-use Rattle.screen.specs.steps.Values.{values_at, has_range, none_present, own_leaves, words_broken, value_leaves, set_words_broken, set_broken}
+use Rattle.screen.specs.steps.Values.{values_at, none_present, own_leaves, value_leaves, set_words_broken, set_broken}
 use Rattle.relations.specs.declared.sets.Values.{Values}
 use Rattle.screen.specs.declared.ObjectValues.{ObjectValues}
 use Rattle.screen.specs.steps.Objects.{object_lists_broken, object_gains, object_offsets, object_values, sort_broken, offsets_broken, values_broken, children_broken, tracks_broken, source_kept, complement_broken, complements_kept, sets_broken, is_plain, rest_kept, object_broken}
@@ -184,7 +184,6 @@ no_complements s o e = (simp e, simp e, simp e)
 
 -- three words that are absent
 pub all_absent : (v : Values) → none_present v ≡ true → (is_absent v.value ≡ true) × (is_absent v.minimum ≡ true) × (is_absent v.maximum ≡ true)
-unfolding
 all_absent v e =
     let p = and_both (is_absent v.value) (not (not (is_absent v.minimum) || not (is_absent v.maximum))) e in
     let q = or_none (not (is_absent v.minimum)) (not (is_absent v.maximum)) (not-true (not (is_absent v.minimum) || not (is_absent v.maximum)) p.1) in

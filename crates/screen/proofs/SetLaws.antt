@@ -9,7 +9,7 @@ use Rattle.profile.specs.Rules.{bad_words}
 use Rattle.profile.proofs.BoolLaws.{or_false, and_both}
 use Rattle.relations.specs.declared.sets.Values.{Values}
 use Rattle.screen.specs.declared.ObjectValues.{ObjectValues}
-use Rattle.screen.specs.steps.Values.{has_range, none_present, own_leaves, value_leaves, words_broken, set_words_broken, gain_broken}
+use Rattle.screen.specs.steps.Values.{has_range, none_present, own_leaves, value_leaves, set_words_broken, gain_broken}
 use Rattle.std.proofs.Math.Bool.{and-false}
 use Rattle.screen.proofs.ObjectLaws.{all_absent}
 

@@ -1,7 +1,6 @@
 -- No offset, or each test its callee's. Assumes nothing.
 use Rattle.std.proofs.Common.{sym, ◌∙◌}
 use Rattle.screen.specs.steps.Objects.{offsets_broken}
-use Rattle.screen.specs.steps.Values.{has_range}
 use Rattle.screen.proofs.ObjectLaws.{no_offset}
 use Rattle.screen.proofs.ObjectValues.offsets_break.Goals as goal
 
