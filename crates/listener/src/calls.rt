@@ -122,10 +122,11 @@ fn value_answer<V: Value>(
     if !range.is_there() {
         return Err(Refusal::NoRange);
     }
-    if !value.within(range) {
-        return Err(Refusal::Outside);
+    if value.within(range) {
+        Ok(())
+    } else {
+        Err(Refusal::Outside)
     }
-    Ok(())
 }
 
 // "Choosing an object makes it active and the rest of its group inactive."

@@ -23,16 +23,16 @@ returns-then-not-is_there g c =
     let there = sym (rw (c.granted_range-range.ensures, c.SORT.ensures) at c.is_there.ensures) in
     sym (behind _ _ _ _ c.sound_answer.ensures c.in_ok-sound_answer.was ∙ passed _ _ (ap not (sym c.includes.ensures ∙ c.if-not-includes.false)) ∙ held _ _ (ap not (there ∙ c.if-not-is_there.true)))
 
-pub returns-then-not-within : goal.returns-then-not-within
+pub returns-else-within : goal.returns-else-within
 unfolding value_answer not_included no_range outside_range grants granted_range is_range
-returns-then-not-within g c =
+returns-else-within g c =
     let there = sym (rw (c.granted_range-range.ensures, c.SORT.ensures) at c.is_there.ensures) in
     let fits = sym (rw (c.granted_range-range.ensures, c.SORT.ensures) at c.within.ensures) in
-    sym (behind _ _ _ _ c.sound_answer.ensures c.in_ok-sound_answer.was ∙ passed _ _ (ap not (sym c.includes.ensures ∙ c.if-not-includes.false)) ∙ passed _ _ (ap not (there ∙ c.if-not-is_there.false)) ∙ held _ _ (ap not (fits ∙ c.if-not-within.true)))
+    sym (behind _ _ _ _ c.sound_answer.ensures c.in_ok-sound_answer.was ∙ passed _ _ (ap not (sym c.includes.ensures ∙ c.if-not-includes.false)) ∙ passed _ _ (ap not (there ∙ c.if-not-is_there.false)) ∙ held _ _ (ap not (fits ∙ c.if-within.false)))
 
-pub returns : goal.returns
+pub returns-then-within : goal.returns-then-within
 unfolding value_answer not_included no_range outside_range grants granted_range is_range
-returns g c =
+returns-then-within g c =
     let there = sym (rw (c.granted_range-range.ensures, c.SORT.ensures) at c.is_there.ensures) in
     let fits = sym (rw (c.granted_range-range.ensures, c.SORT.ensures) at c.within.ensures) in
-    sym (behind _ _ _ _ c.sound_answer.ensures c.in_ok-sound_answer.was ∙ passed _ _ (ap not (sym c.includes.ensures ∙ c.if-not-includes.false)) ∙ passed _ _ (ap not (there ∙ c.if-not-is_there.false)) ∙ passed _ _ (ap not (fits ∙ c.if-not-within.false)) ∙ none_left)
+    sym (behind _ _ _ _ c.sound_answer.ensures c.in_ok-sound_answer.was ∙ passed _ _ (ap not (sym c.includes.ensures ∙ c.if-not-includes.false)) ∙ passed _ _ (ap not (there ∙ c.if-not-is_there.false)) ∙ passed _ _ (ap not (fits ∙ c.if-within.true)) ∙ none_left)
