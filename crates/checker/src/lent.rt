@@ -16,7 +16,7 @@ use tables::Naming;
 use tables::coverage::count_covered;
 use tables::marks::{count_namings, first_namers};
 
-// The first table that a rule is lent for the records of a section.
+// The first table that a rule is lent for the records of a section. Rules are numbers, as in document 01: a caller may ask with any.
 pub fn first_table(rule: u8, section: u8) -> Table
     ensures { result ≡ first_table rule section }
 {

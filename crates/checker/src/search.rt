@@ -25,7 +25,8 @@ use std::ops::Range;
 use tables::entry_counts::{fewer_entries, list_entries};
 
 // The lowest record of a section before the last of some that breaks the rule asked, or their end, by the tables that the rule is lent,
-// where those before the first of them keep it.
+// where those before the first of them keep it. That they do is a `requires` of three functions: a struct with that as its ghost field would
+// have to carry the sheet and the list too, which every function here takes as they are. So it is with `kept` below.
 #[inline(never)]
 fn broken_below(
     s: &[u8],

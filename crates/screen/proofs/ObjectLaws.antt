@@ -23,7 +23,7 @@ use Rattle.std.proofs.Math.Bool.{and-false}
 use Rattle.screen.specs.steps.Values.{values_at, none_present, own_leaves, value_leaves, set_words_broken, set_broken}
 use Rattle.relations.specs.declared.sets.Values.{Values}
 use Rattle.screen.specs.declared.ObjectValues.{ObjectValues}
-use Rattle.screen.specs.steps.Objects.{object_lists_broken, object_gains, object_offsets, object_values, sort_broken, offsets_broken, values_broken, children_broken, tracks_broken, source_kept, complement_broken, complements_kept, sets_broken, is_plain, rest_kept, object_broken}
+use Rattle.screen.specs.steps.Objects.{object_lists_broken, object_sort, object_values, sort_broken, offsets_broken, values_broken, children_broken, tracks_broken, source_kept, complement_broken, complements_kept, sets_broken, is_plain, rest_kept, object_broken}
 
 -- two tests of each number below n
 module _ (p q : ℕ → Bool) (n : ℕ) (e : any (λ i. p i || q i) n ≡ false) where
@@ -75,7 +75,7 @@ pub values_kept : (s : Sheet) (o : ℕ) → values_broken (object_values s o) �
     × ((eqb (field s objects o interact) 0 && (object_range s o Gains || object_range s o Offsets)) ≡ false)
 unfolding values_broken sort_broken own_leaves offsets_broken object_values values_at bad_object bad_object_words rule17 rule18 object_leaves own_value object_range field
 values_kept s o e =
-    let p = or_none_3 (ltb 1 (field s objects o interact)) (sort_broken Gains (object_values s o) (object_gains s (start s objects o))) (offsets_broken (object_values s o)) e in
+    let p = or_none_3 (ltb 1 (field s objects o interact)) (sort_broken Gains (object_values s o) (object_sort s Gains (start s objects o))) (offsets_broken (object_values s o)) e in
     let g = or_none_3 (bad_object_words s o Gains) (eqb (field s objects o interact) 0 && object_range s o Gains) (object_leaves s o Gains) p.1 in
     let f = or_none_4
     (bad_object_words s o Offsets)
@@ -193,15 +193,15 @@ all_absent v e =
 pub plain_kept : (s : Sheet) (o : ℕ) → is_plain s o ≡ true → rest_kept s o
 unfolding any is_plain sets_broken leader rule15 values_broken sort_broken own_leaves offsets_broken object_values values_at bad_words leaves object_range field
 plain_kept s o e =
-    let offset = and_both _ (none_present (object_offsets s (start s objects o))) e in
-    let gain = and_both _ (none_present (object_gains s (start s objects o))) offset.0 in
+    let offset = and_both _ (none_present (object_sort s Offsets (start s objects o))) e in
+    let gain = and_both _ (none_present (object_sort s Gains (start s objects o))) offset.0 in
     let still = and_both _ (eqb (field s objects o interact) 0) gain.0 in
     let none = and_both (eqb (number s objects o complement_list) 0) (eqb (number s objects o set_span) 0) still.0 in
     let complements : number s objects o complement_list ≡ 0 = eqb-true (number s objects o complement_list) 0 none.0 in
     let sets : number s objects o set_span ≡ 0 = eqb-true (number s objects o set_span) 0 none.1 in
     let off : field s objects o interact ≡ 0 = eqb-true (field s objects o interact) 0 still.1 in
-    let g = all_absent (object_gains s (start s objects o)) gain.1 in
-    let f = all_absent (object_offsets s (start s objects o)) offset.1 in (
+    let g = all_absent (object_sort s Gains (start s objects o)) gain.1 in
+    let f = all_absent (object_sort s Offsets (start s objects o)) offset.1 in (
       simp (off, g.0, g.1, g.2, f.0, f.1, f.2),
       simp sets,
       no_complements s o complements,

@@ -3,7 +3,7 @@ ghost use Rattle.std.specs.Prelude.{◌+◌, ◌<◌, ltb, get_or, length, false
 ghost use Rattle.profile.specs.Limits.{exceeds};
 ghost use Rattle.profile.specs.Relations.{pack_of};
 ghost use Rattle.profile.specs.Rules.{rule15};
-ghost use Rattle.screen.specs.steps.Objects.{children_broken, is_front, is_plain, object_broken, object_gains, object_lists_broken, object_offsets, object_values, offsets_broken, rest_kept, sort_broken, source_kept, tracks_broken, values_broken};
+ghost use Rattle.screen.specs.steps.Objects.{children_broken, is_front, is_plain, object_broken, object_lists_broken, object_sort, object_values, offsets_broken, rest_kept, sort_broken, source_kept, tracks_broken, values_broken};
 ghost use Rattle.sheet.specs.Fields.{objects};
 ghost use Rattle.sheet.specs.Layout.{start};
 ghost use Rattle.sheet.specs.Words.{sheet_of};
@@ -105,18 +105,11 @@ impl<'a> ObjectWords<'a> {
         list_breaks(s, count(s, VALUE_SETS), self.span(SET_SPAN), SPAN_LIMIT)
     }
 
-    // The gain with its range.
-    fn gains(&self) -> Values
-        ensures { result ≡ object_gains (sheet_of self.now.s.now) (start (sheet_of self.now.s.now) objects self.now.o) }
+    // The value of a sort with its range.
+    fn values_of(&self, sort: Sort) -> Values
+        ensures { result ≡ object_sort (sheet_of self.now.s.now) sort (start (sheet_of self.now.s.now) objects self.now.o) }
     {
-        values_at(self.s, self.at, Positions::in_object(Sort::Gains))
-    }
-
-    // The offset with its range.
-    fn offsets(&self) -> Values
-        ensures { result ≡ object_offsets (sheet_of self.now.s.now) (start (sheet_of self.now.s.now) objects self.now.o) }
-    {
-        values_at(self.s, self.at, Positions::in_object(Sort::Offsets))
+        values_at(self.s, self.at, Positions::in_object(sort))
     }
 
     // Its pack.
@@ -134,8 +127,8 @@ impl<'a> ObjectWords<'a> {
         ObjectValues {
             interact: self.word(INTERACT),
             front: is_front(self.s, self.pack()),
-            gains: self.gains(),
-            offsets: self.offsets(),
+            gains: self.values_of(Sort::Gains),
+            offsets: self.values_of(Sort::Offsets),
         }
     }
 
@@ -181,8 +174,8 @@ impl<'a> ObjectWords<'a> {
         (self.number(COMPLEMENT_LIST) == 0)
             & (self.number(SET_SPAN) == 0)
             & (self.word(INTERACT) == 0)
-            & self.gains().none_present()
-            & self.offsets().none_present()
+            & self.values_of(Sort::Gains).none_present()
+            & self.values_of(Sort::Offsets).none_present()
     }
 
     // Whether an object that is not plain may break rule 6, one of 15 to 20, or rule 5 by a complement; or a set of its one.

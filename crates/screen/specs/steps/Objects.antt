@@ -2,13 +2,13 @@
 use Rattle.std.specs.Prelude.{ℕ, ◌+◌, Bool, false, not, ◌&&◌, ◌||◌, ◌≡◌, eqb, leb, ltb}
 use Rattle.sheet.specs.Words.{Sheet}
 use Rattle.sheet.specs.Layout.{count, offset, start, field, first, number}
-use Rattle.sheet.specs.Fields.{objects, packs, tracks, references, value_sets, track_list, child_list, complement_list, interact, object_gain, object_gain_minimum, object_gain_maximum, object_offset, object_offset_minimum, object_offset_maximum, set_span, no_pack, pack_kind, pack_channels, pack_front}
+use Rattle.sheet.specs.Fields.{objects, packs, tracks, references, value_sets, track_list, child_list, complement_list, interact, set_span, no_pack, pack_kind, pack_channels, pack_front}
 use Rattle.values.specs.declared.Sort.{Sort}
 use Rattle.values.specs.declared.Sort.TheVariants.{Gains, Offsets}
 use Rattle.values.specs.Values.{is_absent}
 use Rattle.profile.specs.Counting.{any}
 use Rattle.profile.specs.Limits.{exceeds, children_limit, complements_limit, span_limit}
-use Rattle.profile.specs.Relations.{has_pack, pack_of, has_front_pack}
+use Rattle.profile.specs.Relations.{has_pack, pack_of, has_front_pack, object_value, object_minimum, object_maximum}
 use Rattle.profile.specs.Rules.{lacks, list_lacks, bad_object, bad_complement, differs, rule4, rule5, rule8, rule11, rule13, rule14, rule15, rule16, rule17, rule18, rule19, rule20}
 use Rattle.lists.specs.steps.Entries.{bad_child_at, out_of_order_at}
 use Rattle.screen.specs.steps.Values.{values_at, has_range, none_present, own_leaves, words_broken, set_broken}
@@ -30,12 +30,9 @@ object_lists_broken s o =
 unfoldable pub is_front : Sheet → ℕ → Bool
 is_front s pack = not (eqb pack no_pack) && eqb (field s packs pack pack_kind) 3 && eqb (field s packs pack pack_front) 1
 
--- the gain and the offset of an object whose words begin at an index, with their ranges
-abbrev pub object_gains : Sheet → ℕ → Values
-object_gains s at = values_at s (at + object_gain) (at + object_gain_minimum) (at + object_gain_maximum)
-
-abbrev pub object_offsets : Sheet → ℕ → Values
-object_offsets s at = values_at s (at + object_offset) (at + object_offset_minimum) (at + object_offset_maximum)
+-- the value of a sort of an object whose words begin at an index, with its range
+abbrev pub object_sort : Sheet → Sort → ℕ → Values
+object_sort s t at = values_at s (at + object_value t) (at + object_minimum t) (at + object_maximum t)
 
 -- the values of an object
 unfoldable pub object_values : Sheet → ℕ → ObjectValues
@@ -43,8 +40,8 @@ object_values s o =
     record {
       interact = field s objects o interact;
       front = has_front_pack s o;
-      gains = object_gains s (start s objects o);
-      offsets = object_offsets s (start s objects o);
+      gains = object_sort s Gains (start s objects o);
+      offsets = object_sort s Offsets (start s objects o);
     }
 
 -- a value of an object with its range that breaks rule 6, 16 or 18
@@ -101,8 +98,8 @@ is_plain s o =
     eqb (number s objects o complement_list) 0
     && eqb (number s objects o set_span) 0
     && eqb (field s objects o interact) 0
-    && none_present (object_gains s (start s objects o))
-    && none_present (object_offsets s (start s objects o))
+    && none_present (object_sort s Gains (start s objects o))
+    && none_present (object_sort s Offsets (start s objects o))
 
 -- an object that keeps rules 6 and 15 to 20, with its sets, and rule 5 by its complements
 abbrev pub rest_kept : Sheet → ℕ → Type 0

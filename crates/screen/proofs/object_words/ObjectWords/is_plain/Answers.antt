@@ -4,4 +4,4 @@ use Rattle.screen.proofs.object_words.ObjectWords.is_plain.Goals as goal
 
 pub returns : goal.returns
 unfolding is_plain
-returns c = simp (c.none_present-2.ensures, c.offsets.ensures, c.none_present.ensures, c.gains.ensures, c.word.ensures, c.number-2.ensures, c.number.ensures)
+returns c = simp (c.none_present-2.ensures, c.values_of-2.ensures, c.none_present.ensures, c.values_of.ensures, c.word.ensures, c.number-2.ensures, c.number.ensures)
