@@ -1,5 +1,4 @@
 -- The number, or the refusal's. Assumes nothing.
-use mathlib.Core.Path.{ap, ◌∙◌}
 use native.Mathlib.Omega.{arith}
 use lib.ListN.{length}
 use Rattle.sheet.specs.Words.{sheet_of, words}

@@ -1,8 +1,8 @@
 -- 25 and 26, then what the words give. Assumes nothing.
-use mathlib.Core.Path.{◌≡◌, refl, sym, ◌∙◌}
+use mathlib.Core.Path.{◌≡◌, refl}
 use lib.ListN.{length}
 use borrow.Author.Rules.{rules}
-use Rattle.std.specs.Prelude.{Ok, Err}
+use Rattle.std.specs.Prelude.{Err}
 use Rattle.sheet.specs.Words.{sheet_of, words}
 use Rattle.listener.specs.Listing.{listed, buffered, buffered_by}
 use Rattle.listener.proofs.ListedLaws.{listing_behind, listing_stopped}

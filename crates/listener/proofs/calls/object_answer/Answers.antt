@@ -2,7 +2,7 @@
 use mathlib.Core.Path.{◌≡◌, sym, ap, ◌∙◌}
 use mathlib.Core.Bool.{not}
 use borrow.Author.Rules.{rules}
-use Rattle.std.specs.Prelude.{Ok, Err}
+use Rattle.std.specs.Prelude.{Err}
 use Rattle.listener.specs.Calls.{not_included, not_in_group, object_answer}
 use Rattle.listener.proofs.AnswerLaws.{behind, stopped, held, passed, none_left}
 use Rattle.listener.proofs.calls.object_answer.Goals as goal

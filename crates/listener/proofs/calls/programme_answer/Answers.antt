@@ -2,7 +2,7 @@
 use mathlib.Core.Path.{◌≡◌, sym, ◌∙◌}
 use borrow.Author.Rules.{rules}
 use borrow.Author.Tests.{le-leb, lt-leb}
-use Rattle.std.specs.Prelude.{Ok, Err}
+use Rattle.std.specs.Prelude.{Err}
 use Rattle.listener.specs.Calls.{no_programme, programme_answer}
 use Rattle.listener.proofs.AnswerLaws.{behind, stopped, held, passed, none_left}
 use Rattle.listener.proofs.calls.programme_answer.Goals as goal

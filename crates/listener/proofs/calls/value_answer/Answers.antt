@@ -2,7 +2,7 @@
 use mathlib.Core.Path.{◌≡◌, sym, ap, ◌∙◌}
 use mathlib.Core.Bool.{not}
 use borrow.Author.Rules.{rules}
-use Rattle.std.specs.Prelude.{Ok, Err}
+use Rattle.std.specs.Prelude.{Err}
 use Rattle.granted.specs.Granted.{grants}
 use Rattle.granted.specs.steps.NamedSet.{granted_range, is_range}
 use Rattle.listener.specs.Calls.{not_included, no_range, outside_range, value_answer}
