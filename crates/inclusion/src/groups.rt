@@ -1,6 +1,6 @@
 // The groups of a sheet, by what a table has for their members: 0 for an object that the programme does not include, 1 for one that it
 // includes, and where it names a set for it, 2 more than the number of that set.
-ghost use Rattle.std.specs.Prelude.{ℕ, Some, IsSome, ◌+◌, ◌-◌, ◌<◌, ◌≤◌, get_or, length, false, true, ◌⊎◌, ◌≡◌};
+ghost use Rattle.std.specs.Prelude.{ℕ, IsSome, ◌+◌, ◌-◌, ◌<◌, ◌≤◌, get_or, length, false, true, ◌⊎◌, ◌≡◌};
 ghost use Rattle.inclusion.specs.steps.Groups.{GroupKept, ListKept, PairKept, many_listed};
 ghost use Rattle.inclusion.specs.steps.Entering.{Begins};
 ghost use Rattle.inclusion.specs.steps.Rows.{OnlyComplement, RowAdded, RowsComplete, RowsListed, SameLists};
@@ -12,7 +12,6 @@ ghost use Rattle.sheet.specs.Words.{sheet_of};
 use crate::marks::at;
 use crate::sets::sets_differ;
 use crate::{Rows, SectionOffsets};
-use profile::counting::how_many;
 use sheet::fields::{COMPLEMENT_LIST, OBJECTS};
 use sheet::layout::{count, entry, field, number};
 use sheet::words::{word, word_count};
@@ -98,13 +97,14 @@ pub fn group_kept(s: &[u8], sections: SectionOffsets, included: &[u16], l: u16, 
 fn one_included(s: &[u8], base: u16, first: u16, n: u16, included: &[u16], e: u16) -> bool
     ensures { result ≡ true → many_listed (sheet_of s.now) included.now base first n e ≤ 1 }
 {
-    let listed = how_many(n, |i| {
-        at(
+    let mut many = u32::from(e != 0);
+    for i in 0..n {
+        let c = at(
             included,
             word(s, base as usize + (first as usize + i as usize)),
-        ) != 0
-    });
-    let many = u32::from(e != 0) + u32::from(listed);
+        );
+        many += u32::from(c != 0);
+    }
     many <= 1
 }
 
@@ -126,10 +126,10 @@ fn row_kept(s: &[u8], sections: SectionOffsets, included: &[u16], l: u16, m: u16
 }
 
 // Whether a row says nothing against the group of its leader: the table has one number for both, or the group was asked for last.
-fn row_passes(included: &[u16], asked: Option<u16>, l: u16, m: u16) -> bool
-    ensures { result ≡ true → (get_or included.now l 0 ≡ get_or included.now m 0) ⊎ (asked ≡ Some l) }
+fn row_passes(included: &[u16], asked: u32, l: u16, m: u16) -> bool
+    ensures { result ≡ true → (get_or included.now l 0 ≡ get_or included.now m 0) ⊎ (l ≡ asked) }
 {
-    (at(included, l) == at(included, m)) || (asked == Some(l))
+    (at(included, l) == at(included, m)) || (l as u32 == asked)
 }
 
 impl<'a> Rows<'a> {
@@ -141,7 +141,8 @@ impl<'a> Rows<'a> {
         if (self.leading.len() < n) || (self.partners.len() < n) {
             return false;
         }
-        let mut asked: Option<u16> = None;
+        // 65536 for none: an `Option` was tried, takes one register more in this loop, and made it a third slower
+        let mut asked: u32 = 65536;
         for i in 0..n {
             let l = self.leading[i];
             let m = self.partners[i];
@@ -149,7 +150,7 @@ impl<'a> Rows<'a> {
                 if !row_kept(s, sections, included, l, m) {
                     return false;
                 }
-                asked = Some(l);
+                asked = l as u32;
             }
         }
         true

@@ -1,5 +1,5 @@
 -- The rows passed are kept. Assumes nothing.
-use Rattle.std.proofs.Common.{ℕ, ◌<◌, ◌≡◌, Some, get_or}
+use Rattle.std.proofs.Common.{ℕ, ◌<◌, get_or}
 use Rattle.sheet.specs.Words.{sheet_of}
 use Rattle.inclusion.specs.steps.Groups.{GroupKept}
 use Rattle.inclusion.specs.steps.Entering.{Begins}
@@ -10,5 +10,5 @@ abbrev pub invariant-loop-i : goal.invariant-loop-i
 invariant-loop-i l =
     Begins (sheet_of l.s) l.sections
     → RowsComplete (sheet_of l.s) l.self
-    → ((k : ℕ) → l.asked ≡ Some k → GroupKept (sheet_of l.s) l.included k)
+    → (l.asked < 65536 → GroupKept (sheet_of l.s) l.included l.asked)
     × ((j : ℕ) → j < l.i → RowKept (sheet_of l.s) l.included (get_or l.self.leading.now j 0) (get_or l.self.partners.now j 0))

@@ -1,12 +1,21 @@
--- The leader is counted, and its complements. Assumes nothing.
-use Rattle.std.proofs.Common.{rules, ◌+◌, not, eqb}
+use Rattle.std.proofs.Common.{◌≡◌, not, eqb, sym, ◌∙◌, arith}
+use native.Mathlib.Nat.{add-zero}
+use native.Mathlib.Numerals.{add-one}
 use borrow.Author.Tests.{leb-true}
-use Rattle.sheet.specs.Words.{sheet_of}
-use Rattle.profile.proofs.BoolLaws.{byte_cond}
-use Rattle.inclusion.specs.steps.Groups.{listed_in}
+use Rattle.profile.specs.Counting.{how_many}
+use Rattle.profile.proofs.BoolLaws.{byte_cond, byte_le}
 use Rattle.inclusion.proofs.groups.one_included.Goals as goal
 
+pub loop-i-init : goal.loop-i-init
+unfolding how_many
+loop-i-init c = let e = not (eqb c.args.e 0) in (omega (arith, c.from-many.ensures, byte_le e), c.from-many.ensures ∙ byte_cond e ∙ sym (add-zero _))
+
+pub loop-i-preserved : goal.loop-i-preserved
+unfolding how_many
+loop-i-preserved c =
+    let before = c.loop-i.invariant in let counted = not (eqb c.at-c.result 0) in let more = c.from-many-in-loop-i.ensures in
+    (omega (arith, before.0, more, byte_le counted), rw (add-one, more, byte_cond counted, before.1, c.at-c.ensures, c.word.ensures) (omega arith))
+
 pub returns : goal.returns
-returns c = λ e.
-    let a = c.args in let listed = c.how_many-listed.ensures.counted (λ i. not (eqb (listed_in (sheet_of a.s.now) a.included.now a.base a.first i) 0)) (λ i r l q. search rules) in
-    rw (c.from.ensures, byte_cond (not (eqb a.e 0)), c.from-2.ensures, listed) at (leb-true (c.from.result + c.from-2.result) 1 e)
+returns c =
+    let here = c.loop-i in let z : here.i ≡ c.args.n = omega arith in λ e. rw (here.invariant.1, z) at (leb-true here.many 1 e)
