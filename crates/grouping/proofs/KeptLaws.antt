@@ -25,7 +25,8 @@ use Rattle.inclusion.specs.steps.Groups.{GroupKept, group_whole, many_in, sets_i
 use Rattle.grouping.specs.steps.Groups.{KeptTo, OneSpan, ProgrammeKept}
 use Rattle.inclusion.specs.steps.Alike.{Alike, representative}
 use Rattle.grouping.specs.steps.Passing.{Passing, same_list, same_lists}
-use Rattle.inclusion.proofs.CountLaws.{Apart, any_eq, two_counted}
+use Rattle.inclusion.proofs.CountLaws.{Apart, two_counted}
+use Rattle.tables.proofs.TableLaws.{any_below}
 use Rattle.grouping.proofs.MemberLaws.{one_owner}
 use Rattle.inclusion.proofs.PassLaws.{past, sets_alike}
 
@@ -194,7 +195,7 @@ module _ (s : Sheet) (p : ℕ) (t₀ t₁ t₂ : List ℕ) (put : ℕ → ℕ) (
   names_owner : (o : ℕ) → o < count s objects → names_set s p o ≡ any (λ j. eqb (owner_at s p j) o) m
   unfolding names_set owner_at
   names_owner o k =
-      any_eq (λ j. has_set s o (named_set s p j)) (λ j. eqb (owner s (named_set s p j)) o) m
+      any_below (λ j. has_set s o (named_set s p j)) (λ j. eqb (owner s (named_set s p j)) o) m
       (λ j l. one_owner s (named_set s p j) o k (one_span (named_set s p j) (inside j l)))
 
   -- a wholly included group has two members or more

@@ -16,7 +16,8 @@ use Rattle.profile.proofs.BoolLaws.{or_none_3}
 use Rattle.profile.proofs.CountingLaws.{any_none, any_how_many, lowest_holds, finds}
 use Rattle.profile.proofs.GroupLaws.{any_witness, lists_witness, lists_times, own_leader, leader_lists}
 use Rattle.profile.proofs.SumLaws.{sum_one, how_many_sum, how_many_shift}
-use Rattle.inclusion.proofs.CountLaws.{Apart, eqb_turned, sum_pair, exchange}
+use Rattle.inclusion.proofs.CountLaws.{Apart, sum_pair, exchange}
+use Rattle.tables.proofs.TableLaws.{eqb_turned}
 
 -- how often an object is among the members: as the leader, and in its list
 members_counted : (s : Sheet) (l o : ℕ) → how_many (λ i. eqb (member s l i) o) (members s l) ≡ cond (eqb l o) 1 0 + times s objects l complement_list o

@@ -1,30 +1,19 @@
 -- Numbers counted in two ways. Assumes nothing.
 use Prim.Native.Nat.{ℕ, zero, suc, ◌+◌, ◌<◌, ◌≤◌}
 use mathlib.Core.Path.{◌≡◌, refl, sym, ap, ◌∙◌}
-use mathlib.Core.Bool.{Bool, true, false, cond, not, ◌||◌}
+use mathlib.Core.Bool.{Bool, true, false, cond, ◌||◌}
 use native.Mathlib.Omega.{arith}
 use native.Mathlib.Nat.{add-zero}
-use borrow.Author.Tests.{eqb-true, eqb-false, eq-eqb, ne_eqb, ltb-true, ltb-false}
+use borrow.Author.Tests.{eqb-true, ltb-true, ltb-false}
 use lib.Dec.{eqb, ltb}
 use Rattle.profile.specs.Counting.{any, how_many, sum}
 use Rattle.profile.proofs.BoolLaws.{or_false}
-use Rattle.profile.proofs.CountingLaws.{any_how_many}
+use Rattle.tables.proofs.TableLaws.{eqb_turned}
 use Rattle.profile.proofs.SumLaws.{sum_eq, sum_swap, sum_two, how_many_sum, how_many_eq}
 
 -- no two of x 0 to x (n - 1) are the same
 abbrev pub Apart : (ℕ → ℕ) → ℕ → Type 0
 Apart x n = (k : ℕ) → k < n → any (λ i. eqb (x i) (x k)) k ≡ false
-
-pub eqb_turned : (a b : ℕ) → eqb a b ≡ eqb b a
-eqb_turned a b =
-    (elim (eqb a b) as (λ t. eqb a b ≡ t → t ≡ eqb b a) [
-      | true ↦ λ e. sym (eq-eqb b a (sym (eqb-true a b e)))
-      | false ↦ λ e. sym (ne_eqb b a (λ q. eqb-false a b e (sym q)))
-    ]) refl
-
--- tests that agree
-pub any_eq : (p q : ℕ → Bool) (n : ℕ) → ((i : ℕ) → i < n → p i ≡ q i) → any p n ≡ any q n
-any_eq p q n h = any_how_many p n ∙ ap (λ (c : ℕ). not (eqb c 0)) (how_many_eq p q n h) ∙ sym (any_how_many q n)
 
 -- two summands together are at most the sum
 pub sum_pair : (f : ℕ → ℕ) (n j k : ℕ) → (j ≡ k → ⊥) → j < n → k < n → f j + f k ≤ sum f n
