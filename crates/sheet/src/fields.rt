@@ -1,4 +1,5 @@
-// Sections by number, and the positions of a record's words (document 01, "The sheet", sections 1 to 7).
+// Sections by number, and the positions of a record's words (document 01, "The sheet", sections 1 to 7). They are numbers as in the document
+// and in the definitions: every read holds for every number, of a section or not, and an enum would ask more of callers.
 pub const PROGRAMMES: u8 = 1;
 
 pub const CONTENTS: u8 = 2;
@@ -58,6 +59,11 @@ pub const OBJECT_OFFSET_MAXIMUM: u8 = 13;
 pub const SET_SPAN: u8 = 14;
 
 pub const PACK_KIND: u8 = 0;
+
+// "kind (1 DirectSpeakers, 3 Objects)"
+pub const KIND_DIRECT_SPEAKERS: u16 = 1;
+
+pub const KIND_OBJECTS: u16 = 3;
 
 pub const PACK_CHANNELS: u8 = 1;
 

@@ -4,4 +4,5 @@
 
 pub mod fields;
 pub mod layout;
+pub mod spans;
 pub mod words;
