@@ -16,7 +16,6 @@ use crate::subjects::{RULES, breaks, subject_kinds};
 use crate::{Asked, LentTables};
 use languages::list::Languages;
 use languages::table::LANGUAGE_WORDS;
-use profile::places::place_at;
 use profile::{Place, Verdict};
 use screen::screening::{large_passes, middling_passes, small_passes};
 use sheet::fields::{OBJECTS, PROGRAMMES};
@@ -150,7 +149,7 @@ fn rule_verdict(s: &[u8], langs: &Languages, rule: u8, kept: u16) -> Verdict
         let n = kinds[usize::from(section)].how_many(s, section);
         let k = lowest_broken(s, langs, Asked { rule, section }, n, kept);
         if k < n {
-            return Verdict::Broken(rule, place_at(section, k));
+            return Verdict::Broken(rule, Place::at(section, k));
         }
     }
     Verdict::Accepted

@@ -8,7 +8,6 @@ use crate::members::leader_clash;
 use crate::ranges::range_clashes;
 use crate::shares::shares;
 use crate::{Clash, Figures};
-use profile::places::{place_record, section};
 use profile::{Place, Verdict};
 
 // The two figures of a clash.
@@ -29,10 +28,10 @@ fn clash_figures(clash: Option<Clash>) -> Figures
 fn figures_of(s: &[u8], rule: u8, place: Place) -> Figures
     ensures { result ≡ first_figures no_figures (figures_of (sheet_of s.now) rule place) }
 {
-    let k = place_record(place) as u16;
+    let k = place.record() as u16;
     // the rules have document 01's numbers, as in the verdict
     match rule {
-        18 => clash_figures(range_clashes(s, section(place), k)),
+        18 => clash_figures(range_clashes(s, place.section(), k)),
         20 => clash_figures(leader_clash(s, k)),
         24 => shares(s),
         _ => Figures::new(),

@@ -4,7 +4,6 @@ ghost use Rattle.checker.specs.Checked.{checked};
 ghost use Rattle.profile.specs.Verdict.{verdict_code};
 
 use checker::search::check;
-use profile::places::verdict_code;
 
 // 0 where the sheet is accepted under the lent list of languages, else 1,000,000 times the rule plus 100,000 times the section plus the
 // record: any lengths, any bytes.
@@ -12,5 +11,5 @@ use profile::places::verdict_code;
 pub extern "C" fn sheet_check(sheet: &[u8], langs: &[u8]) -> u32
     ensures { result ≡ verdict_code (checked sheet.now langs.now) }
 {
-    verdict_code(check(sheet, langs))
+    u32::from(check(sheet, langs))
 }

@@ -1,7 +1,6 @@
 pub mod BoolLaws
 pub mod CountingLaws
 pub mod GroupLaws
-mod LimitLaws
 pub mod ListLaws
 mod PlaceLaws
 pub mod SumLaws

@@ -4,6 +4,7 @@ ghost use Rattle.std.specs.Prelude.{ℕ, Bool, true, ◌<◌, ◌≤◌, ◌≡�
 ghost use Rattle.profile.specs.Counting.{ComputesBelow, any, every, how_many, lowest};
 
 // Whether some number below n passes.
+#[tactic(auto, unfolding(crate::specs::Counting::any))]
 pub fn any<F: Fn(u16) -> bool>(n: u16, test: F) -> bool
     requires { F.IsAlwaysCallable test }
     ensures { (p : ℕ → Bool) → ComputesBelow n (F.post test) p → result ≡ any p n }
@@ -16,6 +17,7 @@ pub fn any<F: Fn(u16) -> bool>(n: u16, test: F) -> bool
 }
 
 // Whether every number below n passes.
+#[tactic(auto, unfolding(crate::specs::Counting::every))]
 pub fn every<F: Fn(u16) -> bool>(n: u16, test: F) -> bool
     requires { F.IsAlwaysCallable test }
     ensures { (p : ℕ → Bool) → ComputesBelow n (F.post test) p → result ≡ every p n }
@@ -28,6 +30,7 @@ pub fn every<F: Fn(u16) -> bool>(n: u16, test: F) -> bool
 }
 
 // How many numbers below n pass.
+#[tactic(auto, unfolding(crate::specs::Counting::how_many))]
 pub fn how_many<F: Fn(u16) -> bool>(n: u16, test: F) -> u16
     requires { F.IsAlwaysCallable test }
     ensures counted { (p : ℕ → Bool) → ComputesBelow n (F.post test) p → result ≡ how_many p n }

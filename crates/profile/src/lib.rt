@@ -20,7 +20,8 @@ pub enum Place {
     ValueSet(u16),
 }
 
-// "The verdict is acceptance, or a rule together with a place".
+// "The verdict is acceptance, or a rule together with a place": the form that document 01 names, a verdict enum with a place enum. It is
+// no `Result`: a broken rule is what a check finds when its work is done, to be told and printed, and nobody hands it up by `?`.
 #[derive(Clone, Copy)]
 pub enum Verdict {
     Accepted,

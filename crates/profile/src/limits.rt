@@ -1,5 +1,5 @@
 // The limits of levels 1 and 2 (document 01, "Level limits").
-ghost use Rattle.std.specs.Prelude.{◌-◌, ◌≡◌};
+ghost use Rattle.std.specs.Prelude.{◌≡◌};
 ghost use Rattle.profile.specs.Limits.{exceeds, limit};
 ghost use Rattle.sheet.specs.Words.{sheet_of};
 
@@ -11,7 +11,8 @@ const LIMITS: [[u16; 15]; 2] = [
     [16, 28, 84, 56, 56, 28, 28, 8, 28, 27, 16, 24, 14, 16, 28],
 ];
 
-// The columns.
+// The columns, numbers as in the definitions: `limit level column` holds for every number, and an enum of columns would ask more of
+// callers.
 pub const PROGRAMMES_LIMIT: u8 = 0;
 
 pub const CONTENTS_LIMIT: u8 = 1;
@@ -42,30 +43,22 @@ pub const UNITS_LIMIT: u8 = 13;
 
 pub const COUNTED_LIMIT: u8 = 14;
 
-// The row of a level.
-fn row(level: u16) -> usize
-    ensures { result ≡ level - 1 }
-{
-    if level == 0 { 0 } else { (level - 1) as usize }
-}
-
 // The limit of a level, 0 where the table has none.
+#[tactic(auto, unfolding(crate::specs::Limits::limit, crate::specs::Limits::limits))]
 pub fn limit(level: u16, column: u8) -> u16
     ensures { result ≡ limit level column }
 {
-    let r = row(level);
-    let c = column as usize;
-    if r < 2 {
-        if c < 15 { LIMITS[r][c] } else { 0 }
-    } else {
-        0
-    }
+    let Some(row) = LIMITS.get(usize::from(level.saturating_sub(1))) else {
+        return 0;
+    };
+    row.get(usize::from(column)).copied().unwrap_or(0)
 }
 
 // Whether n is above the sheet's limit; level 0 has none.
+#[tactic(auto, unfolding(crate::specs::Limits::exceeds))]
 pub fn exceeds(s: &[u8], column: u8, n: u64) -> bool
     ensures { result ≡ exceeds (sheet_of s.now) column n }
 {
     let l = level(s);
-    (l != 0) & ((limit(l, column) as u64) < n)
+    (l != 0) & (u64::from(limit(l, column)) < n)
 }

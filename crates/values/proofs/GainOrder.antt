@@ -1,13 +1,17 @@
 -- The declared order of gains is the definition `at_most`. Assumes nothing.
-use Rattle.std.proofs.Common.{ℕ, ◌<◌, ◌≡◌, Bool, true, false, cond, eqb, ltb, pos, negsuc, ◌-◌, refl, sym, ap, ◌∙◌, arith}
+use Rattle.std.proofs.Common.{ℕ, ◌<◌, ◌≡◌, Bool, true, false, cond, ◌&&◌, eqb, ltb, pos, negsuc, ◌-◌, refl, sym, ap, ◌∙◌, arith}
 use borrow.Author.Tests.{eqb-true, eqb-false, ltb-false, le-leb, lt-leb}
 use Rattle.std.proofs.lemmas.Int.{ints}
 use Rattle.std.specs.Ordering.{partial_le}
 use Rattle.std.specs.Int.Signed.{le_z}
-use Rattle.values.specs.Gain.{at_most, gain_of}
+use Rattle.values.specs.Gain.{at_most, gain_of, gain_in_range}
+use Rattle.values.specs.Offset.{offset_in_range}
 use Rattle.values.specs.Signed.{signed_of}
+use Rattle.values.specs.Values.{in_range}
 use Rattle.values.specs.declared.Gain.{Gain}
 use Rattle.values.specs.declared.Gain.TheVariants.{Silent, Tenths}
+use Rattle.values.specs.declared.Sort.{Sort}
+use Rattle.values.specs.declared.Sort.TheVariants.{Gains, Offsets}
 use Rattle.values.specs.contracts.GainPartialOrd.TheImpl.{partial_cmp-value}
 
 pub partial_le-gain : (a b : Gain) → partial_le partial_cmp-value.it a b ≡ at_most a b
@@ -16,6 +20,11 @@ partial_le-gain Silent Silent = refl
 partial_le-gain Silent (Tenths y) = refl
 partial_le-gain (Tenths x) Silent = refl
 partial_le-gain (Tenths x) (Tenths y) = grind (arith, ints)
+
+-- so from lo to hi
+pub between : (lo g hi : Gain) → partial_le partial_cmp-value.it lo g && partial_le partial_cmp-value.it g hi ≡ gain_in_range lo g hi
+unfolding gain_in_range
+between lo g hi = rw (partial_le-gain lo g, partial_le-gain g hi) refl
 
 -- the number of silence's word is the least
 least : (b : ℕ) → b < 65536 → le_z (negsuc 32767) (signed_of b) ≡ true
@@ -44,3 +53,9 @@ at_most_words a b l m = go (eqb a 32768) (eqb b 32768) refl refl
     go true q e f = let z : signed_of a ≡ negsuc 32767 = ap signed_of (eqb-true a 32768 e) ∙ (unfold signed_of in refl) in rw z (sym (least b m))
     go false true e f = let z : signed_of b ≡ negsuc 32767 = ap signed_of (eqb-true b 32768 f) ∙ (unfold signed_of in refl) in rw z (sym (above a l e))
     go false false e f = refl
+
+-- and one order serves both sorts
+pub by_numbers : (t : Sort) (lo w hi : ℕ) → lo < 65536 → w < 65536 → hi < 65536 → offset_in_range (signed_of lo) (signed_of w) (signed_of hi) ≡ in_range t lo w hi
+unfolding in_range gain_in_range offset_in_range
+by_numbers Gains lo w hi l m n = rw (at_most_words lo w l m, at_most_words w hi m n) refl
+by_numbers Offsets lo w hi l m n = refl

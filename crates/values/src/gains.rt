@@ -11,7 +11,9 @@ ghost use Rattle.values.specs.Gain.{
 use crate::Gain;
 use crate::signed::signed;
 
-// The gain that a word stands for, legal or not: 32768 is the word of -32768.
+// The gain that a word stands for, legal or not: 32768 is the word of -32768. It is no `From<u16>`, since a u16 could as well be a number of
+// tenths: the name, which is the definition's, says which of the two it is.
+#[tactic(auto, unfolding(crate::specs::Gain::gain_of))]
 pub fn gain_of(w: u16) -> Gain
     ensures { result ≡ gain_of w }
 {
@@ -22,14 +24,20 @@ pub fn gain_of(w: u16) -> Gain
     }
 }
 
-// From `lo` to `hi`, both included.
+// From `lo` to `hi`, both included. This and `offset_in_range` are the definitions of their names, by which callers' contracts speak; a
+// generic one over `PartialOrd` would be a third function, with the order of its type in its contract, and these two would call it.
+#[tactic(auto, using(crate::proofs::GainOrder::between))]
 pub fn gain_in_range(lo: Gain, g: Gain, hi: Gain) -> bool
     ensures { result ≡ gain_in_range lo g hi }
 {
     (lo <= g) & (g <= hi)
 }
 
+// What is legal of a gain, a minimum and a maximum: three sentences of document 01, each a definition of its own. They differ in what they
+// say of silence and in both ends, so that one function for all three would take a bool and two ends, and three would call it.
+
 // "either silence (-32768) or a number of tenths of a dB from -600 to 210"
+#[tactic(auto, unfolding(crate::specs::Gain::legal_gain))]
 pub fn legal_gain(g: Gain) -> bool
     ensures { result ≡ legal_gain g }
 {
@@ -40,6 +48,7 @@ pub fn legal_gain(g: Gain) -> bool
 }
 
 // "Minimums: silence or -600 to 0"
+#[tactic(auto, unfolding(crate::specs::Gain::legal_gain_minimum))]
 pub fn legal_gain_minimum(g: Gain) -> bool
     ensures { result ≡ legal_gain_minimum g }
 {
@@ -50,6 +59,7 @@ pub fn legal_gain_minimum(g: Gain) -> bool
 }
 
 // "Maximums: 0 to 210"
+#[tactic(auto, unfolding(crate::specs::Gain::legal_gain_maximum))]
 pub fn legal_gain_maximum(g: Gain) -> bool
     ensures { result ≡ legal_gain_maximum g }
 {

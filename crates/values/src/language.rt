@@ -3,6 +3,7 @@ ghost use Rattle.std.specs.Prelude.{◌≡◌};
 ghost use Rattle.values.specs.Language.{letter, three_letters, loudness};
 
 // "a = 1 to z = 26"
+#[tactic(auto, unfolding(crate::specs::Language::letter))]
 pub fn letter(n: u16) -> bool
     ensures { result ≡ letter n }
 {
@@ -10,6 +11,7 @@ pub fn letter(n: u16) -> bool
 }
 
 // "1024 times the first letter plus 32 times the second plus the third".
+#[tactic(auto, unfolding(crate::specs::Language::three_letters))]
 pub fn three_letters(w: u16) -> bool
     ensures { result ≡ three_letters w }
 {
@@ -17,6 +19,7 @@ pub fn three_letters(w: u16) -> bool
 }
 
 // "Loudness is 1 integrated, 2 dialogue, 3 both."
+#[tactic(auto, unfolding(crate::specs::Language::loudness))]
 pub fn loudness(w: u16) -> bool
     ensures { result ≡ loudness w }
 {

@@ -8,8 +8,8 @@ pub mod offset;
 pub mod signed;
 pub mod values;
 
-// "A gain is either silence (-32768) or a number of tenths of a dB": the number, legal or not. The order is the declared one: "silence is
-// below every number".
+// "A gain is either silence (-32768) or a number of tenths of a dB": the number, legal or not. It is no `Option`: silence is a gain and not
+// the absence of one, and document 01 names the two. The order is the declared one: "silence is below every number".
 #[derive(Clone, Copy, PartialEq, Eq, PartialOrd, Ord)]
 pub enum Gain {
     Silent,

@@ -7,7 +7,8 @@ ghost use Rattle.values.specs.Offset.{
   legal_offset_maximum,
 };
 
-// From `lo` to `hi`, both included.
+// From `lo` to `hi`, both included; the reason for a function of its own stands at `gain_in_range`.
+#[tactic(auto, unfolding(crate::specs::Offset::offset_in_range))]
 pub fn offset_in_range(lo: i16, z: i16, hi: i16) -> bool
     ensures { result ≡ offset_in_range lo z hi }
 {
@@ -15,6 +16,7 @@ pub fn offset_in_range(lo: i16, z: i16, hi: i16) -> bool
 }
 
 // "-300 to 300"
+#[tactic(auto, unfolding(crate::specs::Offset::legal_offset))]
 pub fn legal_offset(z: i16) -> bool
     ensures { result ≡ legal_offset z }
 {
@@ -22,6 +24,7 @@ pub fn legal_offset(z: i16) -> bool
 }
 
 // "Minimums: [..] -300 to 0"
+#[tactic(auto, unfolding(crate::specs::Offset::legal_offset_minimum))]
 pub fn legal_offset_minimum(z: i16) -> bool
     ensures { result ≡ legal_offset_minimum z }
 {
@@ -29,6 +32,7 @@ pub fn legal_offset_minimum(z: i16) -> bool
 }
 
 // "Maximums: [..] 0 to 300"
+#[tactic(auto, unfolding(crate::specs::Offset::legal_offset_maximum))]
 pub fn legal_offset_maximum(z: i16) -> bool
     ensures { result ≡ legal_offset_maximum z }
 {

@@ -15,6 +15,7 @@ use crate::offset::{legal_offset, legal_offset_maximum, legal_offset_minimum, of
 use crate::signed::signed;
 
 // "In gain, offset and range words 32767 means absent"
+#[tactic(auto, unfolding(crate::specs::Values::is_absent))]
 pub fn is_absent(w: u16) -> bool
     ensures { result ≡ is_absent w }
 {
@@ -22,6 +23,7 @@ pub fn is_absent(w: u16) -> bool
 }
 
 // `w`, or `other` where `w` is absent.
+#[tactic(auto, unfolding(crate::specs::Values::or_else))]
 pub fn or_else(w: u16, other: u16) -> u16
     ensures { result ≡ or_else w other }
 {
@@ -29,6 +31,7 @@ pub fn or_else(w: u16, other: u16) -> u16
 }
 
 // A legal value of that sort.
+#[tactic(auto, unfolding(crate::specs::Values::is_value))]
 pub fn is_value(sort: Sort, w: u16) -> bool
     ensures { result ≡ is_value sort w }
 {
@@ -39,6 +42,7 @@ pub fn is_value(sort: Sort, w: u16) -> bool
 }
 
 // A legal minimum of a range of that sort.
+#[tactic(auto, unfolding(crate::specs::Values::is_minimum))]
 pub fn is_minimum(sort: Sort, w: u16) -> bool
     ensures { result ≡ is_minimum sort w }
 {
@@ -49,6 +53,7 @@ pub fn is_minimum(sort: Sort, w: u16) -> bool
 }
 
 // A legal maximum of a range of that sort.
+#[tactic(auto, unfolding(crate::specs::Values::is_maximum))]
 pub fn is_maximum(sort: Sort, w: u16) -> bool
     ensures { result ≡ is_maximum sort w }
 {

@@ -8,7 +8,6 @@ ghost use Rattle.text.specs.Buffer.{Appends, TextFilled};
 
 use checker::search::check;
 use profile::Verdict;
-use profile::places::{place_record, section};
 use text::writing::Text;
 
 // More room than any line of a verdict takes.
@@ -26,9 +25,9 @@ pub fn put_verdict(text: &mut Text, verdict: Verdict)
             text.text(b"rule ");
             text.number(u64::from(rule));
             text.text(b" section ");
-            text.number(u64::from(section(place)));
+            text.number(u64::from(place.section()));
             text.text(b" record ");
-            text.number(u64::from(place_record(place)));
+            text.number(u64::from(place.record()));
             text.text(b"\n");
         }
     }

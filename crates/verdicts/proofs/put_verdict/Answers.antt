@@ -10,5 +10,5 @@ returns-in-Accepted c = rw c.in-Accepted.is c.text.ensures
 pub returns-in-Broken : goal.returns-in-Broken
 unfolding verdict_line
 returns-in-Broken c =
-    rw (c.in-Broken.is, ← c.section.ensures.0, ← c.place_record.ensures.0, ← c.from.ensures, ← c.from-in-Broken.ensures, ← c.from-in-Broken-2.ensures)
+    rw (c.in-Broken.is, ← c.section.ensures.0, ← c.record.ensures.0, ← c.from.ensures, ← c.from-in-Broken.ensures, ← c.from-in-Broken-2.ensures)
     (search (appends_join, appends_last) depth 8)

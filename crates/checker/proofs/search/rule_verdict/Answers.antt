@@ -13,7 +13,7 @@ pub returns-then-k-n : goal.returns-then-k-n
 returns-then-k-n c =
     let a = c.args in let section = c.loop-section.section in let inside = c.loop-section-test.true in
     let all = all_subjects (sheet_of a.s.now) a.rule section (get_or c.subject_kinds-kinds.result section Nothing) c.how_many-n.result (c.subject_kinds-kinds.ensures section inside) (rw c.from.ensures at c.how_many-n.ensures) in
-    rw c.place_at.ensures (rule_found (sheet_of a.s.now) a.langs.now a.rule section c.how_many-n.result c.lowest_broken-k.result all c.lowest_broken-k.ensures inside c.loop-section.invariant c.if-k-n.true)
+    rw c.at.ensures (rule_found (sheet_of a.s.now) a.langs.now a.rule section c.how_many-n.result c.lowest_broken-k.result all c.lowest_broken-k.ensures inside c.loop-section.invariant c.if-k-n.true)
 
 pub loop-section-preserved : goal.loop-section-preserved
 loop-section-preserved c =

@@ -4,4 +4,4 @@ use Rattle.profile.specs.Verdict.{verdict_code}
 use Rattle.host.proofs.check.sheet_check.Goals as goal
 
 pub returns : goal.returns
-returns c = c.verdict_code.ensures ∙ ap verdict_code c.check.ensures
+returns c = c.from.ensures ∙ ap verdict_code c.check.ensures

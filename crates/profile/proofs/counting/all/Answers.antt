@@ -11,9 +11,6 @@ one_fails p n i l e =
       | false ↦ λ h. refl
     ]) refl
 
-pub loop-i-init : goal.loop-i-init
-loop-i-init g c = λ j l. absurd (omega (arith, l))
-
 pub returns-then-not-test-clause-computed : goal.returns-then-not-test-clause-computed
 returns-then-not-test-clause-computed g c = λ p h. one_fails p c.args.n c.loop-i.i c.loop-i-test.true (rw (← h _ _ c.loop-i-test.true c.test.ensures) (sym c.if-not-test.true))
 

@@ -1,10 +1,7 @@
 use Rattle.std.proofs.Common.{sym, arith}
-use borrow.Author.Count.{below_none, below_more}
+use borrow.Author.Count.{below_more}
 use Rattle.profile.proofs.CountingLaws.{lowest_at, lowest_none}
 use Rattle.profile.proofs.counting.lowest.Goals as goal
-
-pub loop-i-init : goal.loop-i-init
-loop-i-init g c = λ p h. below_none _
 
 pub returns-then-test : goal.returns-then-test
 returns-then-test g c = λ p h.
