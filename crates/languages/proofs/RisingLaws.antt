@@ -12,7 +12,6 @@ use borrow.Author.Tests.{eq-eqb, ne_eqb, lt-ltb, le-ltb, le-leb, lt-leb, leb-tru
 use Rattle.sheet.specs.Words.{words}
 use Rattle.sheet.proofs.WordLaws.{at, how_many_lem}
 use lib.Bits.{bit_and, bit_or}
-use mir.Val.{bool_byte}
 use Rattle.profile.specs.Counting.{any}
 use Rattle.profile.specs.Languages.{is_rising}
 use Rattle.profile.proofs.BoolLaws.{or_false, or_true}
@@ -93,11 +92,6 @@ module _ (bytes : List ℕ) (small : (i : ℕ) → get_or bytes i 0 < 256) where
 pub few_rise : (bytes : List ℕ) → length bytes < 4 → true ≡ is_rising (words bytes)
 unfolding is_rising any
 few_rise bytes l = let e : length (words bytes) - 1 ≡ 0 = omega (arith, how_many_lem bytes, l) in rw e refl
-
--- a test as a number
-pub byte_cond : (b : Bool) → bool_byte b ≡ cond b 1 0
-byte_cond true = refl
-byte_cond false = refl
 
 -- numbers that stand for tests
 pub bits_and : (a b : Bool) → bit_and (cond a 1 0) (cond b 1 0) ≡ cond (a && b) 1 0

@@ -57,6 +57,7 @@ impl<'a> Languages<'a> {
     }
 
     // Whether the list has at most two words for each byte of a sheet, so that a table of it is worth its filling.
+    #[tactic(auto, unfolding(sheet::specs::Words::sheet_of, sheet::specs::Words::word_count))]
     pub fn is_short_for(&self, bytes: usize) -> bool
         ensures { result ≡ leb (length self.now / 2) bytes }
     {
@@ -88,13 +89,13 @@ impl<'a> Languages<'a> {
     }
 
     // "a code of three letters is good if listed, or from qaa to qtz".
+    #[tactic(auto, using(crate::proofs::TableLaws::told_good, crate::proofs::TableLaws::found_good))]
     pub fn good(&self, w: u16) -> bool
         ensures { result ≡ good_language self.now w }
     {
-        let i = usize::from(w);
-        if i < self.table.len() {
-            return (self.table[i] == 1) | (three_letters(w) & is_reserved(w));
+        match self.table.get(usize::from(w)) {
+            Some(mark) => (*mark == 1) | (three_letters(w) & is_reserved(w)),
+            None => three_letters(w) & (is_reserved(w) | self.is_listed(w)),
         }
-        three_letters(w) & (is_reserved(w) | self.is_listed(w))
     }
 }

@@ -6,6 +6,7 @@ ghost use Rattle.profile.specs.Languages.{is_rising};
 ghost use Rattle.sheet.specs.Words.{words};
 
 // 1 where a word begins at byte j and the next is at most it.
+#[tactic(auto, unfolding(crate::specs::steps::Falls::falls_at), using(profile::proofs::BoolLaws::byte_cond, crate::proofs::RisingLaws::bits_and, crate::proofs::RisingLaws::bits_or))]
 fn fall_bit(langs: &[u8], j: usize) -> u8
     requires { j + 3 < length langs.now }
     ensures { result ≡ cond (falls_at langs.now j) 1 0 }
@@ -16,6 +17,7 @@ fn fall_bit(langs: &[u8], j: usize) -> u8
 }
 
 // "strictly rising": no word is at most the one before it.
+#[tactic(auto, unfolding(profile::specs::Counting::any), using(crate::proofs::RisingLaws::bits_or, crate::proofs::RisingLaws::few_rise, crate::proofs::RisingLaws::rises_by_bytes))]
 pub fn rises(langs: &[u8]) -> bool
     ensures { result ≡ is_rising (words langs.now) }
 {

@@ -21,6 +21,7 @@ fn mark_code(w: u16, table: &mut [u8; LANGUAGE_WORDS])
 }
 
 // Fills a table: 1 at the codes of three letters that the list has, 0 at other words.
+#[tactic(auto, unfolding(sheet::specs::Words::sheet_of, sheet::specs::Words::word, sheet::specs::Words::word_count, profile::specs::Languages::is_listed), using(crate::proofs::TableLaws::tabled_more))]
 pub fn fill(langs: &[u8], table: &mut [u8; LANGUAGE_WORDS])
     ensures { Tabled (words langs.now) table.new }
 {

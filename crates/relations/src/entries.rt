@@ -1,4 +1,6 @@
-// The entries of the list at a position of a record, by a test that the caller gives.
+// The entries of the list at a position of a record, by a test that the caller gives. The list is named by section, record and position, as in
+// the definitions `entry`, `number`, `lists` and `times`, which take the three: a struct of them would be built at each call, where section and
+// position are constants, and taken apart again to state the contract. Where both words of a list are read, `Span` (sheet) has them.
 ghost use Rattle.std.specs.Prelude.{ℕ, Bool, ◌≤◌, ◌≡◌};
 ghost use Rattle.profile.specs.Counting.{ComputesBelow, any, how_many};
 ghost use Rattle.profile.specs.Relations.{lists, times};
@@ -28,7 +30,6 @@ pub fn any_entry<F: Fn(u16) -> bool>(s: &[u8], section: u8, k: u16, at: u8, test
 }
 
 // Whether the list has x.
-#[tactic(auto, unfolding(profile::specs::Relations::lists))]
 pub fn lists(s: &[u8], section: u8, k: u16, at: u8, x: u16) -> bool
     ensures { result ≡ lists (sheet_of s.now) section k at x }
 {
@@ -36,7 +37,6 @@ pub fn lists(s: &[u8], section: u8, k: u16, at: u8, x: u16) -> bool
 }
 
 // How often the list names x.
-#[tactic(auto, unfolding(profile::specs::Relations::times))]
 pub fn times(s: &[u8], section: u8, k: u16, at: u8, x: u16) -> u16
     ensures { (result ≡ times (sheet_of s.now) section k at x) × (result ≤ number (sheet_of s.now) section k at) }
 {

@@ -10,6 +10,7 @@ use sheet::fields::{COMPLEMENT_LIST, OBJECTS};
 use sheet::layout::{count, entry, number};
 
 // "A group is a leader [..] followed by those it lists." Member i of a leader's group.
+#[tactic(auto, unfolding(profile::specs::Relations::member))]
 pub fn member(s: &[u8], l: u16, i: u16) -> u16
     ensures { result ≡ member (sheet_of s.now) l i }
 {
@@ -21,10 +22,11 @@ pub fn member(s: &[u8], l: u16, i: u16) -> u16
 }
 
 // How many members the group has.
+#[tactic(auto, unfolding(profile::specs::Relations::members))]
 pub fn members(s: &[u8], l: u16) -> u32
     ensures { (result ≡ members (sheet_of s.now) l) × (result ≤ 65536) }
 {
-    number(s, OBJECTS, l, COMPLEMENT_LIST) as u32 + 1
+    u32::from(number(s, OBJECTS, l, COMPLEMENT_LIST)) + 1
 }
 
 // The leader of an object's group: the object that lists it, else itself.

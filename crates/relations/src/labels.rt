@@ -7,7 +7,6 @@ use crate::entries::any_entry;
 use languages::list::Languages;
 
 // Whether some entry of the list at a position of a record is no good language.
-#[tactic(auto, unfolding(profile::specs::Rules::bad_label))]
 pub fn bad_label(s: &[u8], langs: &Languages, section: u8, k: u16, at: u8) -> bool
     ensures { result ≡ bad_label (sheet_of s.now) langs.now section k at }
 {

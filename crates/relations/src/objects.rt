@@ -10,37 +10,46 @@ use sheet::fields::{
 };
 use sheet::layout::{count, field, number};
 
+#[tactic(auto, unfolding(profile::specs::Relations::pack_of))]
 pub fn pack_of(s: &[u8], o: u16) -> u16
     ensures { result ≡ pack_of (sheet_of s.now) o }
 {
     field(s, OBJECTS, o, OBJECT_PACK)
 }
 
+#[tactic(auto, unfolding(profile::specs::Relations::has_pack))]
 pub fn has_pack(s: &[u8], o: u16) -> bool
     ensures { result ≡ has_pack (sheet_of s.now) o }
 {
     pack_of(s, o) != NO_PACK
 }
 
+#[tactic(auto, unfolding(profile::specs::Relations::has_children))]
 pub fn has_children(s: &[u8], o: u16) -> bool
     ensures { result ≡ has_children (sheet_of s.now) o }
 {
     0 < number(s, OBJECTS, o, CHILD_LIST)
 }
 
+#[tactic(auto, unfolding(profile::specs::Relations::has_objects_pack))]
 pub fn has_objects_pack(s: &[u8], o: u16) -> bool
     ensures { result ≡ has_objects_pack (sheet_of s.now) o }
 {
     has_pack(s, o) & (field(s, PACKS, pack_of(s, o), PACK_KIND) == 3)
 }
 
+#[tactic(auto, unfolding(profile::specs::Relations::has_front_pack))]
 pub fn has_front_pack(s: &[u8], o: u16) -> bool
     ensures { result ≡ has_front_pack (sheet_of s.now) o }
 {
     has_objects_pack(s, o) & (field(s, PACKS, pack_of(s, o), PACK_FRONT) == 1)
 }
 
+// `kind` and `channels` are the definitions of their names, each one expression: a function for both would take the word for an object with
+// children and a position of a pack, and these two would call it.
+
 // "Its kind is its pack's, or 3 if it has children."
+#[tactic(auto, unfolding(profile::specs::Relations::kind))]
 pub fn kind(s: &[u8], o: u16) -> u16
     ensures { result ≡ kind (sheet_of s.now) o }
 {
@@ -52,6 +61,7 @@ pub fn kind(s: &[u8], o: u16) -> u16
 }
 
 // How many tracks an object has to have: its pack's channels, "(0 with children)".
+#[tactic(auto, unfolding(profile::specs::Relations::channels))]
 pub fn channels(s: &[u8], o: u16) -> u16
     ensures { result ≡ channels (sheet_of s.now) o }
 {
@@ -63,6 +73,7 @@ pub fn channels(s: &[u8], o: u16) -> u16
 }
 
 // "a leader (an object with complements)"
+#[tactic(auto, unfolding(profile::specs::Relations::leader))]
 pub fn leader(s: &[u8], o: u16) -> bool
     ensures { result ≡ leader (sheet_of s.now) o }
 {
@@ -70,6 +81,7 @@ pub fn leader(s: &[u8], o: u16) -> bool
 }
 
 // A section has no record k.
+#[tactic(auto, unfolding(profile::specs::Rules::lacks))]
 pub fn lacks(s: &[u8], section: u8, k: u16) -> bool
     ensures { result ≡ lacks (sheet_of s.now) section k }
 {

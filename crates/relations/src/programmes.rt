@@ -9,7 +9,6 @@ use sheet::fields::{CONTENT_LIST, CONTENT_OBJECT, CONTENTS, PROGRAMMES, SET_LIST
 use sheet::layout::{entry, field};
 
 // "A programme includes the top objects of its contents".
-#[tactic(auto, unfolding(profile::specs::Relations::includes))]
 pub fn includes(s: &[u8], p: u16, o: u16) -> bool
     ensures { result ≡ includes (sheet_of s.now) p o }
 {
@@ -19,6 +18,7 @@ pub fn includes(s: &[u8], p: u16, o: u16) -> bool
 }
 
 // The set at a position of the programme's set list.
+#[tactic(auto, unfolding(profile::specs::Relations::named_set))]
 pub fn named_set(s: &[u8], p: u16, i: u16) -> u16
     ensures { result ≡ named_set (sheet_of s.now) p i }
 {
@@ -26,7 +26,6 @@ pub fn named_set(s: &[u8], p: u16, i: u16) -> u16
 }
 
 // The programme names a set for the object.
-#[tactic(auto, unfolding(profile::specs::Relations::names_set))]
 pub fn names_set(s: &[u8], p: u16, o: u16) -> bool
     ensures { result ≡ names_set (sheet_of s.now) p o }
 {

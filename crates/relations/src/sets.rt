@@ -12,11 +12,13 @@ use sheet::fields::{
     OBJECT_OFFSET_MINIMUM, OBJECTS, SET_GAIN, SET_GAIN_MAXIMUM, SET_GAIN_MINIMUM, SET_OFFSET,
     SET_OFFSET_MAXIMUM, SET_OFFSET_MINIMUM, SET_OWN, SET_SPAN, VALUE_SETS,
 };
-use sheet::layout::{field, number};
+use sheet::layout::field;
+use sheet::spans::Span;
 use values::Sort;
 use values::values::{in_range, is_absent, is_maximum, is_minimum, is_value, or_else};
 
-// Where a record has the value of a sort, and the ends of its range.
+// Where a record has the value of a sort, and the ends of its range: `in_object` and `in_set` differ in the constants, which are all that
+// they have, so that one function for both would take the six of them.
 #[derive(Clone, Copy)]
 pub struct Positions {
     pub value: u8,
@@ -112,7 +114,7 @@ impl Values {
 }
 
 // The words at three positions of a record.
-fn values_at(s: &[u8], section: u8, k: u16, at: Positions) -> Values
+fn values_in(s: &[u8], section: u8, k: u16, at: Positions) -> Values
     ensures value { result.value ≡ field (sheet_of s.now) section k at.value }
     ensures minimum { result.minimum ≡ field (sheet_of s.now) section k at.minimum }
     ensures maximum { result.maximum ≡ field (sheet_of s.now) section k at.maximum }
@@ -124,13 +126,16 @@ fn values_at(s: &[u8], section: u8, k: u16, at: Positions) -> Values
     }
 }
 
+// The words of an object and of a value set, under the names of the definitions: each hands `values_in` the section and the positions that go
+// together, which one function for both would ask its callers to bring.
+
 // An object's own.
 pub fn object_values(s: &[u8], o: u16, sort: Sort) -> Values
     ensures value { result.value ≡ field (sheet_of s.now) objects o (object_value sort) }
     ensures minimum { result.minimum ≡ field (sheet_of s.now) objects o (object_minimum sort) }
     ensures maximum { result.maximum ≡ field (sheet_of s.now) objects o (object_maximum sort) }
 {
-    values_at(s, OBJECTS, o, Positions::in_object(sort))
+    values_in(s, OBJECTS, o, Positions::in_object(sort))
 }
 
 // A value set's own.
@@ -139,26 +144,29 @@ pub fn set_values(s: &[u8], v: u16, sort: Sort) -> Values
     ensures minimum { result.minimum ≡ field (sheet_of s.now) value_sets v (set_minimum sort) }
     ensures maximum { result.maximum ≡ field (sheet_of s.now) value_sets v (set_maximum sort) }
 {
-    values_at(s, VALUE_SETS, v, Positions::in_set(sort))
+    values_in(s, VALUE_SETS, v, Positions::in_set(sort))
 }
 
 // Value set v is in the span of object o.
+#[tactic(auto, unfolding(profile::specs::Relations::has_set))]
 pub fn has_set(s: &[u8], o: u16, v: u16) -> bool
     ensures { result ≡ has_set (sheet_of s.now) o v }
 {
-    let from = field(s, OBJECTS, o, SET_SPAN);
-    let many = number(s, OBJECTS, o, SET_SPAN);
-    (from <= v) & ((v as u32) < (from as u32) + (many as u32))
+    let span = Span::at(s, OBJECTS, o, SET_SPAN);
+    (span.first <= v) & (u32::from(v) < u32::from(span.first) + u32::from(span.count))
 }
 
 // An object's own value, 0 where it is absent.
+#[tactic(auto, unfolding(profile::specs::Relations::own_value))]
 pub fn own_value(s: &[u8], o: u16, sort: Sort) -> u16
     ensures { result ≡ own_value (sheet_of s.now) o sort }
 {
     or_else(object_values(s, o, sort).value, 0)
 }
 
-// "For a set, the effective gain and offset are its own, else the object's, else 0"
+// "For a set, the effective gain and offset are its own, else the object's, else 0": the value alone, for callers that ask no range, and by
+// `effective_values` with its range.
+#[tactic(auto, unfolding(profile::specs::Relations::effective_value))]
 pub fn effective_value(s: &[u8], o: u16, v: u16, sort: Sort) -> u16
     ensures { result ≡ effective_value (sheet_of s.now) o v sort }
 {
@@ -167,6 +175,7 @@ pub fn effective_value(s: &[u8], o: u16, v: u16, sort: Sort) -> u16
 
 // "For a set, the effective gain and offset are its own, else the object's, else 0; its effective ranges are its own four words where own
 // is 1, else the object's"
+#[tactic(auto, unfolding(profile::specs::Relations::effective_minimum, profile::specs::Relations::effective_maximum))]
 pub fn effective_values(s: &[u8], o: u16, v: u16, sort: Sort) -> Values
     ensures value { result.value ≡ effective_value (sheet_of s.now) o v sort }
     ensures minimum { result.minimum ≡ effective_minimum (sheet_of s.now) o v sort }

@@ -10,29 +10,33 @@ use sheet::fields::{CHILD_LIST, OBJECTS, TRACK_LIST};
 use sheet::layout::{entry, number};
 
 // The tracks of an object's children.
+#[tactic(auto, unfolding(crate::specs::steps::Sizes::children_tracks, profile::specs::Counting::sum))]
 pub fn children_tracks(s: &[u8], o: u16) -> u32
     ensures { result ≡ children_tracks (sheet_of s.now) o }
 {
     let n = number(s, OBJECTS, o, CHILD_LIST);
     let mut total: u32 = 0;
     for i in 0..n {
-        total += number(s, OBJECTS, entry(s, OBJECTS, o, CHILD_LIST, i), TRACK_LIST) as u32;
+        let child = entry(s, OBJECTS, o, CHILD_LIST, i);
+        total += u32::from(number(s, OBJECTS, child, TRACK_LIST));
     }
     total
 }
 
 // "An object's size is its track count, or its children's added up."
+#[tactic(auto, unfolding(profile::specs::Relations::size, crate::specs::steps::Sizes::children_tracks))]
 pub fn size(s: &[u8], o: u16) -> u32
     ensures { result ≡ size (sheet_of s.now) o }
 {
     if has_children(s, o) {
         children_tracks(s, o)
     } else {
-        number(s, OBJECTS, o, TRACK_LIST) as u32
+        u32::from(number(s, OBJECTS, o, TRACK_LIST))
     }
 }
 
 // The size of the largest member of a leader's group.
+#[tactic(auto, unfolding(crate::specs::steps::Sizes::largest_member, profile::specs::Counting::largest))]
 pub fn largest_member(s: &[u8], l: u16) -> u32
     ensures { result ≡ largest_member (sheet_of s.now) l }
 {
