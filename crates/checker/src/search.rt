@@ -21,7 +21,7 @@ use screen::screening::{large_passes, middling_passes, small_passes};
 use sheet::fields::{OBJECTS, PROGRAMMES};
 use sheet::layout::count;
 use std::ops::Range;
-use tables::entry_counts::{fewer_entries, list_entries};
+use tables::entry_counts::{entries_left, list_entries};
 
 // The lowest record of a section before the last of some that breaks the rule asked, or their end, by the tables that the rule is lent,
 // where those before the first of them keep it. That they do is a `requires` of three functions: a struct with that as its ghost field would
@@ -102,10 +102,10 @@ const FEW_ENTRIES: u32 = 8192;
 
 // Whether they have. The verdict is the same either way.
 fn crowded(s: &[u8], section: u8) -> bool {
-    let fewer = fewer_entries(count(s, section), FEW_ENTRIES + 1, |k| {
+    entries_left(count(s, section), FEW_ENTRIES, |k| {
         list_entries(s, section, k)
-    });
-    fewer == 0
+    })
+    .is_none()
 }
 
 // With tables over the references, where the section's lists have many entries. No sheet has more references.

@@ -15,7 +15,7 @@ use sheet::fields::{
 };
 use sheet::layout::{count, field, number, offset};
 use tables::Naming;
-use tables::entry_counts::fewer_entries;
+use tables::entry_counts::entries_left;
 use tables::marks::{clear, first_namers, mark_objects};
 
 // Whether two programmes have the same list at a position.
@@ -122,18 +122,19 @@ fn leaders_from(
     from.max(n)
 }
 
-// Whether the content lists have, one with another, less than an entry for 32 objects. Nothing rests on this but time.
+// Whether the content lists have, one with another, at most an entry for 32 objects. Nothing rests on this but time.
 #[tactic(auto, using(sheet::proofs::IndexLaws::product))]
 fn short_lists(s: &[u8]) -> bool {
     let o = count(s, OBJECTS);
     if o < 64 {
         return false;
     }
-    let most = count(s, PROGRAMMES) as u32 * (o as u32 / 32);
-    let fewer = fewer_entries(count(s, PROGRAMMES), most, |p| {
-        number(s, PROGRAMMES, p, CONTENT_LIST) as u32
-    });
-    fewer != 0
+    let programmes = count(s, PROGRAMMES);
+    let most = u32::from(programmes) * (u32::from(o) / 32);
+    entries_left(programmes, most, |p| {
+        u32::from(number(s, PROGRAMMES, p, CONTENT_LIST))
+    })
+    .is_some()
 }
 
 // The same in tables with a place for each object: by the leaders where the content lists are short, else by the rows. Which way it is

@@ -13,7 +13,7 @@ use grouping::programmes::programmes_pass;
 use languages::list::Languages;
 use sheet::fields::{CONTENTS, OBJECTS, PROGRAMMES, VALUE_SETS};
 use sheet::layout::count;
-use tables::entry_counts::{fewer_entries, list_entries};
+use tables::entry_counts::{entries_left, list_entries};
 use tables::namings::items;
 use tables::passes::{count_contents, count_lists, count_tops};
 use tables::reads::all_once;
@@ -23,9 +23,11 @@ use tables::{Naming, ObjectTables};
 // share long lists, walking them takes too long, and for nothing where the sheet doesn't pass.
 const MANY_ENTRIES: u32 = 65536;
 
-// By how many entries the lists of a section are fewer than a number.
-fn fewer_in(s: &[u8], section: u8, most: u32) -> u32 {
-    fewer_entries(count(s, section), most, |k| list_entries(s, section, k))
+// How many of MANY_ENTRIES the lists of a section leave, where they have no more.
+fn left_of_many(s: &[u8], section: u8) -> Option<u32> {
+    entries_left(count(s, section), MANY_ENTRIES, |k| {
+        list_entries(s, section, k)
+    })
 }
 
 // Whether each section's lists, with the spans of the objects, have few entries together, as they have in a short sheet. Nothing rests on
@@ -34,13 +36,15 @@ fn few_entries(s: &[u8]) -> bool {
     if s.len() < 8192 {
         return true;
     }
-    let most = MANY_ENTRIES + 1;
-    let left = fewer_in(s, OBJECTS, most);
-    (fewer_in(s, PROGRAMMES, most) != 0)
-        & (fewer_in(s, CONTENTS, most) != 0)
-        & (fewer_entries(count(s, OBJECTS), left, |o| {
-            u32::from(items(s, Naming::SetSpans, o))
-        }) != 0)
+    let Some(left) = left_of_many(s, OBJECTS) else {
+        return false;
+    };
+    let spans = entries_left(count(s, OBJECTS), left, |o| {
+        u32::from(items(s, Naming::SetSpans, o))
+    });
+    spans.is_some()
+        & left_of_many(s, PROGRAMMES).is_some()
+        & left_of_many(s, CONTENTS).is_some()
 }
 
 // Whether the header and the sections keep rules 1, 2, 3 and 7, and the lists have few entries.

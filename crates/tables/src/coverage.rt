@@ -8,7 +8,7 @@ ghost use Rattle.tables.specs.steps.Marks.{MarkedTimes, NamingsCounted, NumbersB
 ghost use Rattle.tables.specs.steps.Namings.{namers};
 
 use crate::Naming;
-use crate::entry_counts::fewer_entries;
+use crate::entry_counts::entries_left;
 use crate::marks::{count_namings, counted_once, mark_at};
 use crate::namings::{items, namers};
 use sheet::fields::{
@@ -37,7 +37,7 @@ fn run_begin(s: &[u8], kind: Naming, q: u16) -> u16
 fn run_end(s: &[u8], kind: Naming, q: u16) -> u32
     ensures { result ≡ run_end (sheet_of s.now) kind q }
 {
-    run_begin(s, kind, q) as u32 + items(s, kind, q) as u32
+    u32::from(run_begin(s, kind, q)) + u32::from(items(s, kind, q))
 }
 
 // The record that an index names: itself, or the entry of section 6.
@@ -46,11 +46,11 @@ fn named_at(s: &[u8], kind: Naming, y: u16) -> u16
 {
     match kind {
         Naming::ContentObjects => y,
-        Naming::Children => reference(s, y as u32),
-        Naming::Complements => reference(s, y as u32),
-        Naming::ContentLists => reference(s, y as u32),
-        Naming::Included => field(s, CONTENTS, reference(s, y as u32), CONTENT_OBJECT),
-        Naming::SetLists => reference(s, y as u32),
+        Naming::Children => reference(s, u32::from(y)),
+        Naming::Complements => reference(s, u32::from(y)),
+        Naming::ContentLists => reference(s, u32::from(y)),
+        Naming::Included => field(s, CONTENTS, reference(s, u32::from(y)), CONTENT_OBJECT),
+        Naming::SetLists => reference(s, u32::from(y)),
         Naming::SetSpans => y,
     }
 }
@@ -93,7 +93,8 @@ fn counted_on(c: u16, times: u32) -> u16
     }
 }
 
-// Counts what the indices below m name, each as often as runs cover it: those that began and have not ended.
+// Counts what the indices below m name, each as often as runs cover it: those that began and have not ended. Both tables are locals of its
+// one caller: a struct of the two would be made for this call alone.
 fn count_indices(s: &[u8], kind: Naming, m: u16, begins: &[u16], ends: &[u16], table: &mut [u16])
     requires { (m ≤ length begins.now) × (m ≤ length ends.now) × Tallied (run_begin (sheet_of s.now) kind) (namers (sheet_of s.now) kind) begins.now × Tallied (run_end (sheet_of s.now) kind) (namers (sheet_of s.now) kind) ends.now }
     ensures { MarkedTimes counted_once (λ x. sum (λ y. cond (eqb (named_at (sheet_of s.now) kind y) x) (cover (sheet_of s.now) kind y) 0) m) table.old table.new }
@@ -101,10 +102,14 @@ fn count_indices(s: &[u8], kind: Naming, m: u16, begins: &[u16], ends: &[u16], t
     let mut begun: u32 = 0;
     let mut ended: u32 = 0;
     for y in 0..m {
-        begun += begins[y as usize] as u32;
-        ended += ends[y as usize] as u32;
+        begun += u32::from(begins[usize::from(y)]);
+        ended += u32::from(ends[usize::from(y)]);
         let times = begun - ended;
-        mark_at(table, named_at(s, kind, y) as u32, |c| counted_on(c, times));
+        mark_at(
+            table,
+            u32::from(named_at(s, kind, y)),
+            |c| counted_on(c, times),
+        );
     }
 }
 
@@ -115,7 +120,7 @@ fn count_cover(s: &[u8], kind: Naming, m: u16, table: &mut [u16])
 {
     let n = namers(s, kind);
     let mut begins: [u16; 32768] = [0; 32768];
-    tally(n, |q| run_begin(s, kind, q) as u32, &mut begins);
+    tally(n, |q| u32::from(run_begin(s, kind, q)), &mut begins);
     let mut ends: [u16; 32768] = [0; 32768];
     tally(n, |q| run_end(s, kind, q), &mut ends);
     count_indices(s, kind, m, &begins, &ends, table);
@@ -125,12 +130,10 @@ fn count_cover(s: &[u8], kind: Naming, m: u16, table: &mut [u16])
 pub fn count_covered(s: &[u8], kind: Naming, table: &mut [u16])
     ensures { NamingsCounted (sheet_of s.now) kind table.old table.new }
 {
-    let fewer = fewer_entries(
-        namers(s, kind),
-        FEW_INDICES + 1,
-        |q| items(s, kind, q) as u32,
-    );
-    if fewer == 0 {
+    let left = entries_left(namers(s, kind), FEW_INDICES, |q| {
+        u32::from(items(s, kind, q))
+    });
+    if left.is_none() {
         let m = reach(s, kind);
         if m <= 32768 {
             count_cover(s, kind, m as u16, table);

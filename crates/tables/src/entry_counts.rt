@@ -1,6 +1,6 @@
-// By how many the entries of lists are fewer than a number. Where many records share long lists they are more than the sheet has words, so
+// How many entries lists have together, as far as a number. Where many records share long lists they are more than the sheet has words, so
 // that the count stops at the number. Nothing rests on it but time.
-ghost use Rattle.std.specs.Prelude.{ℕ, ◌-◌, ◌≡◌};
+ghost use Rattle.std.specs.Prelude.{ℕ, ◌-◌, Some, None, cond, leb, ◌≡◌};
 ghost use Rattle.profile.specs.Counting.{sum};
 ghost use Rattle.sheet.specs.Words.{sheet_of};
 ghost use Rattle.tables.specs.steps.EntryCounts.{list_entries};
@@ -18,29 +18,25 @@ pub fn list_entries(s: &[u8], section: u8, k: u16) -> u32
     ensures { result ≡ list_entries (sheet_of s.now) section k }
 {
     match section {
-        PROGRAMMES => number(s, PROGRAMMES, k, CONTENT_LIST) as u32
-            + number(s, PROGRAMMES, k, SET_LIST) as u32
-            + number(s, PROGRAMMES, k, PROGRAMME_LABELS) as u32,
-        CONTENTS => number(s, CONTENTS, k, CONTENT_LABELS) as u32,
-        OBJECTS => number(s, OBJECTS, k, TRACK_LIST) as u32
-            + number(s, OBJECTS, k, CHILD_LIST) as u32
-            + number(s, OBJECTS, k, COMPLEMENT_LIST) as u32,
+        PROGRAMMES => u32::from(number(s, PROGRAMMES, k, CONTENT_LIST))
+            + u32::from(number(s, PROGRAMMES, k, SET_LIST))
+            + u32::from(number(s, PROGRAMMES, k, PROGRAMME_LABELS)),
+        CONTENTS => u32::from(number(s, CONTENTS, k, CONTENT_LABELS)),
+        OBJECTS => u32::from(number(s, OBJECTS, k, TRACK_LIST))
+            + u32::from(number(s, OBJECTS, k, CHILD_LIST))
+            + u32::from(number(s, OBJECTS, k, COMPLEMENT_LIST)),
         _ => 0,
     }
 }
 
-// By how many the entries of n records are fewer than `most`: 0 where they are as many or more.
-pub fn fewer_entries<F: Fn(u16) -> u32>(n: u16, most: u32, entries: F) -> u32
+// How many of so many entries n records leave; none is told where they have more together.
+pub fn entries_left<F: Fn(u16) -> u32>(n: u16, most: u32, entries: F) -> Option<u32>
     requires { F.IsAlwaysCallable entries }
-    ensures { (f : ℕ → ℕ) → NumbersBelow n (F.post entries) f → result ≡ most - sum f n }
+    ensures { (f : ℕ → ℕ) → NumbersBelow n (F.post entries) f → result ≡ cond (leb (sum f n) most) (Some (most - sum f n)) None }
 {
     let mut left = most;
     for k in 0..n {
-        let e = entries(k);
-        if left <= e {
-            return 0;
-        }
-        left -= e;
+        left = left.checked_sub(entries(k))?;
     }
-    left
+    Some(left)
 }

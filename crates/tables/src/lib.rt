@@ -11,7 +11,8 @@ pub mod passes;
 pub mod reads;
 pub mod totals;
 
-// What names a record of another section, or of its own: the relations that definitions and contracts name, and no steps.
+// What names a record of another section, or of its own. Contracts name the relation, as `times_by s kind q`, for which a closure that
+// walks what a record names has no name; `mark_items` picks its walk by it.
 #[derive(Clone, Copy)]
 pub enum Naming {
     // a content names its object
@@ -30,14 +31,17 @@ pub enum Naming {
     SetSpans,
 }
 
-// How often contents and complement lists name each object, as far as the tables reach.
+// How often contents and complement lists name each object, as far as the tables reach. That they are right, `ObjectsTabled`, is a premise
+// of each contract, and the fields are public: a public function asks nothing of its callers, and as an invariant or a ghost field the
+// fact would be asked where the struct is made.
 #[derive(Clone, Copy)]
 pub struct ObjectTables<'a> {
     pub tops: &'a [u16],
     pub complements: &'a [u16],
 }
 
-// Whose each value set is, and the leader of each object's group, as far as the tables reach.
+// Whose each value set is, and the leader of each object's group, as far as the tables reach. `GroupsTabled` is a premise as
+// `ObjectsTabled` above, for the same reason.
 #[derive(Clone, Copy)]
 pub struct GroupTables<'a> {
     pub owners: &'a [u16],

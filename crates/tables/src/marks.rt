@@ -11,10 +11,10 @@ use crate::Naming;
 use crate::namings::{items, namers};
 use sheet::fields::{
     CHILD_LIST, COMPLEMENT_LIST, CONTENT_LIST, CONTENT_OBJECT, CONTENTS, OBJECTS, PROGRAMMES,
-    REFERENCES, SET_LIST, SET_SPAN,
+    SET_LIST, SET_SPAN,
 };
-use sheet::layout::{field, number, offset};
-use sheet::words::word;
+use sheet::layout::field;
+use sheet::spans::{Entries, Span};
 
 // What a count goes to: 0, 1, and 2 for twice or more.
 pub fn counted_once(c: u16) -> u16
@@ -36,31 +36,23 @@ pub fn mark_at<F: Fn(u16) -> u16>(table: &mut [u16], x: u32, mark: F)
     }
 }
 
-// Marks n places from one on.
-fn mark_span<F: Fn(u16) -> u16>(from: u16, n: u16, mark: F, table: &mut [u16])
+// Marks the places of a span.
+fn mark_span<F: Fn(u16) -> u16>(span: Span, mark: F, table: &mut [u16])
     requires { F.IsAlwaysCallable mark }
-    ensures { (f : ℕ → ℕ) → NumbersBelow 65536 (F.post mark) f → MarkedTimes f (λ x. how_many (λ j. eqb (from + j) x) n) table.old table.new }
+    ensures { (f : ℕ → ℕ) → NumbersBelow 65536 (F.post mark) f → MarkedTimes f (λ x. how_many (λ j. eqb (span.first + j) x) span.count) table.old table.new }
 {
-    for i in 0..n {
-        mark_at(table, from as u32 + i as u32, &mark);
+    for i in 0..span.count {
+        mark_at(table, u32::from(span.first) + u32::from(i), &mark);
     }
 }
 
-// Marks the entries of a list: n entries of section 6, whose offset is `base`, from `first` on.
-pub fn mark_list<F: Fn(u16) -> u16>(
-    s: &[u8],
-    base: u16,
-    first: u16,
-    n: u16,
-    mark: F,
-    table: &mut [u16],
-)
+// Marks the entries of a list.
+pub fn mark_list<F: Fn(u16) -> u16>(s: &[u8], entries: Entries, mark: F, table: &mut [u16])
     requires { F.IsAlwaysCallable mark }
-    ensures { (f : ℕ → ℕ) → NumbersBelow 65536 (F.post mark) f → MarkedTimes f (λ x. how_many (λ j. eqb (word (sheet_of s.now) (base + (first + j))) x) n) table.old table.new }
+    ensures { (f : ℕ → ℕ) → NumbersBelow 65536 (F.post mark) f → MarkedTimes f (λ x. how_many (λ j. eqb (word (sheet_of s.now) (entries.base + (entries.list.first + j))) x) entries.list.count) table.old table.new }
 {
-    for i in 0..n {
-        let e = word(s, base as usize + (first as usize + i as usize));
-        mark_at(table, e as u32, &mark);
+    for i in 0..entries.list.count {
+        mark_at(table, u32::from(entries.at(s, i)), &mark);
     }
 }
 
@@ -69,7 +61,11 @@ pub fn mark_object<F: Fn(u16) -> u16>(s: &[u8], q: u16, mark: F, table: &mut [u1
     requires { F.IsAlwaysCallable mark }
     ensures { (f : ℕ → ℕ) → NumbersBelow 65536 (F.post mark) f → MarkedTimes f (times_by (sheet_of s.now) ContentObjects q) table.old table.new }
 {
-    mark_at(table, field(s, CONTENTS, q, CONTENT_OBJECT) as u32, mark);
+    mark_at(
+        table,
+        u32::from(field(s, CONTENTS, q, CONTENT_OBJECT)),
+        mark,
+    );
 }
 
 // Marks the objects that a programme includes.
@@ -77,12 +73,10 @@ pub fn mark_objects<F: Fn(u16) -> u16>(s: &[u8], p: u16, mark: F, table: &mut [u
     requires { F.IsAlwaysCallable mark }
     ensures { (f : ℕ → ℕ) → NumbersBelow 65536 (F.post mark) f → MarkedTimes f (times_by (sheet_of s.now) IncludedObjects p) table.old table.new }
 {
-    let base = offset(s, REFERENCES) as usize;
-    let first = field(s, PROGRAMMES, p, CONTENT_LIST) as usize;
-    let n = number(s, PROGRAMMES, p, CONTENT_LIST);
-    for i in 0..n {
-        let c = word(s, base + (first + i as usize));
-        mark_at(table, field(s, CONTENTS, c, CONTENT_OBJECT) as u32, &mark);
+    let contents = Span::at(s, PROGRAMMES, p, CONTENT_LIST).entries(s);
+    for i in 0..contents.list.count {
+        let object = field(s, CONTENTS, contents.at(s, i), CONTENT_OBJECT);
+        mark_at(table, u32::from(object), &mark);
     }
 }
 
@@ -99,14 +93,7 @@ fn mark_entries<F: Fn(u16) -> u16>(
     requires { F.IsAlwaysCallable mark }
     ensures { (f : ℕ → ℕ) → NumbersBelow 65536 (F.post mark) f → MarkedTimes f (times (sheet_of s.now) section q at) table.old table.new }
 {
-    mark_list(
-        s,
-        offset(s, REFERENCES),
-        field(s, section, q, at),
-        number(s, section, q, at),
-        mark,
-        table,
-    );
+    mark_list(s, Span::at(s, section, q, at).entries(s), mark, table);
 }
 
 // Marks all that a record names.
@@ -121,12 +108,7 @@ pub fn mark_items<F: Fn(u16) -> u16>(s: &[u8], kind: Naming, q: u16, mark: F, ta
         Naming::ContentLists => mark_entries(s, PROGRAMMES, q, CONTENT_LIST, mark, table),
         Naming::Included => mark_objects(s, q, mark, table),
         Naming::SetLists => mark_entries(s, PROGRAMMES, q, SET_LIST, mark, table),
-        Naming::SetSpans => mark_span(
-            field(s, OBJECTS, q, SET_SPAN),
-            number(s, OBJECTS, q, SET_SPAN),
-            mark,
-            table,
-        ),
+        Naming::SetSpans => mark_span(Span::at(s, OBJECTS, q, SET_SPAN), mark, table),
     }
 }
 

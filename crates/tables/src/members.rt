@@ -4,6 +4,7 @@ ghost use Rattle.profile.specs.Counting.{ComputesBelow};
 ghost use Rattle.sheet.specs.Words.{sheet_of};
 ghost use Rattle.tables.specs.steps.Members.{flagged, how_many_members};
 
+use crate::reads::look;
 use relations::entries::how_many_entries;
 use sheet::fields::{COMPLEMENT_LIST, OBJECTS};
 
@@ -12,12 +13,7 @@ use sheet::fields::{COMPLEMENT_LIST, OBJECTS};
 pub fn flagged(table: &[u16], o: u16) -> bool
     ensures { result ≡ flagged table.now o }
 {
-    let i = o as usize;
-    if i < table.len() {
-        table[i] != 0
-    } else {
-        false
-    }
+    look(table, o).is_some_and(|flag| flag != 0)
 }
 
 // How many members of a leader's group pass: the leader and its complements.

@@ -6,10 +6,10 @@ ghost use Rattle.tables.specs.steps.Passes.{ListsCounted, TopsCounted};
 ghost use Rattle.tables.specs.declared.Naming.TheVariants.{ContentLists};
 
 use crate::Naming;
-use crate::marks::{counted_once, mark_items, mark_list, mark_object, mark_some};
+use crate::marks::{count_namings, counted_once, mark_items, mark_object, mark_some};
 use crate::namings::items;
-use sheet::fields::{CONTENT_LIST, CONTENTS, OBJECTS, PROGRAMMES, REFERENCES};
-use sheet::layout::{count, field, number, offset};
+use sheet::fields::{CONTENTS, OBJECTS};
+use sheet::layout::count;
 
 // Counts how often contents name each object, in two tables.
 pub fn count_tops(s: &[u8], tops: &mut [u16], named: &mut [u16])
@@ -26,21 +26,10 @@ pub fn count_tops(s: &[u8], tops: &mut [u16], named: &mut [u16])
 pub fn count_contents(s: &[u8], listed: &mut [u16])
     ensures { NamingsCounted (sheet_of s.now) ContentLists listed.old listed.new }
 {
-    let base = offset(s, REFERENCES);
-    let n = count(s, PROGRAMMES);
-    for q in 0..n {
-        mark_list(
-            s,
-            base,
-            field(s, PROGRAMMES, q, CONTENT_LIST),
-            number(s, PROGRAMMES, q, CONTENT_LIST),
-            counted_once,
-            listed,
-        );
-    }
+    count_namings(s, Naming::ContentLists, listed);
 }
 
-// A number where 0 stands, else what stands there.
+// A number where 0 stands, which is for none, else what stands there: no `Option` stands in a table of words.
 fn first_stored(v: u16, c: u16) -> u16
     ensures { result ≡ first_stored v c }
 {

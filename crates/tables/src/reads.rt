@@ -1,4 +1,6 @@
-// Relations read from a table, or found by their own search where the table ends before: with an empty table, always.
+// Relations read from a table, or found by their own search where the table ends before: with an empty table, always. That the table is
+// right (`Tops`, `Complemented`, `Leaders`, `Owners`, `Included`, `NamedSets`) is a premise in the contracts of one table: a public
+// function asks nothing of its callers, and a `requires` or a table type with an invariant would.
 ghost use Rattle.std.specs.Prelude.{ℕ, ◌<◌, Some, None, cond, eqb, ltb, get_or, length, not, true, ◌≡◌};
 ghost use Rattle.profile.specs.Counting.{any};
 ghost use Rattle.profile.specs.Relations.{complement, includes, leader_of, lone, names_set, owner, top};
@@ -11,13 +13,14 @@ use relations::objects::leader;
 use relations::programmes::{includes, names_set};
 use relations::records::{complement, owner, top};
 use sheet::fields::{OBJECTS, SET_SPAN};
-use sheet::layout::{count, field, number};
+use sheet::layout::count;
+use sheet::spans::Span;
 
 // What stands at a place that the table has.
 pub fn look(table: &[u16], x: u16) -> Option<u16>
     ensures { result ≡ cond (ltb x (length table.now)) (Some (get_or table.now x 0)) None }
 {
-    table.get(x as usize).copied()
+    table.get(usize::from(x)).copied()
 }
 
 // "A top object is one that a content names."
@@ -117,10 +120,10 @@ fn any_marked(places: &[u16]) -> bool
 pub fn names_set_by(s: &[u8], p: u16, sets: &[u16], o: u16) -> bool
     ensures { NamedSets (sheet_of s.now) p sets.now → result ≡ names_set (sheet_of s.now) p o }
 {
-    let from = field(s, OBJECTS, o, SET_SPAN) as usize;
-    let n = number(s, OBJECTS, o, SET_SPAN) as usize;
-    match sets.get(from..from + n) {
-        Some(span) => any_marked(span),
+    let span = Span::at(s, OBJECTS, o, SET_SPAN);
+    let from = usize::from(span.first);
+    match sets.get(from..from + usize::from(span.count)) {
+        Some(places) => any_marked(places),
         None => names_set(s, p, o),
     }
 }
@@ -129,7 +132,7 @@ pub fn names_set_by(s: &[u8], p: u16, sets: &[u16], o: u16) -> bool
 pub fn all_once(table: &[u16], n: u16) -> bool
     ensures { result ≡ true → (x : ℕ) → x < n → (x < length table.now) × (get_or table.now x 0 ≡ 1) }
 {
-    let Some(places) = table.get(..n as usize) else {
+    let Some(places) = table.get(..usize::from(n)) else {
         return false;
     };
     let mut once = true;

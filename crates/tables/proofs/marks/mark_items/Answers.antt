@@ -29,4 +29,4 @@ returns-in-SetLists g c = λ f h. rw c.in-SetLists.is (c.mark_entries-in-SetList
 
 pub returns-in-SetSpans : goal.returns-in-SetSpans
 unfolding times_by
-returns-in-SetSpans g c = λ f h. let e = c.mark_span.ensures f h in rw c.in-SetSpans.is (e.0, rw (c.field.ensures, c.number.ensures) at e.1)
+returns-in-SetSpans g c = λ f h. let e = c.mark_span.ensures f h in rw c.in-SetSpans.is (e.0, rw (c.at.ensures.first, c.at.ensures.count) at e.1)

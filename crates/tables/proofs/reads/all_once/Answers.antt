@@ -15,4 +15,4 @@ loop-c-preserved c = λ e. let p = and_both c.loop-c.once _ e in below_more (λ 
 pub returns : goal.returns
 returns c = λ e x l.
     let part = c.in-Some.ensures.lookup.0 in
-    (omega (arith, l, part.1), sym (part_place c.args.table.now c.in-Some.places.now 0 c.args.n part.2 x (omega (arith, l)) ∙ ap (λ (k : ℕ). get_or c.args.table.now k 0) (zero-add x)) ∙ c.loop-c.invariant e x (omega (arith, l, part.3, c.loop-c-test.false)))
+    (omega (arith, l, part.1, c.from.ensures), sym (part_place c.args.table.now c.in-Some.places.now 0 c.from.result part.2 x (omega (arith, l, c.from.ensures)) ∙ ap (λ (k : ℕ). get_or c.args.table.now k 0) (zero-add x)) ∙ c.loop-c.invariant e x (omega (arith, l, part.3, c.from.ensures, c.loop-c-test.false)))

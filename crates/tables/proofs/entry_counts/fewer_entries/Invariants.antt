@@ -1,8 +1,0 @@
--- What is left is what the records passed leave. Assumes nothing.
-use Rattle.std.proofs.Common.{ℕ, ◌-◌, ◌≡◌}
-use Rattle.profile.specs.Counting.{sum}
-use Rattle.tables.specs.steps.Marks.{NumbersBelow}
-use Rattle.tables.proofs.entry_counts.fewer_entries.Given as goal
-
-abbrev pub invariant-loop-k : goal.invariant-loop-k
-invariant-loop-k g l = (f : ℕ → ℕ) → NumbersBelow l.n (goal.F-post g l.entries) f → l.left ≡ l.most - sum f l.k

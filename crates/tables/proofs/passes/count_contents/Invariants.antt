@@ -1,8 +1,0 @@
--- The programmes passed are counted. Assumes nothing.
-use Rattle.sheet.specs.Words.{sheet_of}
-use Rattle.tables.specs.declared.Naming.TheVariants.{ContentLists}
-use Rattle.tables.specs.steps.Marks.{MarkedTimes, counted_once, named_before}
-use Rattle.tables.proofs.passes.count_contents.Given as goal
-
-abbrev pub invariant-loop-q : goal.invariant-loop-q
-invariant-loop-q l = MarkedTimes counted_once (named_before (sheet_of l.s) ContentLists l.q) l.initial.listed l.listed
