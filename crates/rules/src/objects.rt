@@ -17,6 +17,7 @@ use sheet::fields::{
     TRACK_PACK, TRACKS, VALUE_SETS,
 };
 use sheet::layout::{field, number, wide_field};
+use sheet::spans::Span;
 use tables::reads::top_by;
 use values::Sort;
 use values::values::is_absent;
@@ -35,13 +36,12 @@ pub fn rule13(s: &[u8], section: u8, o: u16) -> bool
 pub fn rule14(s: &[u8], next: &[u16], again: &[u16], section: u8, o: u16) -> bool
     ensures { StrayRight (sheet_of s.now) next.now → OrdinalRight (sheet_of s.now) again.now → result ≡ rule14 (sheet_of s.now) section o }
 {
-    let n = number(s, OBJECTS, o, TRACK_LIST);
-    if n != channels(s, o) {
+    let tracks = Span::at(s, OBJECTS, o, TRACK_LIST);
+    if tracks.count != channels(s, o) {
         return true;
     }
-    let first = field(s, OBJECTS, o, TRACK_LIST);
-    if (0 < n) & inside(s, next, first, n) & inside(s, again, first, n) {
-        return odd_tracks(s, next, again, first, n, pack_of(s, o));
+    if (0 < tracks.count) & inside(s, next, tracks) & inside(s, again, tracks) {
+        return odd_tracks(s, next, again, tracks, pack_of(s, o));
     }
     let pack = pack_of(s, o);
     any_entry(s, OBJECTS, o, TRACK_LIST, |t| {

@@ -14,8 +14,8 @@ use tables::marks::mark_at;
 pub fn stray_after(s: &[u8], y: u16) -> bool
     ensures { result ≡ stray (sheet_of s.now) (reference (sheet_of s.now) y) (reference (sheet_of s.now) (y + 1)) }
 {
-    let e = reference(s, y as u32);
-    let f = reference(s, y as u32 + 1);
+    let e = reference(s, u32::from(y));
+    let f = reference(s, u32::from(y) + 1);
     let pack = field(s, TRACKS, f, TRACK_PACK);
     (field(s, TRACKS, e, TRACK_PACK) != pack)
         | (field(s, PACKS, pack, PACK_CHANNELS) <= field(s, TRACKS, f, TRACK_ORDINAL))
@@ -30,17 +30,18 @@ pub fn fill_next<F: Fn(u16) -> bool>(s: &[u8], test: F, table: &mut [u16])
     let mut next = n;
     for y in (0..n).rev() {
         next = if test(y) { y } else { next };
-        mark_at(table, y as u32, |_| next);
+        mark_at(table, u32::from(y), |_| next);
     }
 }
 
-// Keeps an index as the least one of a key, and gives the one kept before.
+// Keeps an index as the least one of a key, and gives the one kept before. `see` of the rules does the same with 1: a function for both would
+// be public, and so without the `requires` that has no index tested in the two loops.
 #[tactic(auto, using(tables::proofs::MarkLaws::set_standing))]
 fn keep(later: &mut [u16], e: u16, x: u16) -> u16
     requires { length later.old ≡ 65536 }
     ensures { (length later.new ≡ 65536) × (result ≡ get_or later.old e 0) × Standing (λ z. cond (eqb e z) x (get_or later.old z 0)) later.new }
 {
-    let i = e as usize;
+    let i = usize::from(e);
     let before = later[i];
     later[i] = x;
     before
@@ -52,12 +53,13 @@ pub fn fill_repeats<F: Fn(u16) -> u16>(s: &[u8], key: F, table: &mut [u16])
     requires { F.IsAlwaysCallable key }
     ensures { (f : ℕ → ℕ) → NumbersBelow 65536 (F.post key) f → (length table.new ≡ length table.old) × KeyRight (sheet_of s.now) f table.new }
 {
-    // 65535 for none: the tables are fixed memory of words, and no `Option` stands in a word
+    // 65535, which is past the last reference of any sheet, for none: an `Option` of a word takes two words, and this table has one for each of
+    // 65,536 keys on the stack
     let mut later: [u16; 65536] = [65535; 65536];
     let mut next: u16 = 65535;
     for y in (0..count(s, REFERENCES)).rev() {
         let before = keep(&mut later, key(y), y);
         next = before.min(next);
-        mark_at(table, y as u32, |_| next);
+        mark_at(table, u32::from(y), |_| next);
     }
 }

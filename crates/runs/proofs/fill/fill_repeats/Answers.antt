@@ -29,7 +29,7 @@ loop-y-preserved g c =
           let n : Repeat f m y next.result = rw (next.ensures, keep.1, key) (repeat_more m y i f (get_or l.later (f y) 0) l.next (rw e (before.0 (f y) (omega (arith, c.key.type_inv, key)))) (rw e before.1)) in (
             λ z k. rw (keep.2 z (rw keep.0 k), key) (next_more m y i (λ x. eqb (f x) z) (get_or l.later z 0) (rw e (before.0 z k))),
             n,
-            filled_more (Repeat f m) m y next.result l.table c.mark_at.new.table at.0 (rw e before.2) n at.1,
+            filled_more (Repeat f m) m y next.result l.table c.mark_at.new.table at.0 (rw e before.2) n (rw c.from.ensures at at.1),
           ),
     )
 

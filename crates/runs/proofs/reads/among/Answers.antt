@@ -5,9 +5,9 @@ use borrow.Author.Tests.{lt-ltb}
 use Rattle.runs.proofs.reads.among.Goals as goal
 
 pub returns-in-Some : goal.returns-in-Some
-returns-in-Some c = λ l. let t = c.args.table.now in let x = c.args.first in ap (λ (v : ℕ). ltb v (x + c.args.n)) (sym (cond_some (ltb x (length t)) (get_or t x 0) c.in-Some.v (sym c.look.ensures ∙ c.in-Some.is)).1)
+returns-in-Some c = λ l. let t = c.args.table.now in let x = c.args.list.first in rw (c.from.ensures, c.from-in-Some.ensures, c.from-in-Some-2.ensures) (ap (λ (v : ℕ). ltb v (x + c.args.list.count)) (sym (cond_some (ltb x (length t)) (get_or t x 0) c.in-Some.v (sym c.look.ensures ∙ c.in-Some.is)).1))
 
 pub returns-in-None : goal.returns-in-None
 returns-in-None c = λ l.
-    let t = c.args.table.now in let x = c.args.first in
+    let t = c.args.table.now in let x = c.args.list.first in
     absurd (none-some (get_or t x 0) (sym c.in-None.is ∙ c.look.ensures ∙ ap (λ b. cond b (Some (get_or t x 0)) None) (lt-ltb x (length t) l)))

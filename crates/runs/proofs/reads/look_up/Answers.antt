@@ -1,10 +1,8 @@
 -- By one look, where the table has the list. Assumes nothing.
-use Rattle.std.proofs.Common.{◌≡◌, Bool, true, false, Some, refl, sym, ap₂, ◌∙◌}
+use Rattle.std.proofs.Common.{◌≡◌, Bool, true, false, Some, sym, ap₂, ◌∙◌}
 use Rattle.std.specs.Bool.{then_some}
 use Rattle.std.proofs.lemmas.Option.{cond_some}
 use borrow.Author.Tests.{ltb-true, leb-true}
-use Rattle.sheet.specs.Words.{sheet_of}
-use Rattle.sheet.specs.Layout.{field, first, number}
 use Rattle.runs.proofs.RunLaws.{all_three}
 use Rattle.runs.proofs.reads.look_up.Goals as goal
 
@@ -14,13 +12,11 @@ then_told true v found e = cond_some true v found e
 then_told false v found e = cond_some false v found e
 
 pub returns : goal.returns
-unfolding field number
 returns c = λ found known Q right.
-    let start = c.start-record.ensures.0 in let a = c.args in let from : c.word-first.result ≡ first (sheet_of a.s.now) a.section a.k a.at = c.word-first.ensures ∙ rw start refl in
-    let many : c.word-n.result ≡ number (sheet_of a.s.now) a.section a.k a.at = c.word-n.ensures ∙ rw start refl in
+    let list = c.at-list in
     let told = then_told c.inside.result c.among.result found (sym c.then_some.ensures ∙ known) in
     let f = all_three _ _ _ (sym c.inside.ensures ∙ told.0) in
     sym told.1
     ∙ c.among.ensures (ltb-true _ _ f.0)
-    ∙ right c.word-first.result (ltb-true _ _ f.0) (ltb-true _ _ f.1) c.word-n.result (leb-true _ _ f.2)
-    ∙ ap₂ Q from many
+    ∙ right list.result.first (ltb-true _ _ f.0) (ltb-true _ _ f.1) list.result.count (leb-true _ _ f.2)
+    ∙ ap₂ Q list.ensures.first list.ensures.count
