@@ -13,9 +13,9 @@ use inclusion::alike::fill_alike;
 use profile::counting::all;
 use sheet::fields::{COMPLEMENT_LIST, OBJECTS, PROGRAMMES, VALUE_SETS};
 use sheet::layout::{count, number};
-use tables::Naming;
 use tables::marks::{count_namings, first_namers};
 use tables::reads::all_once;
+use tables::{GroupTables, Naming};
 
 // Whether no group has more than two members. Then rule 21 can't be broken: of two members one or all are included.
 fn groups_of_two(s: &[u8]) -> bool
@@ -83,7 +83,11 @@ pub fn kept_programmes(s: &[u8]) -> u16
     let mut leaders: [u16; 2048] = [0; 2048];
     first_namers(s, Naming::Complements, &mut leaders);
     let mut alike: [u16; 4680] = [0; 4680];
-    fill_alike(s, &owners, &leaders, &mut alike);
+    let groups = GroupTables {
+        owners: &owners,
+        leaders: &leaders,
+    };
+    fill_alike(s, &groups, &mut alike);
     let mut second: [u16; 2048] = [0; 2048];
     let mut included: [u16; 2048] = [0; 2048];
     let sets = SetTables {

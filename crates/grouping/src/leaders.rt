@@ -1,6 +1,7 @@
 // The groups of a programme by the leaders of its objects: what this takes goes with the programme's lists, not with the sheet's objects.
 // A table has for each leader what was seen of its group: up to a number `seen` nothing in this programme, one more for one object of
-// it, two more where the group was asked for.
+// it, two more where the group was asked for. An enum for these would need the table cleared before each programme. That the offsets and
+// the table of leaders are right (`Begins`, `Leaders`) is a premise: a public function asks nothing of its callers.
 ghost use Rattle.std.specs.Prelude.{◌<◌, IsSome, length, ◌≡◌};
 ghost use Rattle.grouping.specs.steps.Leaders.{AllAsked, AskedFor};
 ghost use Rattle.inclusion.specs.steps.Entering.{Begins};
@@ -12,7 +13,8 @@ use inclusion::entering::object_from;
 use inclusion::groups::group_kept;
 use inclusion::marks::{at, change};
 use sheet::fields::{COMPLEMENT_LIST, CONTENT_LIST, OBJECTS, PROGRAMMES};
-use sheet::layout::{entry, field, number};
+use sheet::layout::entry;
+use sheet::spans::Span;
 use tables::reads::leader_by;
 
 // One object more of a leader's group. At the second one the group is asked for: it has all its members in the programme, or it is not
@@ -63,10 +65,9 @@ pub fn groups_asked(
         return None;
     }
     let seen = 2 * p;
-    let from = field(s, PROGRAMMES, p, CONTENT_LIST);
-    let n = number(s, PROGRAMMES, p, CONTENT_LIST);
-    for i in 0..n {
-        let l = leader_by(s, leaders, object_from(s, sections, from, i));
+    let list = Span::at(s, PROGRAMMES, p, CONTENT_LIST);
+    for i in 0..list.count {
+        let l = leader_by(s, leaders, object_from(s, sections, list.first, i));
         group_asked(s, sections, included, seen, l, groups)?;
     }
     Some(())

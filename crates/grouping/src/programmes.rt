@@ -1,4 +1,5 @@
-// The programmes one after the other, by the rows of the groups or by the leaders of their objects.
+// The programmes one after the other, by the rows of the groups or by the leaders of their objects. That the table of owners is right, and
+// what the pass rests on (`Owners`, `GroupsGround`, and what `KeptFrom` names), are premises: a public function asks nothing of its callers.
 ghost use Rattle.std.specs.Prelude.{◌-◌, ◌<◌, is_some, length, true, ◌≡◌};
 ghost use Rattle.grouping.specs.steps.Groups.{GroupsGround, ProgrammesKept};
 ghost use Rattle.inclusion.specs.steps.Entering.{Begins};
@@ -18,7 +19,8 @@ use tables::Naming;
 use tables::entry_counts::entries_left;
 use tables::marks::{clear, first_namers, mark_objects};
 
-// Whether two programmes have the same list at a position.
+// Whether two programmes have the same list at a position. Two spans compared by `==` would be read whole also where they begin apart, as
+// most do.
 #[tactic(auto, unfolding(crate::specs::steps::Passing::same_list))]
 fn same_list(s: &[u8], p: u16, q: u16, at: u8) -> bool
     requires { at < 8 }
@@ -54,7 +56,10 @@ fn section_offsets(s: &[u8]) -> SectionOffsets
 }
 
 // How many programmes from the first on can be seen to keep rule 21 and, where there are tables of sets, rule 22, by the rows of the
-// groups, where those before `from` do.
+// groups, where those before `from` do. The two ways differ in what they do to the tables before the pass, at each programme and after it:
+// one function for both would be given these as closures that write the tables, and as much of them in its contract as it has lines. The
+// three tables are lent one by one down from `programmes_pass`, and `KeptFrom` tells of each that it keeps its length; what stands in the
+// first two is another thing in each way, so that a struct would have no names for them.
 fn rows_from(
     s: &[u8],
     from: u16,
@@ -166,7 +171,7 @@ pub fn programmes_pass(
 ) -> bool
     ensures { (length included.new ≡ length included.old) × (length first.new ≡ length first.old) × (length second.new ≡ length second.old) × (result ≡ true → Owners (sheet_of s.now) owners.now → GroupsGround (sheet_of s.now) → ProgrammesKept (sheet_of s.now)) }
 {
-    let n = count(s, OBJECTS) as usize;
+    let n = usize::from(count(s, OBJECTS));
     if included.len() < n {
         return false;
     }

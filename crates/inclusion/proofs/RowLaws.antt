@@ -21,7 +21,7 @@ use Rattle.profile.proofs.GroupLaws.{any_witness}
 use Rattle.profile.proofs.SumLaws.{how_many_eq}
 use Rattle.inclusion.specs.steps.Groups.{GroupKept, PairKept, group_whole, many_in, sets_in}
 use Rattle.inclusion.specs.declared.Rows.{Rows}
-use Rattle.inclusion.specs.steps.Rows.{HasRow, OnlyComplement, RowAdded, RowKept, RowsComplete, RowsListed, SameLists}
+use Rattle.inclusion.specs.steps.Rows.{HasListed, HasRow, OnlyComplement, RowAdded, RowKept, RowsComplete, SameLists}
 use Rattle.inclusion.proofs.PassLaws.{pair_group, sets_own}
 
 -- the same lists
@@ -39,18 +39,18 @@ same_after rows₀ rows rows' a b =
 
 -- a row more
 module _ (s : Sheet) (rows rows' : Rows) (l j m : ℕ) (e : m ≡ entry s objects l complement_list j) (added : RowAdded rows rows' l m) where
-  stays : (x y : ℕ) → HasRow rows x y → HasRow rows' x y
+  stays : (x y : ℕ) → HasRow rows.leading.now rows.partners.now rows.count x y → HasRow rows'.leading.now rows'.partners.now rows'.count x y
   stays x y w = (w.0, omega (arith, w.1, added.more), added.leader.0 w.0 w.1 ∙ w.2, added.partner.0 w.0 w.1 ∙ w.3)
 
   -- where there is one complement, it is the first
   partner : j < number s objects l complement_list → OnlyComplement s l m
   partner inside one = let z : j ≡ 0 = omega arith in e ∙ ap (entry s objects l complement_list) z
 
-  pub listed_row : j < number s objects l complement_list → RowsListed s rows l j → RowsListed s rows' l (j + 1)
+  pub listed_row : j < number s objects l complement_list → HasListed s rows l j → HasListed s rows' l (j + 1)
   listed_row inside before =
       record {
         objects_before = λ k r i h. stays k (entry s objects k complement_list i) (before.objects_before k r i h);
-        own = below_more (λ i. HasRow rows' l (entry s objects l complement_list i)) j
+        own = below_more (λ i. HasRow rows'.leading.now rows'.partners.now rows'.count l (entry s objects l complement_list i)) j
             (λ i h. stays l (entry s objects l complement_list i) (before.own i h))
             (rows.count, omega (arith, added.more), added.leader.1, added.partner.1 ∙ e);
         each = rw added.more (below_more (λ i. OnlyComplement s (get_or rows'.leading.now i 0) (get_or rows'.partners.now i 0)) rows.count
@@ -59,10 +59,10 @@ module _ (s : Sheet) (rows rows' : Rows) (l j m : ℕ) (e : m ≡ entry s object
       }
 
 -- an object more
-pub listed_next : (s : Sheet) (rows : Rows) (l j : ℕ) → j ≡ number s objects l complement_list → RowsListed s rows l j → RowsListed s rows (l + 1) 0
+pub listed_next : (s : Sheet) (rows : Rows) (l j : ℕ) → j ≡ number s objects l complement_list → HasListed s rows l j → HasListed s rows (l + 1) 0
 listed_next s rows l j z before =
     record {
-      objects_before = below_more (λ k. (i : ℕ) → i < number s objects k complement_list → HasRow rows k (entry s objects k complement_list i)) l before.objects_before (rw z at before.own);
+      objects_before = below_more (λ k. (i : ℕ) → i < number s objects k complement_list → HasRow rows.leading.now rows.partners.now rows.count k (entry s objects k complement_list i)) l before.objects_before (rw z at before.own);
       own = λ i h. absurd (omega arith);
       each = before.each;
     }
@@ -111,9 +111,9 @@ module _ (s : Sheet) (t : List ℕ) (l : ℕ) (same : (i : ℕ) → i < number s
   )
 
 -- each group is kept where each row is
-pub rows_kept : (s : Sheet) (t : List ℕ) (rows : Rows) → RowsComplete s rows → ((i : ℕ) → i < rows.count → RowKept s t (get_or rows.leading.now i 0) (get_or rows.partners.now i 0))
+pub rows_kept : (s : Sheet) (t leading partners : List ℕ) (g : ℕ) → RowsComplete s leading partners g → ((i : ℕ) → i < g → RowKept s t (get_or leading i 0) (get_or partners i 0))
     → (l : ℕ) → l < count s objects → GroupKept s t l
-rows_kept s t rows all kept l k =
+rows_kept s t leading partners g all kept l k =
     (elim (any other n) as (λ b. any other n ≡ b → GroupKept s t l) [
       | true ↦ λ e.
           let w = any_witness other n e in

@@ -10,7 +10,9 @@ ghost use Rattle.tables.specs.steps.Marks.{Standing};
 use crate::marks::told_at;
 use crate::sets::sets_differ;
 use sheet::fields::{OBJECTS, SET_SPAN, VALUE_SETS};
-use sheet::layout::{count, field, number, offset};
+use sheet::layout::{count, offset};
+use sheet::spans::Span;
+use tables::GroupTables;
 use tables::marks::mark_at;
 
 // The set that stands for a set.
@@ -21,13 +23,13 @@ pub fn representative(alike: &[u16], v: u16) -> u16
     told_at(alike, v).unwrap_or(v)
 }
 
-// The first set with the words of v among the n sets of a span, of which 8 at most are tried; v where there is none. Section 7 begins at
+// The first set with the words of v among the sets of a span, of which 8 at most are tried; v where there is none. Section 7 begins at
 // `base`.
 #[tactic(auto, using(crate::proofs::PassLaws::sets_own))]
-fn first_alike(s: &[u8], base: u16, from: u16, n: u16, v: u16) -> u16
+fn first_alike(s: &[u8], base: u16, span: Span, v: u16) -> u16
     ensures { (v < 65535 → result < 65535) × (base ≡ offset (sheet_of s.now) value_sets → sets_differ (sheet_of s.now) result v ≡ false) }
 {
-    for u in from..from.saturating_add(n.min(8)) {
+    for u in span.first..span.first.saturating_add(span.count.min(8)) {
         if !sets_differ(s, base, u, v) {
             return u;
         }
@@ -37,31 +39,25 @@ fn first_alike(s: &[u8], base: u16, from: u16, n: u16, v: u16) -> u16
 
 // The same with the span of the object that stands for the owner of v, the leader of its group.
 #[tactic(auto, using(crate::proofs::PassLaws::sets_own))]
-fn leader_alike(s: &[u8], base: u16, owners: &[u16], leaders: &[u16], v: u16) -> u16
+fn leader_alike(s: &[u8], base: u16, tables: &GroupTables, v: u16) -> u16
     ensures { (v < 65535 → result < 65535) × (base ≡ offset (sheet_of s.now) value_sets → sets_differ (sheet_of s.now) result v ≡ false) }
 {
-    let Some(owner) = told_at(owners, v) else {
+    let Some(owner) = told_at(tables.owners, v) else {
         return v;
     };
-    let l = representative(leaders, owner);
-    first_alike(
-        s,
-        base,
-        field(s, OBJECTS, l, SET_SPAN),
-        number(s, OBJECTS, l, SET_SPAN),
-        v,
-    )
+    let l = representative(tables.leaders, owner);
+    first_alike(s, base, Span::at(s, OBJECTS, l, SET_SPAN), v)
 }
 
 // Writes the sets that stand for others into a table of noughts, by the owners of the sets and the leaders of the objects. It can be told
 // by the words alone that they do: where these tables are wrong, fewer sets stand for others.
-pub fn fill_alike(s: &[u8], owners: &[u16], leaders: &[u16], table: &mut [u16])
+pub fn fill_alike(s: &[u8], groups: &GroupTables, table: &mut [u16])
     ensures { (length table.new ≡ length table.old) × (Standing (λ x. 0) table.old → Alike (sheet_of s.now) table.new) }
 {
     let base = offset(s, VALUE_SETS);
     let n = count(s, VALUE_SETS);
     for v in 0..n {
-        let more = leader_alike(s, base, owners, leaders, v) + 1;
-        mark_at(table, v as u32, |_| more);
+        let more = leader_alike(s, base, groups, v) + 1;
+        mark_at(table, u32::from(v), |_| more);
     }
 }

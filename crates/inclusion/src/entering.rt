@@ -1,4 +1,5 @@
-// What a programme includes and the sets that it names, entered into a table by object (see groups).
+// What a programme includes and the sets that it names, entered into a table by object (see groups). That the offsets and the table of
+// owners are right (`Begins`, `Owners`) is a premise: a public function asks nothing of its callers.
 ghost use Rattle.std.specs.Prelude.{IsSome, is_some, length, ◌≡◌};
 ghost use Rattle.inclusion.specs.steps.Alike.{alike_of, owners_of};
 ghost use Rattle.inclusion.specs.steps.Entering.{Entered, ObjectsEntered, SetsNoted, object_from, Begins};
@@ -7,35 +8,40 @@ ghost use Rattle.sheet.specs.Words.{sheet_of};
 ghost use Rattle.tables.specs.steps.Right.{Owners};
 
 use crate::alike::representative;
+use crate::lists::ends_before;
 use crate::marks::{change, told_at};
 use crate::{SectionOffsets, SetTables};
 use sheet::fields::{CONTENT_LIST, PROGRAMMES, SET_LIST, VALUE_SETS};
-use sheet::layout::{count, field, number};
-use sheet::words::{word, word_count};
+use sheet::layout::count;
+use sheet::spans::{Entries, Span};
+use sheet::words::word;
 
-// The object of the content that an entry of a content list names.
+// The object of the content that an entry of a content list names. Of the list it reads only where it begins, so that it takes no `Span`.
 #[tactic(auto, unfolding(crate::specs::steps::Entering::object_from))]
 pub fn object_from(s: &[u8], sections: SectionOffsets, from: u16, i: u16) -> u16
     ensures { result ≡ object_from (sheet_of s.now) sections from i }
 {
     let c = word(
         s,
-        sections.references as usize + (from as usize + i as usize),
+        usize::from(sections.references) + (usize::from(from) + usize::from(i)),
     );
-    word(s, sections.contents as usize + (c as usize) * 5 + 1)
+    word(s, usize::from(sections.contents) + usize::from(c) * 5 + 1)
 }
 
 // Marks the objects that the programme includes with 1, where 0 stood.
 fn enter_objects(s: &[u8], sections: SectionOffsets, p: u16, included: &mut [u16]) -> Option<()>
     ensures { (length included.new ≡ length included.old) × (IsSome result → Begins (sheet_of s.now) sections → ObjectsEntered (sheet_of s.now) p included.old included.new) }
 {
-    let from = field(s, PROGRAMMES, p, CONTENT_LIST);
-    let n = number(s, PROGRAMMES, p, CONTENT_LIST);
-    if word_count(s) < sections.references as usize + (from as usize + n as usize) {
+    let list = Span::at(s, PROGRAMMES, p, CONTENT_LIST);
+    let contents = Entries {
+        base: sections.references,
+        list,
+    };
+    if ends_before(s, contents) {
         return None;
     }
-    for i in 0..n {
-        change(included, object_from(s, sections, from, i), 0, 1)?;
+    for i in 0..list.count {
+        change(included, object_from(s, sections, list.first, i), 0, 1)?;
     }
     Some(())
 }
@@ -51,15 +57,16 @@ fn enter_sets(
 ) -> Option<()>
     ensures { (length included.new ≡ length included.old) × (IsSome result → Begins (sheet_of s.now) sections → Owners (sheet_of s.now) sets.now.owners.now → SetsNoted (sheet_of s.now) sets.now.alike.now p included.old included.new) }
 {
-    let base = sections.references as usize;
     let total = count(s, VALUE_SETS);
-    let from = field(s, PROGRAMMES, p, SET_LIST) as usize;
-    let n = number(s, PROGRAMMES, p, SET_LIST);
-    if word_count(s) < base + (from + n as usize) {
+    let named = Entries {
+        base: sections.references,
+        list: Span::at(s, PROGRAMMES, p, SET_LIST),
+    };
+    if ends_before(s, named) {
         return None;
     }
-    for j in 0..n {
-        let v = word(s, base + (from + j as usize));
+    for j in 0..named.list.count {
+        let v = named.at(s, j);
         if total <= v {
             return None;
         }

@@ -5,10 +5,12 @@
 pub mod alike;
 pub mod entering;
 pub mod groups;
+mod lists;
 pub mod marks;
 pub mod sets;
 
-// Where sections 6, 2 and 7 begin. That they do stands as a premise in each contract: a public function asks nothing of its callers.
+// Where sections 6, 2 and 7 begin. That they do, `Begins`, is a premise in each contract, and no invariant, which would be asked where the
+// struct is made: a public function asks nothing of its callers.
 #[derive(Clone, Copy)]
 pub struct SectionOffsets {
     pub references: u16,
@@ -16,14 +18,16 @@ pub struct SectionOffsets {
     pub sets: u16,
 }
 
-// For each value set one more than its object, and one more than the set that stands for it.
+// For each value set one more than its object, and one more than the set that stands for it. That they are right (`Owners`, `Alike`) is a
+// premise in the contracts, for the same reason. In tables of words no `Option` stands.
 #[derive(Clone, Copy)]
 pub struct SetTables<'a> {
     pub owners: &'a [u16],
     pub alike: &'a [u16],
 }
 
-// The groups as rows in two lent lists: the first `count` places of each have a leader and one of its complements.
+// The groups as rows in two lent lists: the first `count` places of each have a leader and one of its complements. There is no heap here for a
+// `Vec` of pairs, and the two lists are tables that the caller has for other things too.
 #[derive(Drop)]
 pub struct Rows<'a> {
     pub leading: &'a mut [u16],

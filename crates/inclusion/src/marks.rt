@@ -9,7 +9,7 @@ use tables::reads::look;
 pub fn change(table: &mut [u16], x: u16, from: u16, to: u16) -> Option<()>
     ensures { (length table.new ≡ length table.old) × (IsSome result → (x < length table.old) × (get_or table.old x 0 ≡ from) × Standing (λ z. cond (eqb x z) to (get_or table.old z 0)) table.new) }
 {
-    let i = x as usize;
+    let i = usize::from(x);
     if table.len() <= i {
         return None;
     }

@@ -23,8 +23,8 @@ fn bytes_differ(s: &[u8], a: usize, b: usize) -> bool
 pub fn sets_differ(s: &[u8], base: u16, u: u16, v: u16) -> bool
     ensures { result ≡ false → base ≡ offset (sheet_of s.now) value_sets → sets_differ (sheet_of s.now) u v ≡ false }
 {
-    let a = 2 * (base as usize + 7 * (u as usize));
-    let b = 2 * (base as usize + 7 * (v as usize));
+    let a = 2 * (usize::from(base) + 7 * usize::from(u));
+    let b = 2 * (usize::from(base) + 7 * usize::from(v));
     if s.len() < a + 14 {
         return true;
     }

@@ -42,9 +42,7 @@ fn few_entries(s: &[u8]) -> bool {
     let spans = entries_left(count(s, OBJECTS), left, |o| {
         u32::from(items(s, Naming::SetSpans, o))
     });
-    spans.is_some()
-        & left_of_many(s, PROGRAMMES).is_some()
-        & left_of_many(s, CONTENTS).is_some()
+    spans.is_some() & left_of_many(s, PROGRAMMES).is_some() & left_of_many(s, CONTENTS).is_some()
 }
 
 // Whether the header and the sections keep rules 1, 2, 3 and 7, and the lists have few entries.

@@ -31,16 +31,20 @@ pub record RowAdded (before after : Rows) (l m : ℕ) : Type 0 where
   pub leader : PlaceWritten before.leading.now after.leading.now before.count l
   pub partner : PlaceWritten before.partners.now after.partners.now before.count m
 
--- one of the rows has these two
-abbrev pub HasRow : Rows → ℕ → ℕ → Type 0
-HasRow rows l m = (i : ℕ) × (i < rows.count) × (get_or rows.leading.now i 0 ≡ l) × (get_or rows.partners.now i 0 ≡ m)
+-- one of the first g rows of two lists has these two
+abbrev pub HasRow : List ℕ → List ℕ → ℕ → ℕ → ℕ → Type 0
+HasRow t u g l m = (i : ℕ) × (i < g) × (get_or t i 0 ≡ l) × (get_or u i 0 ≡ m)
 
--- the rows have the objects below l with each of their complements, and l with the first j of its own
-pub record RowsListed (s : Sheet) (rows : Rows) (l j : ℕ) : Type 0 where
-  pub objects_before : (k : ℕ) → k < l → (i : ℕ) → i < number s objects k complement_list → HasRow rows k (entry s objects k complement_list i)
-  pub own : (i : ℕ) → i < j → HasRow rows l (entry s objects l complement_list i)
-  pub each : (i : ℕ) → i < rows.count → OnlyComplement s (get_or rows.leading.now i 0) (get_or rows.partners.now i 0)
+-- the g rows have the objects below l with each of their complements, and l with the first j of its own
+pub record RowsListed (s : Sheet) (t u : List ℕ) (g l j : ℕ) : Type 0 where
+  pub objects_before : (k : ℕ) → k < l → (i : ℕ) → i < number s objects k complement_list → HasRow t u g k (entry s objects k complement_list i)
+  pub own : (i : ℕ) → i < j → HasRow t u g l (entry s objects l complement_list i)
+  pub each : (i : ℕ) → i < g → OnlyComplement s (get_or t i 0) (get_or u i 0)
 
--- the rows have all
-abbrev pub RowsComplete : Sheet → Rows → Type 0
-RowsComplete s rows = RowsListed s rows (count s objects) 0
+-- the g rows have all
+abbrev pub RowsComplete : Sheet → List ℕ → List ℕ → ℕ → Type 0
+RowsComplete s t u g = RowsListed s t u g (count s objects) 0
+
+-- the same of rows with their lists
+abbrev pub HasListed : Sheet → Rows → ℕ → ℕ → Type 0
+HasListed s rows l j = RowsListed s rows.leading.now rows.partners.now rows.count l j

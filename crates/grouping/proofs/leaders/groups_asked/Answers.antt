@@ -11,13 +11,13 @@ loop-i-init c = let a = c.args in λ at led. asked_none (sheet_of a.s.now) a.p a
 
 pub loop-i-preserved : goal.loop-i-preserved
 loop-i-preserved c = λ at led.
-    let a = c.args in let here = c.loop-i in let from = c.field-from in let object = c.object_from in let leader = c.leader_by-l in let asked = c.group_asked in
+    let a = c.args in let here = c.loop-i in let list = c.at-list in let object = c.object_from in let leader = c.leader_by-l in let asked = c.group_asked in
     asked_more (sheet_of a.s.now) a.p a.included.now (2 * a.p) here.i leader.result a.groups.now here.groups asked.new.groups
     (group_entry (sheet_of a.s.now) a.p here.i leader.result object.result (leader.ensures led)
-    (object.ensures ∙ object_entry (sheet_of a.s.now) a.sections from.result a.p here.i at from.ensures))
+    (object.ensures ∙ object_entry (sheet_of a.s.now) a.sections list.result.first a.p here.i at list.ensures.first))
     asked.ensures.0 (c.in_ok-group_asked.ensures.1 refl at) (here.invariant at led)
 
 pub returns : goal.returns
 returns c =
-    let a = c.args in let z : c.loop-i.i ≡ number (sheet_of a.s.now) programmes a.p content_list = omega (arith, c.number-n.ensures) in
+    let a = c.args in let z : c.loop-i.i ≡ number (sheet_of a.s.now) programmes a.p content_list = omega (arith, c.at-list.ensures.count) in
     (c.loop-i.auto.groups, λ e at led. rw z at (c.loop-i.invariant at led))

@@ -12,4 +12,4 @@ overflow_add-more c = let l : c.loop-v.v < 65535 = omega arith in omega (arith, 
 pub loop-v-preserved : goal.loop-v-preserved
 loop-v-preserved c = λ noughts.
     let u = c.leader_alike in let marked = c.mark_at.ensures (λ (k : ℕ). u.result + 1) (λ i r b q. search rules) in
-    alike_more (sheet_of c.args.s.now) c.loop-v.table c.mark_at.new.table c.loop-v.v u.result marked.1 (u.ensures.1 c.offset-base.ensures) (c.loop-v.invariant noughts)
+    alike_more (sheet_of c.args.s.now) c.loop-v.table c.mark_at.new.table c.loop-v.v u.result (rw c.from.ensures at marked.1) (u.ensures.1 c.offset-base.ensures) (c.loop-v.invariant noughts)

@@ -11,12 +11,12 @@ loop-i-init c = let a = c.args in λ at. changed_none (object_at (sheet_of a.s.n
 
 pub loop-i-preserved : goal.loop-i-preserved
 loop-i-preserved c = λ at.
-    let a = c.args in let here = c.loop-i in let from = c.field-from in let object = c.object_from in let now = c.in_ok-change.ensures.1 refl in
+    let a = c.args in let here = c.loop-i in let list = c.at-list in let object = c.object_from in let now = c.in_ok-change.ensures.1 refl in
     changed_more (object_at (sheet_of a.s.now) a.p) 0 1 a.included.now refl here.included c.change.new.table here.i object.result
-    (object.ensures ∙ object_entry (sheet_of a.s.now) a.sections from.result a.p here.i at from.ensures)
+    (object.ensures ∙ object_entry (sheet_of a.s.now) a.sections list.result.first a.p here.i at list.ensures.first)
     here.auto.included c.change.ensures.0 (here.invariant at) now.0 now.1 now.2
 
 pub returns : goal.returns
 returns c =
-    let a = c.args in let z : c.loop-i.i ≡ number (sheet_of a.s.now) programmes a.p content_list = omega (arith, c.number-n.ensures) in
+    let a = c.args in let z : c.loop-i.i ≡ number (sheet_of a.s.now) programmes a.p content_list = omega (arith, c.at-list.ensures.count) in
     (c.loop-i.auto.included, λ e at. rw z at (c.loop-i.invariant at))

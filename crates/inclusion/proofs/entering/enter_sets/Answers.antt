@@ -10,14 +10,14 @@ loop-j-init c = let a = c.args in λ at owns. sets_none (sheet_of a.s.now) a.set
 
 pub loop-j-preserved : goal.loop-j-preserved
 loop-j-preserved c = λ at owns.
-    let a = c.args in let here = c.loop-j in let from = c.field-from in let set = c.word-v in let standing = c.representative in
+    let a = c.args in let here = c.loop-j in let list = c.at in let set = c.at-v in let standing = c.representative in
     let owner = c.in_ok-owner.ensures in let tells = get_or a.sets.now.owners.now set.result 0 in
     let changed = rw (owner.1, c.in_ok-more.ensures.1) at c.in_ok-change.ensures.1 refl in
     sets_more (sheet_of a.s.now) a.sets.now.alike.now a.sets.now.owners.now a.p here.j set.result tells standing.result a.included.now here.included c.change.new.table owns
-    (set.ensures ∙ set_entry (sheet_of a.s.now) a.sections.references from.result a.p here.j at from.ensures)
+    (set.ensures ∙ set_entry (sheet_of a.s.now) a.sections.references list.result.first a.p here.j at list.ensures.first)
     (omega (arith, c.if-total-v.false, c.count-total.ensures)) refl (λ q. omega (arith, q, owner.0)) standing.ensures here.auto.included c.change.ensures.0 (here.invariant at owns) changed
 
 pub returns : goal.returns
 returns c =
-    let a = c.args in let z : c.loop-j.j ≡ number (sheet_of a.s.now) programmes a.p set_list = omega (arith, c.number-n.ensures) in
+    let a = c.args in let z : c.loop-j.j ≡ number (sheet_of a.s.now) programmes a.p set_list = omega (arith, c.at.ensures.count) in
     (c.loop-j.auto.included, λ e at owns. rw z at (c.loop-j.invariant at.0 owns))

@@ -8,4 +8,4 @@ use Rattle.inclusion.specs.steps.Entering.{SetsNotedTo}
 use Rattle.inclusion.proofs.entering.enter_sets.Given as goal
 
 abbrev pub invariant-loop-j : goal.invariant-loop-j
-invariant-loop-j l = l.base ≡ offset (sheet_of l.s) references → Owners (sheet_of l.s) l.sets.owners.now → SetsNotedTo (sheet_of l.s) l.sets.alike.now l.p l.j l.initial.included l.included
+invariant-loop-j l = l.named.base ≡ offset (sheet_of l.s) references → Owners (sheet_of l.s) l.sets.owners.now → SetsNotedTo (sheet_of l.s) l.sets.alike.now l.p l.j l.initial.included l.included

@@ -24,7 +24,7 @@ loop-i-init c =
 pub loop-i-preserved : goal.loop-i-preserved
 unfolding how_many
 loop-i-preserved c =
-    let a = c.args in let before = c.loop-i.invariant in let read = c.at-c in let word = c.word in let had : ℕ → ℕ = listed_in (sheet_of a.s.now) a.included.now a.sections.references a.first in
+    let a = c.args in let before = c.loop-i.invariant in let read = c.at-c in let word = c.at in let had : ℕ → ℕ = listed_in (sheet_of a.s.now) a.included.now a.others.base a.others.list.first in
     let many = c.from-many-in-loop-i.ensures in let noted = c.from-noted-in-loop-i.ensures in (
       omega (arith, before.0, many, byte_le (not (eqb read.result 0))),
       omega (arith, before.1, noted, byte_le (ltb 1 read.result)),
@@ -39,5 +39,5 @@ loop-i-preserved c =
 
 pub returns : goal.returns
 returns c =
-    let here = c.loop-i in let z : here.i ≡ c.args.n = omega arith in
-    λ e at. record { whole = all_whole _ _ _ (rw (here.invariant.2, here.invariant.3, z, add-one) at e); agreeing = rw z at (here.invariant.4 at.2) }
+    let here = c.loop-i in let z : here.i ≡ c.args.others.list.count = omega arith in
+    λ e at. record { whole = all_whole _ _ _ (rw (here.invariant.2, here.invariant.3, z, c.from-all.ensures, add-one) at e); agreeing = rw z at (here.invariant.4 at) }

@@ -13,9 +13,9 @@ loop-i-init c = let e = not (eqb c.args.e 0) in (omega (arith, c.from-many.ensur
 pub loop-i-preserved : goal.loop-i-preserved
 unfolding how_many
 loop-i-preserved c =
-    let before = c.loop-i.invariant in let counted = not (eqb c.at-c.result 0) in let more = c.from-many-in-loop-i.ensures in
-    (omega (arith, before.0, more, byte_le counted), rw (add-one, more, byte_cond counted, before.1, c.at-c.ensures, c.word.ensures) (omega arith))
+    let before = c.loop-i.invariant in let counted = not (eqb c.at-in-loop-i.result 0) in let more = c.from-many-in-loop-i.ensures in
+    (omega (arith, before.0, more, byte_le counted), rw (add-one, more, byte_cond counted, before.1, c.at-in-loop-i.ensures, c.at.ensures) (omega arith))
 
 pub returns : goal.returns
 returns c =
-    let here = c.loop-i in let z : here.i ≡ c.args.n = omega arith in λ e. rw (here.invariant.1, z) at (leb-true here.many 1 e)
+    let here = c.loop-i in let z : here.i ≡ c.args.others.list.count = omega arith in λ e. rw (here.invariant.1, z) at (leb-true here.many 1 e)

@@ -8,4 +8,4 @@ pub returns-then-at : goal.returns-then-at
 returns-then-at c = λ e. inl (sym c.at.ensures ∙ c.if-at.true ∙ c.at-2.ensures)
 
 pub returns-else-at : goal.returns-else-at
-returns-else-at c = λ e. inr (eqb-true _ _ e)
+returns-else-at c = λ e. inr (sym c.from.ensures ∙ eqb-true _ _ e)
