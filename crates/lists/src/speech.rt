@@ -1,18 +1,18 @@
 // Programmes and contents: the rules that need no table.
-ghost use Rattle.std.specs.Prelude.{false, ◌≡◌};
+ghost use Rattle.std.specs.Prelude.{◌+◌, false, ◌≡◌};
 ghost use Rattle.lists.specs.steps.Speech.{content_broken, programme_broken, programme_lists_broken, speech_broken};
-ghost use Rattle.sheet.specs.Words.{sheet_of};
+ghost use Rattle.sheet.specs.Words.{sheet_of, word};
 
-use crate::entries::Span;
+use crate::entries::{any_lacking, any_no_language, any_twice, labels_rise};
 use crate::words::{ends_before, record_at, span_at, word_at};
 use languages::list::Languages;
 use profile::limits::{LABELS_LIMIT, PROGRAMME_CONTENTS_LIMIT, PROGRAMME_SETS_LIMIT, exceeds};
+use relations::speech::{CONTENT_SPEECH, PROGRAMME_SPEECH, SpeechPositions};
 use sheet::fields::{
-    CONTENT_LABELS, CONTENT_LANGUAGE, CONTENT_LIST, CONTENT_LOUDNESS, CONTENT_OBJECT, CONTENTS,
-    OBJECTS, PROGRAMME_LABELS, PROGRAMME_LANGUAGE, PROGRAMME_LOUDNESS, PROGRAMMES, REFERENCES,
-    SET_LIST, VALUE_SETS,
+    CONTENT_LIST, CONTENT_OBJECT, CONTENTS, OBJECTS, PROGRAMMES, REFERENCES, SET_LIST, VALUE_SETS,
 };
 use sheet::layout::count;
+use sheet::spans::Span;
 use values::language::loudness;
 
 // A list of so many labels is compared by pairs; a longer one is left to the search.
@@ -27,6 +27,20 @@ struct Speech {
 }
 
 impl Speech {
+    // Those of the record whose words begin at an index.
+    fn at(s: &[u8], at: u32, position: SpeechPositions) -> Speech
+        ensures language { result.language ≡ word (sheet_of s.now) (at + position.language) }
+        ensures first { result.labels.first ≡ word (sheet_of s.now) (at + position.labels) }
+        ensures count { result.labels.count ≡ word (sheet_of s.now) (at + (position.labels + 1)) }
+        ensures loudness { result.loudness ≡ word (sheet_of s.now) (at + position.loudness) }
+    {
+        Speech {
+            language: word_at(s, at, position.language),
+            labels: span_at(s, at, position.labels),
+            loudness: word_at(s, at, position.loudness),
+        }
+    }
+
     // Whether they break a rule, where there are no labels.
     fn breaks_without_labels(self, s: &[u8], langs: &Languages) -> bool
         ensures { result ≡ speech_broken (sheet_of s.now) langs.now self.language self.labels.first 0 self.loudness }
@@ -45,17 +59,17 @@ impl Speech {
     {
         let n = u64::from(self.labels.count);
         let entries = self.labels.entries(s);
-        if entries.labels_rise(s, langs) {
+        if labels_rise(s, entries, langs) {
             return self.labels.is_beyond(count(s, REFERENCES))
                 | (!langs.good(self.language) | !loudness(self.loudness))
                 | exceeds(s, LABELS_LIMIT, n);
         }
         self.labels.is_beyond(count(s, REFERENCES))
             | (!langs.good(self.language)
-                | entries.any_no_language(s, langs)
+                | any_no_language(s, entries, langs)
                 | !loudness(self.loudness))
             | exceeds(s, LABELS_LIMIT, n)
-            | entries.any_twice(s)
+            | any_twice(s, entries)
     }
 }
 
@@ -67,11 +81,7 @@ pub fn content_breaks(s: &[u8], langs: &Languages, k: u16) -> bool
     if ends_before(s, CONTENTS, at) {
         return true;
     }
-    let speech = Speech {
-        language: word_at(s, at, CONTENT_LANGUAGE),
-        labels: span_at(s, at, CONTENT_LABELS),
-        loudness: word_at(s, at, CONTENT_LOUDNESS),
-    };
+    let speech = Speech::at(s, at, CONTENT_SPEECH);
     if LONGEST < speech.labels.count {
         return true;
     }
@@ -93,8 +103,8 @@ fn programme_lists_break(s: &[u8], contents: Span, sets: Span) -> bool
         | sets.is_beyond(many)
         | ((contents.count < 1) | exceeds(s, PROGRAMME_CONTENTS_LIMIT, u64::from(contents.count)))
         | exceeds(s, PROGRAMME_SETS_LIMIT, u64::from(sets.count))
-        | contents.entries(s).any_lacking(s, count(s, CONTENTS))
-        | sets.entries(s).any_lacking(s, count(s, VALUE_SETS))
+        | any_lacking(s, contents.entries(s), count(s, CONTENTS))
+        | any_lacking(s, sets.entries(s), count(s, VALUE_SETS))
 }
 
 // Whether a programme may break one of rules 4, 5, 6, 8 and 9.
@@ -105,11 +115,7 @@ pub fn programme_breaks(s: &[u8], langs: &Languages, k: u16) -> bool
     if ends_before(s, PROGRAMMES, at) {
         return true;
     }
-    let speech = Speech {
-        language: word_at(s, at, PROGRAMME_LANGUAGE),
-        labels: span_at(s, at, PROGRAMME_LABELS),
-        loudness: word_at(s, at, PROGRAMME_LOUDNESS),
-    };
+    let speech = Speech::at(s, at, PROGRAMME_SPEECH);
     if LONGEST < speech.labels.count {
         return true;
     }

@@ -4,8 +4,8 @@ ghost use Rattle.std.specs.Prelude.{◌+◌, ltb, ◌≡◌};
 ghost use Rattle.sheet.specs.Layout.{record_words, start};
 ghost use Rattle.sheet.specs.Words.{sheet_of, word, word_count};
 
-use crate::entries::Span;
 use sheet::layout::{offset, record_words};
+use sheet::spans::Span;
 use sheet::words::{word, word_count};
 
 // The index of the first word of the record so many places after another.
@@ -45,7 +45,7 @@ pub fn number_at(s: &[u8], at: u32, position: u8) -> u16
     word(s, at as usize + (usize::from(position) + 1))
 }
 
-// The list or span at a position.
+// The list or span at a position. `Span::at` finds the index of the record, which is known here.
 pub fn span_at(s: &[u8], at: u32, position: u8) -> Span
     ensures first { result.first ≡ word (sheet_of s.now) (at + position) }
     ensures count { result.count ≡ word (sheet_of s.now) (at + (position + 1)) }

@@ -10,3 +10,4 @@ pub mod programmes;
 pub mod records;
 pub mod sets;
 pub mod sizes;
+pub mod speech;

@@ -1,2 +1,3 @@
 mod SeenLaws
 mod DifferLaws
+mod LookedLaws

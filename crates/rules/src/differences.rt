@@ -21,6 +21,7 @@ fn fields_differ(s: &[u8], section: u8, from: u8, a: u16, b: u16) -> bool
 }
 
 // A leader differs from a member in interact, gain, offset, the four range words or kind.
+#[tactic(auto, unfolding(profile::specs::Rules::differs, crate::specs::steps::Loops::fields_differ))]
 pub fn differs(s: &[u8], l: u16, q: u16) -> bool
     ensures { result ≡ differs (sheet_of s.now) l q }
 {
@@ -28,6 +29,7 @@ pub fn differs(s: &[u8], l: u16, q: u16) -> bool
 }
 
 // Two sets differ in any of seven words.
+#[tactic(auto, unfolding(profile::specs::Rules::sets_differ, crate::specs::steps::Loops::fields_differ))]
 pub fn sets_differ(s: &[u8], u: u16, v: u16) -> bool
     ensures { result ≡ sets_differ (sheet_of s.now) u v }
 {

@@ -1,4 +1,4 @@
-// Rules 19 to 21: complementary groups.
+// Rules 19 to 21: complementary groups. That a table is right is a premise, as lib.rt tells.
 ghost use Rattle.std.specs.Prelude.{ltb, not, ◌&&◌, eqb, ◌≡◌};
 ghost use Rattle.profile.specs.Relations.{included, leader, wholly_included};
 ghost use Rattle.profile.specs.Rules.{bad_complement, rule19, rule20, rule21};
@@ -14,20 +14,19 @@ use profile::counting::any;
 use relations::groups::members;
 use relations::objects::leader;
 use sheet::fields::{COMPLEMENT_LIST, OBJECTS};
-use sheet::layout::{count, field, number};
+use sheet::layout::count;
+use sheet::spans::Span;
 use tables::ObjectTables;
 use tables::members::members_passing;
-use tables::reads::{included_by, top_by};
+use tables::reads::{included_by, look, top_by};
 
 // Whether complement lists name an object more than once.
 fn named_more(s: &[u8], complements: &[u16], q: u16) -> bool
     ensures { Complemented (sheet_of s.now) complements.now → result ≡ ltb 1 (total_times (sheet_of s.now) complement_list q) }
 {
-    let i = q as usize;
-    if i < complements.len() {
-        1 < complements[i]
-    } else {
-        1 < total_times(s, COMPLEMENT_LIST, q)
+    match look(complements, q) {
+        Some(n) => 1 < n,
+        None => 1 < total_times(s, COMPLEMENT_LIST, q),
     }
 }
 
@@ -41,17 +40,15 @@ pub fn bad_complement(s: &[u8], tables: &ObjectTables, q: u16) -> bool
 pub fn rule19(s: &[u8], tables: &ObjectTables, section: u8, o: u16) -> bool
     ensures { ObjectsTabled (sheet_of s.now) tables.now → result ≡ rule19 (sheet_of s.now) section o }
 {
-    let first = field(s, OBJECTS, o, COMPLEMENT_LIST);
-    let n = number(s, OBJECTS, o, COMPLEMENT_LIST);
-    any_reference(s, first, n, |q| bad_complement(s, tables, q))
+    let complements = Span::at(s, OBJECTS, o, COMPLEMENT_LIST);
+    any_reference(s, complements, |q| bad_complement(s, tables, q))
 }
 
 pub fn rule20(s: &[u8], section: u8, o: u16) -> bool
     ensures { result ≡ rule20 (sheet_of s.now) section o }
 {
-    let first = field(s, OBJECTS, o, COMPLEMENT_LIST);
-    let n = number(s, OBJECTS, o, COMPLEMENT_LIST);
-    any_reference(s, first, n, |q| differs(s, o, q))
+    let complements = Span::at(s, OBJECTS, o, COMPLEMENT_LIST);
+    any_reference(s, complements, |q| differs(s, o, q))
 }
 
 // The programme includes some of a leader's group, but neither one member nor all.

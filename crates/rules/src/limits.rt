@@ -10,16 +10,18 @@ use profile::limits::{
     TRACKS_LIMIT, exceeds,
 };
 use sheet::fields::{
-    CHILD_LIST, COMPLEMENT_LIST, CONTENT_LABELS, CONTENT_LIST, CONTENTS, OBJECTS, PACK_CHANNELS,
-    PACK_KIND, PACKS, PROGRAMME_LABELS, PROGRAMMES, SET_LIST, SET_SPAN, TRACKS,
+    CHILD_LIST, COMPLEMENT_LIST, CONTENT_LABELS, CONTENT_LIST, CONTENTS, KIND_DIRECT_SPEAKERS,
+    KIND_OBJECTS, OBJECTS, PACK_CHANNELS, PACK_KIND, PACKS, PROGRAMME_LABELS, PROGRAMMES, SET_LIST,
+    SET_SPAN, TRACKS,
 };
 use sheet::layout::{count, field, number};
 
 // Below 1 or above the limit.
+#[tactic(auto, unfolding(profile::specs::Rules::outside))]
 fn outside(s: &[u8], column: u8, n: u16) -> bool
     ensures { result ≡ outside (sheet_of s.now) column n }
 {
-    (n < 1) | exceeds(s, column, n as u64)
+    (n < 1) | exceeds(s, column, u64::from(n))
 }
 
 pub fn rule7(s: &[u8], section: u8, k: u16) -> bool
@@ -32,13 +34,16 @@ pub fn rule7(s: &[u8], section: u8, k: u16) -> bool
         PACKS => exceeds(
             s,
             PACKS_LIMIT,
-            u64::from(how_many(count(s, PACKS), |k| field(s, PACKS, k, PACK_KIND) == 3)),
+            u64::from(how_many(count(s, PACKS), |k| {
+                field(s, PACKS, k, PACK_KIND) == KIND_OBJECTS
+            })),
         ),
         TRACKS => outside(s, TRACKS_LIMIT, count(s, TRACKS)),
         _ => false,
     }
 }
 
+#[tactic(auto, unfolding(profile::specs::Rules::rule8))]
 pub fn rule8(s: &[u8], section: u8, k: u16) -> bool
     ensures { result ≡ rule8 (sheet_of s.now) section k }
 {
@@ -51,35 +56,39 @@ pub fn rule8(s: &[u8], section: u8, k: u16) -> bool
             ) | exceeds(
                 s,
                 PROGRAMME_SETS_LIMIT,
-                number(s, PROGRAMMES, k, SET_LIST) as u64,
+                u64::from(number(s, PROGRAMMES, k, SET_LIST)),
             ) | exceeds(
                 s,
                 LABELS_LIMIT,
-                number(s, PROGRAMMES, k, PROGRAMME_LABELS) as u64,
+                u64::from(number(s, PROGRAMMES, k, PROGRAMME_LABELS)),
             )
         }
         CONTENTS => exceeds(
             s,
             LABELS_LIMIT,
-            number(s, CONTENTS, k, CONTENT_LABELS) as u64,
+            u64::from(number(s, CONTENTS, k, CONTENT_LABELS)),
         ),
         OBJECTS => {
-            exceeds(s, CHILDREN_LIMIT, number(s, OBJECTS, k, CHILD_LIST) as u64)
-                | exceeds(
-                    s,
-                    COMPLEMENTS_LIMIT,
-                    number(s, OBJECTS, k, COMPLEMENT_LIST) as u64,
-                )
-                | exceeds(s, SPAN_LIMIT, number(s, OBJECTS, k, SET_SPAN) as u64)
+            exceeds(
+                s,
+                CHILDREN_LIMIT,
+                u64::from(number(s, OBJECTS, k, CHILD_LIST)),
+            ) | exceeds(
+                s,
+                COMPLEMENTS_LIMIT,
+                u64::from(number(s, OBJECTS, k, COMPLEMENT_LIST)),
+            ) | exceeds(s, SPAN_LIMIT, u64::from(number(s, OBJECTS, k, SET_SPAN)))
         }
         _ => false,
     }
 }
 
+#[tactic(auto, unfolding(profile::specs::Rules::rule10))]
 pub fn rule10(s: &[u8], section: u8, k: u16) -> bool
     ensures { result ≡ rule10 (sheet_of s.now) section k }
 {
     let kind = field(s, PACKS, k, PACK_KIND);
     let channels = field(s, PACKS, k, PACK_CHANNELS);
-    (kind == 3) & (channels != 1) | (kind == 1) & outside(s, CHANNELS_LIMIT, channels)
+    (kind == KIND_OBJECTS) & (channels != 1)
+        | (kind == KIND_DIRECT_SPEAKERS) & outside(s, CHANNELS_LIMIT, channels)
 }

@@ -1,4 +1,4 @@
-// Rules 4, 5 and 9: lists and the indices and labels in them.
+// Rules 4, 5 and 9: lists and the indices and labels in them. That a table is right is a premise, as lib.rt tells.
 ghost use Rattle.std.specs.Prelude.{◌≡◌};
 ghost use Rattle.profile.specs.Rules.{beyond, list_lacks, rule4, rule5, rule9};
 ghost use Rattle.rules.specs.steps.Loops.{first_target, second_target};
@@ -14,13 +14,15 @@ use sheet::fields::{
     PACKS, PROGRAMME_LABELS, PROGRAMMES, REFERENCES, SET_LIST, SET_SPAN, TRACK_LIST, TRACK_PACK,
     TRACKS, VALUE_SETS,
 };
-use sheet::layout::{count, field, number};
+use sheet::layout::{count, field};
+use sheet::spans::Span;
 
 // The list or span at a position of a record ends beyond the target section.
+#[tactic(auto, unfolding(profile::specs::Rules::beyond))]
 fn beyond(s: &[u8], target: u8, section: u8, k: u16, at: u8) -> bool
     ensures { result ≡ beyond (sheet_of s.now) target section k at }
 {
-    (count(s, target) as u32) < field(s, section, k, at) as u32 + number(s, section, k, at) as u32
+    Span::at(s, section, k, at).is_beyond(count(s, target))
 }
 
 pub fn rule4(s: &[u8], section: u8, k: u16) -> bool
@@ -41,17 +43,23 @@ pub fn rule4(s: &[u8], section: u8, k: u16) -> bool
     }
 }
 
-// An entry of the list at a position of a record names an index that the target section lacks, by the table where it has the list.
+// An entry of the list at a position of a record names an index that the target section lacks.
+fn list_lacks(s: &[u8], target: u8, section: u8, k: u16, at: u8) -> bool
+    ensures { result ≡ list_lacks (sheet_of s.now) target section k at }
+{
+    any_entry(s, section, k, at, |e| lacks(s, target, e))
+}
+
+// The same, by the table where it has the list.
 fn list_lacks_by(s: &[u8], next: &[u16], target: u8, section: u8, k: u16, at: u8) -> bool
     ensures { LacksRight (sheet_of s.now) target next.now → result ≡ list_lacks (sheet_of s.now) target section k at }
 {
-    match look_up(s, next, section, k, at) {
-        Some(found) => found,
-        None => any_entry(s, section, k, at, |e| lacks(s, target, e)),
-    }
+    look_up(s, next, section, k, at).unwrap_or_else(|| list_lacks(s, target, section, k, at))
 }
 
-// The section that contents, or tracks, are listed for.
+// The section that contents, or tracks, are listed for. This function and the next are the definitions of their names, which contracts cite;
+// a pair would be taken apart at each use.
+#[tactic(auto, unfolding(crate::specs::steps::Loops::first_target))]
 pub fn first_target(section: u8) -> u8
     ensures { result ≡ first_target section }
 {
@@ -63,6 +71,7 @@ pub fn first_target(section: u8) -> u8
 }
 
 // The section that value sets, or objects, are listed for.
+#[tactic(auto, unfolding(crate::specs::steps::Loops::second_target))]
 pub fn second_target(section: u8) -> u8
     ensures { result ≡ second_target section }
 {

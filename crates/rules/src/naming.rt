@@ -1,4 +1,4 @@
-// Rules 11 and 12: what names what, and how often.
+// Rules 11 and 12: what names what, and how often. That a table is right is a premise, as lib.rt tells.
 ghost use Rattle.std.specs.Prelude.{eqb, ◌≡◌};
 ghost use Rattle.profile.specs.Counting.{any, how_many};
 ghost use Rattle.profile.specs.Relations.{has_set, lists, namings};
@@ -18,6 +18,7 @@ use sheet::fields::{
     CHILD_LIST, CONTENT_LIST, CONTENT_OBJECT, CONTENTS, OBJECTS, PROGRAMMES, VALUE_SETS,
 };
 use sheet::layout::{count, field};
+use tables::reads::look;
 
 // How often all lists at a position of the objects name x.
 pub fn total_times(s: &[u8], at: u8, x: u16) -> u32
@@ -41,40 +42,37 @@ fn namings(s: &[u8], o: u16) -> u64
 }
 
 // Whether contents and child lists name an object exactly once.
+#[tactic(auto, using(tables::proofs::TableLaws::standing_read, tables::proofs::TableLaws::counted_one))]
 fn named_once(s: &[u8], named: &[u16], o: u16) -> bool
     ensures { Named (sheet_of s.now) named.now → result ≡ eqb (namings (sheet_of s.now) o) 1 }
 {
-    let i = o as usize;
-    if i < named.len() {
-        named[i] == 1
-    } else {
-        namings(s, o) == 1
+    match look(named, o) {
+        Some(n) => n == 1,
+        None => namings(s, o) == 1,
     }
 }
 
 // Whether a value set is in exactly one span.
+#[tactic(auto, using(tables::proofs::TableLaws::standing_read, tables::proofs::TableLaws::counted_one))]
 fn spanned_once(s: &[u8], spanned: &[u16], v: u16) -> bool
     ensures { Spanned (sheet_of s.now) spanned.now → result ≡ eqb (how_many (λ o. has_set (sheet_of s.now) o v) (count (sheet_of s.now) objects)) 1 }
 {
-    let i = v as usize;
-    if i < spanned.len() {
-        spanned[i] == 1
-    } else {
-        how_many(count(s, OBJECTS), |o| has_set(s, o, v)) == 1
+    match look(spanned, v) {
+        Some(n) => n == 1,
+        None => how_many(count(s, OBJECTS), |o| has_set(s, o, v)) == 1,
     }
 }
 
 // Whether a content is in some programme.
+
 fn is_listed(s: &[u8], listed: &[u16], c: u16) -> bool
     ensures { Listed (sheet_of s.now) listed.now → result ≡ any (λ p. lists (sheet_of s.now) programmes p content_list c) (count (sheet_of s.now) programmes) }
 {
-    let i = c as usize;
-    if i < listed.len() {
-        listed[i] != 0
-    } else {
-        any(count(s, PROGRAMMES), |p| {
+    match look(listed, c) {
+        Some(n) => n != 0,
+        None => any(count(s, PROGRAMMES), |p| {
             lists(s, PROGRAMMES, p, CONTENT_LIST, c)
-        })
+        }),
     }
 }
 

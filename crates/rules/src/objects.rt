@@ -1,4 +1,4 @@
-// Rules 13 to 16: what an object has and may have.
+// Rules 13 to 16: what an object has and may have. That a table is right is a premise, as lib.rt tells.
 ghost use Rattle.std.specs.Prelude.{◌≡◌};
 ghost use Rattle.profile.specs.Rules.{rule13, rule14, rule15, rule16};
 ghost use Rattle.rules.specs.steps.Loops.{own_set};
@@ -11,16 +11,15 @@ use crate::words::object_range;
 use profile::counting::any;
 use relations::entries::any_entry;
 use relations::objects::{channels, has_children, has_objects_pack, has_pack, leader, pack_of};
+use relations::sets::object_values;
 use runs::reads::{inside, odd_tracks};
 use sheet::fields::{
-    CHILD_LIST, INTERACT, OBJECT_GAIN, OBJECT_OFFSET, OBJECTS, SET_OWN, SET_SPAN, TRACK_LIST,
-    TRACK_PACK, TRACKS, VALUE_SETS,
+    CHILD_LIST, INTERACT, OBJECTS, SET_OWN, SET_SPAN, TRACK_LIST, TRACK_PACK, TRACKS, VALUE_SETS,
 };
 use sheet::layout::{field, number, wide_field};
 use sheet::spans::Span;
 use tables::reads::top_by;
 use values::Sort;
-use values::values::is_absent;
 
 pub fn rule13(s: &[u8], section: u8, o: u16) -> bool
     ensures { result ≡ rule13 (sheet_of s.now) section o }
@@ -49,6 +48,7 @@ pub fn rule14(s: &[u8], next: &[u16], again: &[u16], section: u8, o: u16) -> boo
     }) | bad_ordinals(s, o)
 }
 
+#[tactic(auto, unfolding(profile::specs::Rules::rule15, profile::specs::Rules::object_range))]
 pub fn rule15(s: &[u8], tops: &[u16], section: u8, o: u16) -> bool
     ensures { Tops (sheet_of s.now) tops.now → result ≡ rule15 (sheet_of s.now) section o }
 {
@@ -56,22 +56,22 @@ pub fn rule15(s: &[u8], tops: &[u16], section: u8, o: u16) -> bool
         & (leader(s, o)
             | (field(s, OBJECTS, o, INTERACT) == 1)
             | (0 < number(s, OBJECTS, o, SET_SPAN))
-            | !is_absent(field(s, OBJECTS, o, OBJECT_GAIN))
-            | !is_absent(field(s, OBJECTS, o, OBJECT_OFFSET))
-            | object_range(s, o, Sort::Gains)
-            | object_range(s, o, Sort::Offsets))
+            | !object_values(s, o, Sort::Gains).none_present()
+            | !object_values(s, o, Sort::Offsets).none_present())
 }
 
 // Whether some set of the object has own 1.
-fn own_set(s: &[u8], o: u16) -> bool
+#[tactic(auto, unfolding(crate::specs::steps::Loops::own_set))]
+pub fn own_set(s: &[u8], o: u16) -> bool
     ensures { result ≡ own_set (sheet_of s.now) o }
 {
-    let from = u32::from(field(s, OBJECTS, o, SET_SPAN));
-    any(number(s, OBJECTS, o, SET_SPAN), |i| {
-        wide_field(s, VALUE_SETS, from + u32::from(i), SET_OWN) == 1
+    let span = Span::at(s, OBJECTS, o, SET_SPAN);
+    any(span.count, |i| {
+        wide_field(s, VALUE_SETS, u32::from(span.first) + u32::from(i), SET_OWN) == 1
     })
 }
 
+#[tactic(auto, unfolding(profile::specs::Rules::rule16, crate::specs::steps::Loops::own_set))]
 pub fn rule16(s: &[u8], section: u8, o: u16) -> bool
     ensures { result ≡ rule16 (sheet_of s.now) section o }
 {

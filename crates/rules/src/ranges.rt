@@ -1,28 +1,24 @@
-// Rules 17 and 18: offsets and their packs, values and their ranges.
+// Rules 17 and 18: offsets and their packs, values and their ranges. That the table is right is a premise, as lib.rt tells.
 ghost use Rattle.std.specs.Prelude.{◌≡◌};
 ghost use Rattle.profile.specs.Rules.{object_leaves, rule17, rule18, set_leaves};
 ghost use Rattle.sheet.specs.Words.{sheet_of};
 ghost use Rattle.tables.specs.steps.Right.{Owners};
 
-use crate::words::{object_range, set_range};
 use relations::objects::has_front_pack;
 use relations::sets::{Values, effective_values, object_values, own_value, set_values};
-use sheet::fields::{OBJECT_OFFSET, OBJECTS, SET_OFFSET, VALUE_SETS};
-use sheet::layout::field;
+use sheet::fields::{OBJECTS, VALUE_SETS};
 use tables::reads::owner_by;
 use values::Sort;
 use values::values::is_absent;
 
+#[tactic(auto, unfolding(profile::specs::Rules::rule17, profile::specs::Rules::object_range, profile::specs::Rules::set_range))]
 pub fn rule17(s: &[u8], owners: &[u16], section: u8, k: u16) -> bool
     ensures { Owners (sheet_of s.now) owners.now → result ≡ rule17 (sheet_of s.now) section k }
 {
     match section {
-        OBJECTS => {
-            (!is_absent(field(s, OBJECTS, k, OBJECT_OFFSET)) | object_range(s, k, Sort::Offsets))
-                & !has_front_pack(s, k)
-        }
+        OBJECTS => !object_values(s, k, Sort::Offsets).none_present() & !has_front_pack(s, k),
         VALUE_SETS => {
-            (!is_absent(field(s, VALUE_SETS, k, SET_OFFSET)) | set_range(s, k, Sort::Offsets))
+            !set_values(s, k, Sort::Offsets).none_present()
                 & !has_front_pack(s, owner_by(s, owners, k))
         }
         _ => false,

@@ -1,29 +1,31 @@
-// The references from one on, by a test that the caller gives.
+// The references of a list, by a test that the caller gives.
 ghost use Rattle.std.specs.Prelude.{ℕ, Bool, ◌+◌, ◌≡◌};
 ghost use Rattle.profile.specs.Counting.{ComputesBelow, ComputesPairsBelow, any, two_of};
 ghost use Rattle.sheet.specs.Layout.{reference};
 ghost use Rattle.sheet.specs.Words.{sheet_of};
 
 use profile::counting::any;
-use sheet::layout::reference;
+use sheet::spans::Span;
 
-// Whether one of n references passes.
-pub fn any_reference<F: Fn(u16) -> bool>(s: &[u8], first: u16, n: u16, test: F) -> bool
+// Whether one of them passes.
+#[tactic(auto, unfolding(sheet::specs::Layout::reference))]
+pub fn any_reference<F: Fn(u16) -> bool>(s: &[u8], list: Span, test: F) -> bool
     requires { F.IsAlwaysCallable test }
-    ensures { (p : ℕ → Bool) → ComputesBelow 65536 (F.post test) p → result ≡ any (λ i. p (reference (sheet_of s.now) (first + i))) n }
+    ensures { (p : ℕ → Bool) → ComputesBelow 65536 (F.post test) p → result ≡ any (λ i. p (reference (sheet_of s.now) (list.first + i))) list.count }
 {
-    any(n, |i| test(reference(s, u32::from(first) + u32::from(i))))
+    let entries = list.entries(s);
+    any(list.count, |i| test(entries.at(s, i)))
 }
 
-// Whether two of n references pass together, the earlier one first.
-pub fn two_references<F: Fn(u16, u16) -> bool>(s: &[u8], first: u16, n: u16, test: F) -> bool
+// Whether two of them pass together, the earlier one first.
+#[tactic(auto, unfolding(sheet::specs::Layout::reference, profile::specs::Counting::two_of))]
+pub fn two_references<F: Fn(u16, u16) -> bool>(s: &[u8], list: Span, test: F) -> bool
     requires { F.IsAlwaysCallable test }
-    ensures { (p : ℕ → ℕ → Bool) → ComputesPairsBelow 65536 (F.post test) p → result ≡ two_of (λ i j. p (reference (sheet_of s.now) (first + i)) (reference (sheet_of s.now) (first + j))) n }
+    ensures { (p : ℕ → ℕ → Bool) → ComputesPairsBelow 65536 (F.post test) p → result ≡ two_of (λ i j. p (reference (sheet_of s.now) (list.first + i)) (reference (sheet_of s.now) (list.first + j))) list.count }
 {
-    let mut found = false;
-    for j in 0..n {
-        let y = reference(s, u32::from(first) + u32::from(j));
-        found |= any_reference(s, first, j, |x| test(x, y));
-    }
-    found
+    let entries = list.entries(s);
+    any(list.count, |j| {
+        let y = entries.at(s, j);
+        any(j, |i| test(entries.at(s, i), y))
+    })
 }

@@ -1,4 +1,5 @@
-// Lists with two entries alike: short lists by their pairs, long ones by a table of what was seen.
+// Lists with two entries alike: short lists by their pairs, long ones by a table of what was seen. That a lent table is right is a premise,
+// as lib.rt tells.
 ghost use Rattle.std.specs.Prelude.{ℕ, suc, ◌<◌, eqb, get_or, length, cond, not, ◌≡◌};
 ghost use Rattle.profile.specs.Counting.{ComputesBelow};
 ghost use Rattle.profile.specs.Relations.{channels, owner};
@@ -20,15 +21,18 @@ use relations::programmes::named_set;
 use runs::reads::look_up;
 use sheet::fields::{OBJECTS, PROGRAMMES, SET_LIST, TRACK_LIST, TRACK_ORDINAL, TRACKS};
 use sheet::layout::{entry, field, number};
+use sheet::spans::Span;
 use tables::GroupTables;
 use tables::reads::owner_by;
 
-// Marks a number as seen, and tells whether it was before.
+// Marks a number as seen, and tells whether it was before. `keep` of runs could serve here: but it has a `requires`, which no public function
+// may have, so that it is no other crate's.
+#[tactic(auto, using(tables::proofs::MarkLaws::set_standing))]
 fn see(seen: &mut [u16], x: u16) -> bool
     requires { length seen.old ≡ 65536 }
     ensures { (length seen.new ≡ 65536) × (result ≡ not (eqb (get_or seen.old x 0) 0)) × Standing (λ z. cond (eqb x z) 1 (get_or seen.old z 0)) seen.new }
 {
-    let i = x as usize;
+    let i = usize::from(x);
     let before = seen[i] != 0;
     seen[i] = 1;
     before
@@ -37,7 +41,7 @@ fn see(seen: &mut [u16], x: u16) -> bool
 // Whether two entries of the list at a position of a record have the same key. It stays apart, so that its table is not in
 // the frames of its callers.
 #[inline(never)]
-fn keys_alike<F: Fn(u16) -> u16>(s: &[u8], section: u8, k: u16, at: u8, key: F) -> bool
+pub fn keys_alike<F: Fn(u16) -> u16>(s: &[u8], section: u8, k: u16, at: u8, key: F) -> bool
     requires { F.IsAlwaysCallable key }
     ensures { (f : ℕ → ℕ) → ComputesBelow 65536 (F.post key) f → result ≡ keys_alike (sheet_of s.now) section k at f }
 {
@@ -53,40 +57,38 @@ fn keys_alike<F: Fn(u16) -> u16>(s: &[u8], section: u8, k: u16, at: u8, key: F) 
 // A list of so many entries is compared by pairs, a longer one by a table.
 const SHORT: u16 = 48;
 
+// The same, a short list by its pairs.
+fn alike<F: Fn(u16) -> u16>(s: &[u8], section: u8, k: u16, at: u8, key: F) -> bool
+    requires { F.IsAlwaysCallable key }
+    ensures { (f : ℕ → ℕ) → ComputesBelow 65536 (F.post key) f → result ≡ keys_alike (sheet_of s.now) section k at f }
+{
+    let list = Span::at(s, section, k, at);
+    if list.count <= SHORT {
+        two_references(s, list, |x, y| key(x) == key(y))
+    } else {
+        keys_alike(s, section, k, at, key)
+    }
+}
+
 // The list at a position of a record has one entry at two of its places.
 pub fn repeats(s: &[u8], section: u8, k: u16, at: u8) -> bool
     ensures { result ≡ repeats (sheet_of s.now) section k at }
 {
-    let n = number(s, section, k, at);
-    if n <= SHORT {
-        two_references(s, field(s, section, k, at), n, |x, y| x == y)
-    } else {
-        keys_alike(s, section, k, at, |e| e)
-    }
+    alike(s, section, k, at, |e| e)
 }
 
 // The same, by the table where it has the list.
 pub fn repeats_by(s: &[u8], next: &[u16], section: u8, k: u16, at: u8) -> bool
     ensures { RepeatRight (sheet_of s.now) next.now → result ≡ repeats (sheet_of s.now) section k at }
 {
-    match look_up(s, next, section, k, at) {
-        Some(found) => found,
-        None => repeats(s, section, k, at),
-    }
+    look_up(s, next, section, k, at).unwrap_or_else(|| repeats(s, section, k, at))
 }
 
 // A programme names two sets of one object.
 pub fn one_owner(s: &[u8], owners: &[u16], p: u16) -> bool
     ensures { Owners (sheet_of s.now) owners.now → result ≡ keys_alike (sheet_of s.now) programmes p set_list (owner (sheet_of s.now)) }
 {
-    let n = number(s, PROGRAMMES, p, SET_LIST);
-    if n <= SHORT {
-        two_references(s, field(s, PROGRAMMES, p, SET_LIST), n, |x, y| {
-            owner_by(s, owners, x) == owner_by(s, owners, y)
-        })
-    } else {
-        keys_alike(s, PROGRAMMES, p, SET_LIST, |v| owner_by(s, owners, v))
-    }
+    alike(s, PROGRAMMES, p, SET_LIST, |v| owner_by(s, owners, v))
 }
 
 // How many of the object's tracks have an ordinal.
@@ -99,13 +101,14 @@ fn tracks_with(s: &[u8], o: u16, ordinal: u16) -> u16
 }
 
 // Whether some channel is not the ordinal of exactly one of the object's tracks.
-fn bad_channel(s: &[u8], o: u16) -> bool
+pub fn bad_channel(s: &[u8], o: u16) -> bool
     ensures { result ≡ bad_channel (sheet_of s.now) o }
 {
     any(channels(s, o), |c| tracks_with(s, o, c) != 1)
 }
 
-// Whether some channel of n is not the ordinal of exactly one of the object's n tracks.
+// Whether some channel of n is not the ordinal of exactly one of the object's n tracks. A short list is counted channel by channel, as the
+// definition does; `alike` would go over it twice.
 pub fn bad_ordinals(s: &[u8], o: u16) -> bool
     ensures { number (sheet_of s.now) objects o track_list ≡ channels (sheet_of s.now) o → result ≡ bad_channel (sheet_of s.now) o }
 {
@@ -121,17 +124,18 @@ pub fn bad_ordinals(s: &[u8], o: u16) -> bool
 }
 
 // The first place of a group among those passed; where there is none, this one, which is kept.
+#[tactic(auto, unfolding(tables::specs::steps::Right::told), using(crate::proofs::DifferLaws::first_written, crate::proofs::DifferLaws::first_kept))]
 fn first_of(first: &mut [u16], l: u16, j: u16) -> u16
     requires { (length first.old ≡ 2048) × (l < 2048) × (j < 65535) }
     ensures { (length first.new ≡ 2048) × (result ≡ told j (get_or first.old l 0)) × Standing (λ z. cond (eqb l z) (suc result) (get_or first.old z 0)) first.new }
 {
-    let i = l as usize;
-    let c = first[i];
-    if c == 0 {
-        first[i] = j + 1;
-        j
-    } else {
-        c - 1
+    let i = usize::from(l);
+    match first[i].checked_sub(1) {
+        Some(place) => place,
+        None => {
+            first[i] = j + 1;
+            j
+        }
     }
 }
 
@@ -150,10 +154,8 @@ fn differ_in_one_group(s: &[u8], tables: &GroupTables, u: u16, v: u16) -> bool
 fn group_pairs_differ(s: &[u8], tables: &GroupTables, p: u16) -> bool
     ensures { GroupsTabled (sheet_of s.now) tables.now → result ≡ sets_differ_in_group (sheet_of s.now) p }
 {
-    let n = number(s, PROGRAMMES, p, SET_LIST);
-    two_references(s, field(s, PROGRAMMES, p, SET_LIST), n, |u, v| {
-        differ_in_one_group(s, tables, u, v)
-    })
+    let sets = Span::at(s, PROGRAMMES, p, SET_LIST);
+    two_references(s, sets, |u, v| differ_in_one_group(s, tables, u, v))
 }
 
 // The same for a long list: each is compared with the first of its group. No sheet has more than 2,046 objects; a larger number would

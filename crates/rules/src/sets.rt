@@ -1,4 +1,4 @@
-// Rule 22: the sets that a programme names.
+// Rule 22: the sets that a programme names. That a table is right is a premise, as lib.rt tells.
 ghost use Rattle.std.specs.Prelude.{◌≡◌};
 ghost use Rattle.profile.specs.Rules.{rule22};
 ghost use Rattle.rules.specs.steps.Loops.{partly_set};
@@ -11,7 +11,8 @@ use profile::counting::any;
 use relations::groups::members;
 use relations::objects::leader;
 use sheet::fields::{OBJECTS, PROGRAMMES, SET_LIST};
-use sheet::layout::{count, field, number};
+use sheet::layout::count;
+use sheet::spans::Span;
 use tables::GroupTables;
 use tables::marks::mark_named_sets;
 use tables::members::members_passing;
@@ -38,9 +39,8 @@ fn partly_set(s: &[u8], p: u16, marks: &[u16], sets: &[u16], l: u16) -> bool
 pub fn rule22(s: &[u8], tables: &GroupTables, marks: &[u16], section: u8, p: u16) -> bool
     ensures { GroupsTabled (sheet_of s.now) tables.now → Included (sheet_of s.now) p marks.now → result ≡ rule22 (sheet_of s.now) section p }
 {
-    let first = field(s, PROGRAMMES, p, SET_LIST);
-    let n = number(s, PROGRAMMES, p, SET_LIST);
-    if any_reference(s, first, n, |v| {
+    let named = Span::at(s, PROGRAMMES, p, SET_LIST);
+    if any_reference(s, named, |v| {
         !included_by(s, p, marks, owner_by(s, tables.owners, v))
     }) {
         return true;

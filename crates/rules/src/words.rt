@@ -1,4 +1,4 @@
-// Rule 6: words and labels outside their values.
+// Rule 6: words and labels outside their values. That a table is right is a premise, as lib.rt tells.
 ghost use Rattle.std.specs.Prelude.{◌≡◌};
 ghost use Rattle.profile.specs.Rules.{bad_label, bad_object, bad_object_words, bad_pack, bad_set, bad_set_words, bad_speech, object_range, rule6, set_range};
 ghost use Rattle.runs.specs.steps.Runs.{LanguagesRight};
@@ -7,17 +7,18 @@ ghost use Rattle.sheet.specs.Words.{sheet_of};
 use languages::list::Languages;
 use relations::labels::bad_label;
 use relations::sets::{object_values, set_values};
+use relations::speech::{CONTENT_SPEECH, PROGRAMME_SPEECH, SpeechPositions};
 use runs::reads::look_up;
 use sheet::fields::{
-    CONTENT_LABELS, CONTENT_LANGUAGE, CONTENT_LOUDNESS, CONTENTS, INTERACT, OBJECTS, PACK_FRONT,
-    PACK_KIND, PACKS, PROGRAMME_LABELS, PROGRAMME_LANGUAGE, PROGRAMME_LOUDNESS, PROGRAMMES,
-    SET_OWN, VALUE_SETS,
+    CONTENTS, INTERACT, KIND_DIRECT_SPEAKERS, KIND_OBJECTS, OBJECTS, PACK_FRONT, PACK_KIND, PACKS,
+    PROGRAMMES, SET_OWN, VALUE_SETS,
 };
 use sheet::layout::field;
 use values::Sort;
 use values::language::loudness;
 
-// A label outside, by the table where it has the list.
+// A label outside, by the table where it has the list. A `match`, since a proof knows nothing of what a closure that has the languages
+// returns.
 fn bad_label_by(s: &[u8], langs: &Languages, next: &[u16], section: u8, k: u16, at: u8) -> bool
     ensures { LanguagesRight (sheet_of s.now) langs.now next.now → result ≡ bad_label (sheet_of s.now) langs.now section k at }
 {
@@ -28,29 +29,30 @@ fn bad_label_by(s: &[u8], langs: &Languages, next: &[u16], section: u8, k: u16, 
 }
 
 // Language, labels and loudness of a programme or content.
+#[tactic(auto, unfolding(profile::specs::Rules::bad_speech))]
 fn bad_speech(
     s: &[u8],
     langs: &Languages,
     next: &[u16],
     section: u8,
     k: u16,
-    lang: u8,
-    labels: u8,
-    loud: u8,
+    at: SpeechPositions,
 ) -> bool
-    ensures { LanguagesRight (sheet_of s.now) langs.now next.now → result ≡ bad_speech (sheet_of s.now) langs.now section k lang labels loud }
+    ensures { LanguagesRight (sheet_of s.now) langs.now next.now → result ≡ bad_speech (sheet_of s.now) langs.now section k at.language at.labels at.loudness }
 {
-    !langs.good(field(s, section, k, lang))
-        | bad_label_by(s, langs, next, section, k, labels)
-        | !loudness(field(s, section, k, loud))
+    !langs.good(field(s, section, k, at.language))
+        | bad_label_by(s, langs, next, section, k, at.labels)
+        | !loudness(field(s, section, k, at.loudness))
 }
 
+#[tactic(auto, unfolding(profile::specs::Rules::bad_object_words))]
 fn bad_object_words(s: &[u8], o: u16, sort: Sort) -> bool
     ensures { result ≡ bad_object_words (sheet_of s.now) o sort }
 {
     object_values(s, o, sort).bad_words(sort)
 }
 
+#[tactic(auto, unfolding(profile::specs::Rules::bad_set_words))]
 fn bad_set_words(s: &[u8], v: u16, sort: Sort) -> bool
     ensures { result ≡ bad_set_words (sheet_of s.now) v sort }
 {
@@ -58,6 +60,7 @@ fn bad_set_words(s: &[u8], v: u16, sort: Sort) -> bool
 }
 
 // A range word of that sort is present in an object.
+#[tactic(auto, unfolding(profile::specs::Rules::object_range))]
 pub fn object_range(s: &[u8], o: u16, sort: Sort) -> bool
     ensures { result ≡ object_range (sheet_of s.now) o sort }
 {
@@ -65,12 +68,14 @@ pub fn object_range(s: &[u8], o: u16, sort: Sort) -> bool
 }
 
 // A range word of that sort is present in a set.
+#[tactic(auto, unfolding(profile::specs::Rules::set_range))]
 pub fn set_range(s: &[u8], v: u16, sort: Sort) -> bool
     ensures { result ≡ set_range (sheet_of s.now) v sort }
 {
     set_values(s, v, sort).has_range()
 }
 
+#[tactic(auto, unfolding(profile::specs::Rules::bad_object))]
 fn bad_object(s: &[u8], o: u16) -> bool
     ensures { result ≡ bad_object (sheet_of s.now) o }
 {
@@ -79,13 +84,16 @@ fn bad_object(s: &[u8], o: u16) -> bool
         | bad_object_words(s, o, Sort::Offsets)
 }
 
+#[tactic(auto, unfolding(profile::specs::Rules::bad_pack))]
 pub fn bad_pack(s: &[u8], k: u16) -> bool
     ensures { result ≡ bad_pack (sheet_of s.now) k }
 {
     let kind = field(s, PACKS, k, PACK_KIND);
-    !((kind == 1) | (kind == 3)) | (1 < field(s, PACKS, k, PACK_FRONT))
+    !((kind == KIND_DIRECT_SPEAKERS) | (kind == KIND_OBJECTS))
+        | (1 < field(s, PACKS, k, PACK_FRONT))
 }
 
+#[tactic(auto, unfolding(profile::specs::Rules::bad_set))]
 fn bad_set(s: &[u8], v: u16) -> bool
     ensures { result ≡ bad_set (sheet_of s.now) v }
 {
@@ -100,26 +108,8 @@ pub fn rule6(s: &[u8], langs: &Languages, next: &[u16], section: u8, k: u16) -> 
     ensures { LanguagesRight (sheet_of s.now) langs.now next.now → result ≡ rule6 (sheet_of s.now) langs.now section k }
 {
     match section {
-        PROGRAMMES => bad_speech(
-            s,
-            langs,
-            next,
-            PROGRAMMES,
-            k,
-            PROGRAMME_LANGUAGE,
-            PROGRAMME_LABELS,
-            PROGRAMME_LOUDNESS,
-        ),
-        CONTENTS => bad_speech(
-            s,
-            langs,
-            next,
-            CONTENTS,
-            k,
-            CONTENT_LANGUAGE,
-            CONTENT_LABELS,
-            CONTENT_LOUDNESS,
-        ),
+        PROGRAMMES => bad_speech(s, langs, next, PROGRAMMES, k, PROGRAMME_SPEECH),
+        CONTENTS => bad_speech(s, langs, next, CONTENTS, k, CONTENT_SPEECH),
         OBJECTS => bad_object(s, k),
         PACKS => bad_pack(s, k),
         VALUE_SETS => bad_set(s, k),

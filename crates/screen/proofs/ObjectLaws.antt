@@ -1,7 +1,7 @@
 -- What the tests of an object say of the rules. Assumes nothing.
 use Prim.Native.Nat.{ℕ, zero, suc, ◌+◌, ◌<◌, ◌≤◌}
 use mathlib.Core.Path.{◌≡◌, refl, sym, ap, ◌∙◌}
-use mathlib.Core.Bool.{Bool, true, false, not, cond, ◌&&◌, ◌||◌}
+use mathlib.Core.Bool.{Bool, true, false, true≢false, not, cond, ◌&&◌, ◌||◌}
 use native.Mathlib.Omega.{arith}
 use native.Mathlib.Nat.{add-zero}
 use lib.Dec.{eqb, leb, ltb}
@@ -272,3 +272,9 @@ object_kept s o lists source rest once =
 pub no_offset : (v : ObjectValues) → none_present v.offsets ≡ true → offsets_broken v ≡ false
 unfolding offsets_broken sort_broken own_leaves bad_words leaves
 no_offset v e = let p = all_absent v.offsets e in simp (p.0, p.1, p.2, and-false)
+
+-- an offset or a range of one: not both are absent
+pub some_offset : (a b : Bool) → (a && not b) ≡ false → (not a || b) ≡ true
+some_offset true true e = refl
+some_offset true false e = absurd (true≢false e)
+some_offset false b e = refl

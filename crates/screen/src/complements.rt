@@ -1,4 +1,4 @@
-// The complements of a leader: rules 19 and 20, and rule 5 by a complement.
+// The complements of a leader: rules 19 and 20, and rule 5 by a complement. That a table is right is a premise, as lib.rt tells.
 ghost use Rattle.std.specs.Prelude.{◌+◌, eqb, false, not, ◌≡◌};
 ghost use Rattle.profile.specs.Counting.{any};
 ghost use Rattle.lists.specs.steps.Entries.{entry_at};
@@ -9,7 +9,6 @@ ghost use Rattle.sheet.specs.Words.{sheet_of};
 ghost use Rattle.tables.specs.steps.Right.{ObjectsTabled};
 
 use crate::object_words::ObjectWords;
-use lists::entries::Entries;
 use profile::counting::any;
 use relations::objects::{kind, lacks};
 use rules::groups::bad_complement;
@@ -17,6 +16,7 @@ use sheet::fields::{
     COMPLEMENT_LIST, INTERACT, OBJECT_GAIN, OBJECT_GAIN_MAXIMUM, OBJECT_GAIN_MINIMUM,
     OBJECT_OFFSET, OBJECT_OFFSET_MAXIMUM, OBJECT_OFFSET_MINIMUM, OBJECTS,
 };
+use sheet::spans::Entries;
 use tables::ObjectTables;
 
 impl<'a> ObjectWords<'a> {
@@ -53,6 +53,7 @@ impl<'a> ObjectWords<'a> {
     }
 
     // Whether some entry of a list of complements does.
+    #[tactic(auto, unfolding(lists::specs::steps::Entries::entry_at))]
     fn any_complement_breaks(&self, tables: &ObjectTables, list: Entries) -> bool
         ensures { ObjectsTabled (sheet_of self.now.s.now) tables.now → result ≡ any (λ i. complement_broken (sheet_of self.now.s.now) self.now.o (entry_at (sheet_of self.now.s.now) list.base list.list.first i)) list.list.count }
     {

@@ -1,5 +1,8 @@
 // The screening of a sheet: one pass over each section that shows for most accepted sheets that no rule is broken. Where it cannot tell,
 // the search of the checker decides.
+//
+// That a table is right is a premise in the `ensures` and no `requires`: a public function asks nothing of its callers, and a private one
+// hands the premise on as it gets it.
 #![tactic(auto)]
 
 pub mod complements;
@@ -31,7 +34,8 @@ pub struct SheetTotals {
 }
 
 // The tables that the records are tested with: how often contents and child lists name each object, how often content lists name each
-// content, and those of the objects.
+// content, and those of the objects. They are slices of one length or another, as many places as the caller has memory for. That they are
+// right is no invariant of the struct: it speaks of a sheet, which each function is lent beside it.
 #[derive(Clone, Copy)]
 pub struct RecordTables<'a> {
     pub named: &'a [u16],

@@ -4,9 +4,9 @@ ghost use Rattle.sheet.specs.Fields.{objects};
 ghost use Rattle.sheet.specs.Layout.{field, first, number, record_words, start};
 ghost use Rattle.sheet.specs.Words.{sheet_of, word_count};
 
-use lists::entries::Span;
 use lists::words::{ends_before, number_at, record_at, span_at, word_at};
 use sheet::fields::OBJECTS;
+use sheet::spans::Span;
 
 // An object, with the index of its first word.
 #[derive(Clone, Copy)]

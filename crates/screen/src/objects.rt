@@ -1,4 +1,4 @@
-// An object: the rules that have it as their place, and its value sets.
+// An object: the rules that have it as their place, and its value sets. That a table is right is a premise, as lib.rt tells.
 ghost use Rattle.std.specs.Prelude.{◌+◌, ◌<◌, ltb, get_or, length, false, true, ◌||◌, ◌≡◌};
 ghost use Rattle.profile.specs.Limits.{exceeds};
 ghost use Rattle.profile.specs.Relations.{pack_of};
@@ -13,19 +13,19 @@ use crate::ObjectValues;
 use crate::complements::complements_break;
 use crate::object_words::ObjectWords;
 use crate::sets::{any_set_breaks, own_leaves, values_at};
-use lists::entries::Span;
+use lists::entries::{any_bad_child, any_out_of_order};
 use profile::limits::{CHILDREN_LIMIT, COMPLEMENTS_LIMIT, SPAN_LIMIT, exceeds};
 use relations::sets::{Positions, Values};
 use rules::objects::rule15;
 use sheet::fields::{
-    CHILD_LIST, COMPLEMENT_LIST, INTERACT, NO_PACK, OBJECT_PACK, OBJECTS, PACK_CHANNELS,
-    PACK_FRONT, PACK_KIND, PACKS, REFERENCES, SET_SPAN, TRACK_LIST, VALUE_SETS,
+    CHILD_LIST, COMPLEMENT_LIST, INTERACT, KIND_OBJECTS, NO_PACK, OBJECT_PACK, OBJECTS,
+    PACK_CHANNELS, PACK_FRONT, PACK_KIND, PACKS, REFERENCES, SET_SPAN, TRACK_LIST, VALUE_SETS,
 };
 use sheet::layout::{count, field};
+use sheet::spans::Span;
 use tables::ObjectTables;
 use tables::reads::{look, top_by};
 use values::Sort;
-use values::values::is_absent;
 
 // Whether a list or span of so many entries is above a limit.
 fn exceeding(s: &[u8], column: u8, n: u16) -> bool
@@ -44,13 +44,14 @@ fn list_breaks(s: &[u8], many: u16, list: Span, column: u8) -> bool
     list.is_beyond(many) | exceeding(s, column, list.count)
 }
 
-// Whether a pack is one of kind 3 with front 1.
+// Whether a pack is one of kind 3 with front 1. `has_front_pack` of relations reads an object's pack anew for each of the three tests; here
+// it is read once.
 #[tactic(auto, unfolding(crate::specs::steps::Objects::is_front))]
 fn is_front(s: &[u8], pack: u16) -> bool
     ensures { result ≡ is_front (sheet_of s.now) pack }
 {
     (pack != NO_PACK)
-        & (field(s, PACKS, pack, PACK_KIND) == 3)
+        & (field(s, PACKS, pack, PACK_KIND) == KIND_OBJECTS)
         & (field(s, PACKS, pack, PACK_FRONT) == 1)
 }
 
@@ -65,7 +66,8 @@ impl ObjectValues {
             | own_leaves(sort, values)
     }
 
-    // The offset: rules 6, 17 and 18, and 16 but for the sets. Most have none.
+    // The offset: rules 6, 17 and 18, and 16 but for the sets. Most have none. It alone needs a pack with front 1, so that gains have no
+    // function like it.
     fn offsets_break(self) -> bool
         ensures { result ≡ offsets_broken self }
     {
@@ -73,8 +75,7 @@ impl ObjectValues {
         if offsets.none_present() {
             return false;
         }
-        self.sort_breaks(Sort::Offsets, offsets)
-            | (!is_absent(offsets.value) | offsets.has_range()) & !self.front
+        self.sort_breaks(Sort::Offsets, offsets) | !self.front
     }
 
     // Rules 6, 17 and 18, and 16 but for the sets.
@@ -139,9 +140,7 @@ impl<'a> ObjectWords<'a> {
         let children = self.span(CHILD_LIST);
         (children.count == 0)
             | (self.number(TRACK_LIST) != 0)
-            | children
-                .entries(self.s)
-                .any_bad_child(self.s, count(self.s, OBJECTS))
+            | any_bad_child(self.s, children.entries(self.s), count(self.s, OBJECTS))
     }
 
     // With a pack: it has no children, and its tracks are the pack's channels in their order.
@@ -152,7 +151,7 @@ impl<'a> ObjectWords<'a> {
         (0 < self.number(CHILD_LIST))
             | (count(self.s, PACKS) <= pack)
             | (tracks.count != field(self.s, PACKS, pack, PACK_CHANNELS))
-            | tracks.entries(self.s).any_out_of_order(self.s, pack)
+            | any_out_of_order(self.s, tracks.entries(self.s), pack)
     }
 
     // Whether it may break rule 13 or 14, or rule 5 by its pack, a track or a child.

@@ -1,4 +1,4 @@
-// The records of each section.
+// The records of each section. That a table is right is a premise, as lib.rt tells.
 ghost use Rattle.std.specs.Prelude.{◌<◌, eqb, get_or, length, false, true, ◌||◌, ◌≡◌};
 ghost use Rattle.lists.specs.steps.Speech.{content_broken};
 ghost use Rattle.profile.specs.Rules.{bad_pack, rule5, rule10, rule12};
@@ -18,7 +18,8 @@ use relations::objects::lacks;
 use rules::header::{rule1, rule2, rule3};
 use rules::limits::rule7;
 use sheet::fields::{
-    CONTENTS, OBJECTS, PACK_CHANNELS, PACK_FRONT, PACK_KIND, PACKS, PROGRAMMES, TRACK_PACK, TRACKS,
+    CONTENTS, KIND_DIRECT_SPEAKERS, KIND_OBJECTS, OBJECTS, PACK_CHANNELS, PACK_FRONT, PACK_KIND,
+    PACKS, PROGRAMMES, TRACK_PACK, TRACKS,
 };
 use sheet::layout::{count, field};
 use tables::reads::look;
@@ -69,10 +70,13 @@ fn pack_breaks(s: &[u8], k: u16) -> bool
     let kind = word_at(s, at, PACK_KIND);
     let channels = word_at(s, at, PACK_CHANNELS);
     let front = word_at(s, at, PACK_FRONT);
-    if kind == 3 {
+    if kind == KIND_OBJECTS {
         return (1 < front) | (channels != 1);
     }
-    (kind != 1) | (1 < front) | (channels < 1) | exceeds(s, CHANNELS_LIMIT, u64::from(channels))
+    (kind != KIND_DIRECT_SPEAKERS)
+        | (1 < front)
+        | (channels < 1)
+        | exceeds(s, CHANNELS_LIMIT, u64::from(channels))
 }
 
 // Whether a track breaks rule 5.

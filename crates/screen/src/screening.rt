@@ -1,4 +1,5 @@
-// The screening: a sheet that passes it is accepted. One that doesn't may be accepted too.
+// The screening: a sheet that passes it is accepted. One that doesn't may be accepted too. That a table is right is a premise, as lib.rt
+// tells.
 ghost use Rattle.std.specs.Prelude.{◌^◌, ◌<◌, false, true, ◌≡◌};
 ghost use Rattle.profile.specs.Verdict.{verdict};
 ghost use Rattle.profile.specs.declared.Verdict.TheVariants.{Accepted};
@@ -76,7 +77,8 @@ fn records_and_totals_pass(
     !totals_break(s, &tables.objects)
 }
 
-// The tables of the screening: how often each object and content is named, in how many spans each value set is, and whose it is.
+// The tables of the screening: how often each object and content is named, in how many spans each value set is, and whose it is. Each is
+// lent to be written, and they begin with noughts, which the `requires` of `screened` says: once they are filled it holds no more.
 #[derive(Drop)]
 struct SheetTables<'a> {
     named: &'a mut [u16],

@@ -7,10 +7,10 @@ ghost use Rattle.sheet.specs.Layout.{start};
 ghost use Rattle.sheet.specs.Words.{sheet_of};
 
 use crate::ObjectValues;
-use lists::entries::Span;
 use lists::words::{ends_before, record_after, word_at};
 use relations::sets::{Positions, Values};
 use sheet::fields::{SET_OWN, VALUE_SETS};
+use sheet::spans::Span;
 use values::Sort;
 use values::values::{is_absent, or_else};
 
@@ -52,7 +52,8 @@ fn value_leaves(sort: Sort, own: bool, set: Values, object: Values) -> bool
     effective.leaves(sort) | !is_absent(set.value) & ranged.leaves(sort)
 }
 
-// A set with own 0 that has no more than a gain: the object's offset is its own.
+// A set with own 0 that has no more than a gain: the object's offset is its own. No set has an offset alone as often, so that offsets have
+// no function like it.
 #[tactic(auto, unfolding(crate::specs::steps::Values::gain_broken))]
 fn gain_breaks(gains: Values, v: ObjectValues) -> bool
     ensures { result ≡ gain_broken gains v }
@@ -72,7 +73,7 @@ fn words_of_set_break(own: u16, gains: Values, offsets: Values, v: ObjectValues)
         | offsets.bad_words(Sort::Offsets)
         | (own == 0) & (gains.has_range() | offsets.has_range())
         | (v.interact == 0) & (own == 1)
-        | (!is_absent(offsets.value) | offsets.has_range()) & !v.front
+        | !offsets.none_present() & !v.front
         | value_leaves(Sort::Gains, own == 1, gains, v.gains)
         | value_leaves(Sort::Offsets, own == 1, offsets, v.offsets)
 }

@@ -1,4 +1,5 @@
-// What the whole sheet adds up to: rules 23 and 24.
+// What the whole sheet adds up to: rules 23 and 24. One pass over the objects adds the three numbers; `groups`, `units` and `counted_tracks`,
+// by which the rules find them, are four. That a table is right is a premise, as lib.rt tells.
 ghost use Rattle.std.specs.Prelude.{suc, false, not, ◌&&◌, ◌≡◌};
 ghost use Rattle.profile.specs.Relations.{complement, top};
 ghost use Rattle.profile.specs.Rules.{rule23, rule24};
@@ -17,7 +18,7 @@ use sheet::layout::{count, level};
 use tables::ObjectTables;
 use tables::reads::{complement_by, top_by};
 
-// A top object that no complement list names.
+// A top object that no complement list names. `lone_by` of tables tests besides that it is no leader, which is known here.
 fn is_alone(s: &[u8], tables: &ObjectTables, o: u16) -> bool
     ensures { ObjectsTabled (sheet_of s.now) tables.now → result ≡ (top (sheet_of s.now) o && not (complement (sheet_of s.now) o)) }
 {

@@ -8,4 +8,4 @@ use Rattle.rules.proofs.groups.rule19.Goals as goal
 pub returns : goal.returns
 unfolding rule19 entry
 returns c = λ right.
-    rw (c.field-first.ensures, c.number-n.ensures) at (c.any_reference.ensures (bad_complement (sheet_of c.args.s.now)) (λ e r l q. search rules))
+    rw (c.at-complements.ensures.first, c.at-complements.ensures.count) at (c.any_reference.ensures (bad_complement (sheet_of c.args.s.now)) (λ e r l q. search rules))

@@ -8,4 +8,4 @@ use Rattle.rules.proofs.groups.rule20.Goals as goal
 pub returns : goal.returns
 unfolding rule20 entry
 returns c =
-    rw (c.field-first.ensures, c.number-n.ensures) at (c.any_reference.ensures (differs (sheet_of c.args.s.now) c.args.o) (λ e r l q. search rules))
+    rw (c.at-complements.ensures.first, c.at-complements.ensures.count) at (c.any_reference.ensures (differs (sheet_of c.args.s.now) c.args.o) (λ e r l q. search rules))

@@ -4,14 +4,11 @@ use Rattle.sheet.specs.Words.{sheet_of}
 use Rattle.sheet.specs.Layout.{reference, entry}
 use Rattle.profile.specs.Counting.{any}
 use Rattle.profile.specs.Rules.{lacks, list_lacks}
+use Rattle.rules.proofs.LookedLaws.{looked_else}
 use Rattle.rules.proofs.lists.list_lacks_by.Goals as goal
 
-pub returns-in-Some : goal.returns-in-Some
+pub returns : goal.returns
 unfolding list_lacks entry
-returns-in-Some c = λ right.
-    let s = sheet_of c.args.s.now in
-    c.look_up.ensures _ c.in-Some.is (λ x n. any (λ i. lacks s c.args.target (reference s (x + i))) n) right
-
-pub returns-in-None : goal.returns-in-None
-unfolding list_lacks
-returns-in-None c = λ right. c.any_entry.ensures (lacks (sheet_of c.args.s.now) c.args.target) (λ e r l q. search rules)
+returns c = λ right.
+    let a = c.args in let s = sheet_of a.s.now in
+    looked_else s a.next.now a.section a.k a.at (λ x n. any (λ i. lacks s a.target (reference s (x + i))) n) c.look_up.result _ c.unwrap_or_else.result c.look_up.ensures c.unwrap_or_else.ensures right (λ p. search rules)

@@ -1,14 +1,8 @@
--- By the table's entry, or by search. Assumes nothing.
-use Rattle.std.proofs.Common.{rules}
-use Prim.Native.Nat.{ℕ}
-use mathlib.Core.Path.{sym, ap, ◌∙◌}
-use mathlib.Core.Bool.{not}
+-- What stands in the table. Assumes nothing.
+use Rattle.std.proofs.Common.{ℕ, sym, ap, not, ◌∙◌}
 use lib.Dec.{eqb}
-use Rattle.tables.proofs.TableLaws.{listed_counted}
+use Rattle.tables.proofs.TableLaws.{standing_read, listed_counted}
 use Rattle.rules.proofs.naming.is_listed.Goals as goal
 
-pub returns-then-i-listed : goal.returns-then-i-listed
-returns-then-i-listed c = λ right. ap (λ (n : ℕ). not (eqb n 0)) (right c.args.c c.if-i-listed.true) ∙ sym (listed_counted _ _)
-
-pub returns-else-i-listed : goal.returns-else-i-listed
-returns-else-i-listed c = λ right. search rules
+pub returns-in-Some : goal.returns-in-Some
+returns-in-Some c = λ right. ap (λ (n : ℕ). not (eqb n 0)) (standing_read _ _ _ _ right (sym c.look.ensures ∙ c.in-Some.is)) ∙ sym (listed_counted _ _)

@@ -9,4 +9,4 @@ use Rattle.rules.proofs.repeats.group_pairs_differ.Goals as goal
 pub returns : goal.returns
 unfolding named_set entry
 returns c = λ right.
-    rw (c.field.ensures, c.number-n.ensures) at (c.two_references.ensures (differ_in_one_group (sheet_of c.args.s.now)) (λ u v r l m q. search rules))
+    rw (c.at-sets.ensures.first, c.at-sets.ensures.count) at (c.two_references.ensures (differ_in_one_group (sheet_of c.args.s.now)) (λ u v r l m q. search rules))

@@ -14,21 +14,21 @@ pub returns-then-any_reference : goal.returns-then-any_reference
 unfolding rule22 keys_alike owner_at named_set entry
 returns-then-any_reference c = λ right marks.
     let s = sheet_of c.args.s.now in
-    let left_out = rw (c.field-first.ensures, c.number-n.ensures) at (c.any_reference.ensures (λ v. not (includes s c.args.p (owner s v))) (λ v r l q. search rules)) in
+    let left_out = rw (c.at-named.ensures.first, c.at-named.ensures.count) at (c.any_reference.ensures (λ v. not (includes s c.args.p (owner s v))) (λ v r l q. search rules)) in
     simp (sym left_out ∙ c.if-any_reference.true)
 
 pub returns-then-one_owner : goal.returns-then-one_owner
 unfolding rule22 keys_alike owner_at named_set entry
 returns-then-one_owner c = λ right marks.
     let s = sheet_of c.args.s.now in
-    let left_out = rw (c.field-first.ensures, c.number-n.ensures) at (c.any_reference.ensures (λ v. not (includes s c.args.p (owner s v))) (λ v r l q. search rules)) in
+    let left_out = rw (c.at-named.ensures.first, c.at-named.ensures.count) at (c.any_reference.ensures (λ v. not (includes s c.args.p (owner s v))) (λ v r l q. search rules)) in
     simp (sym left_out ∙ c.if-any_reference.false, sym (c.one_owner.ensures right.0) ∙ c.if-one_owner.true)
 
 pub returns : goal.returns
 unfolding rule22 keys_alike owner_at named_set entry
 returns c = λ right marks.
     let s = sheet_of c.args.s.now in
-    let left_out = rw (c.field-first.ensures, c.number-n.ensures) at (c.any_reference.ensures (λ v. not (includes s c.args.p (owner s v))) (λ v r l q. search rules)) in
+    let left_out = rw (c.at-named.ensures.first, c.at-named.ensures.count) at (c.any_reference.ensures (λ v. not (includes s c.args.p (owner s v))) (λ v r l q. search rules)) in
     let sets = c.mark_named_sets.ensures.1 (λ x l. nought 4680 x) in
     let partly = rw c.count.ensures at (c.any.ensures (partly_set s c.args.p) (λ l r b q. search rules)) in
     simp (c.differ_in_group.ensures right, partly, sym left_out ∙ c.if-any_reference.false, sym (c.one_owner.ensures right.0) ∙ c.if-one_owner.false)

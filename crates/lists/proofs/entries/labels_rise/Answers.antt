@@ -6,16 +6,16 @@ use Rattle.profile.specs.Counting.{any, two_of}
 use Rattle.profile.proofs.BoolLaws.{or_none}
 use Rattle.lists.specs.steps.Entries.{entry_at, no_language_at, same_at}
 use Rattle.lists.proofs.RisingLaws.{below_none, below_more, not_earlier}
-use Rattle.lists.proofs.entries.Entries.labels_rise.Goals as goal
+use Rattle.lists.proofs.entries.labels_rise.Goals as goal
 
 pub loop-i-init : goal.loop-i-init
 unfolding any
-loop-i-init c = (below_none (entry_at (sheet_of c.args.s.now) c.args.self.base c.args.self.list.first) 0, refl, refl)
+loop-i-init c = (below_none (entry_at (sheet_of c.args.s.now) c.args.entries.base c.args.entries.list.first) 0, refl, refl)
 
 pub loop-i-preserved : goal.loop-i-preserved
-unfolding any no_language_at same_at
+unfolding any no_language_at same_at entry_at
 loop-i-preserved c =
-    let l = c.loop-i in let a = c.args in let entry = entry_at (sheet_of a.s.now) a.self.base a.self.list.first in
+    let l = c.loop-i in let a = c.args in let entry = entry_at (sheet_of a.s.now) a.entries.base a.entries.list.first in
     let x = c.at-x in let p = or_none (leb x.result l.last) (not c.good.result) c.if-x-last.false in
     let h : l.last < entry l.i = rw x.ensures at (leb-false x.result l.last p.0) in (
       rw x.ensures (below_more entry l.i l.last l.invariant.0 h),
@@ -25,4 +25,4 @@ loop-i-preserved c =
 
 pub returns : goal.returns
 unfolding two_of
-returns c = let e : c.loop-i.i ≡ c.args.self.list.count = omega arith in λ z. (sym (ap (any _) e) ∙ c.loop-i.invariant.1, sym (ap (any _) e) ∙ c.loop-i.invariant.2)
+returns c = let e : c.loop-i.i ≡ c.args.entries.list.count = omega arith in λ z. (sym (ap (any _) e) ∙ c.loop-i.invariant.1, sym (ap (any _) e) ∙ c.loop-i.invariant.2)
