@@ -8,7 +8,7 @@ use borrow.Author.Tests.{lt-ltb, le-ltb}
 use lib.Dec.{ltb}
 use lib.ListN.{length, get_or}
 use Rattle.std.proofs.Common.{Some, None}
-use Rattle.std.proofs.lemmas.Option.{none-some}
+use Rattle.std.proofs.lemmas.Option.{cond_some, none-some}
 use Rattle.sheet.specs.Words.{Sheet}
 use Rattle.profile.specs.declared.Place.{Place}
 use Rattle.profile.specs.declared.Verdict.{Verdict}
@@ -23,7 +23,7 @@ use Rattle.tables.specs.declared.Naming.{Naming}
 use Rattle.tables.specs.steps.Marks.{Standing, first_by}
 use Rattle.checker.specs.declared.Table.{Table}
 use Rattle.checker.specs.declared.Table.TheVariants.{Nothing, Named, Spanned, Listed, Tops, Complements, Owners, Leaders, Lacking, Languages, Repeats, Strays, Ordinals}
-use Rattle.checker.specs.steps.Rows.{rule_verdict}
+use Rattle.checker.specs.steps.Rows.{rule_place}
 use Rattle.checker.specs.steps.Tables.{Right}
 
 -- what is lent only where a test holds was not lent
@@ -48,42 +48,30 @@ module _ (s : Sheet) (langs : List ℕ) where
     section_none l = section_by ∙ le-ltb k n l
 
     -- a record that breaks the rule, in the first section with one
-    pub rule_found : section < section_count → ((j : ℕ) → j < section → section_broken s langs rule j ≡ false) → k < n → Broken rule (place_at section k) ≡ rule_verdict s langs rule
-    unfolding rule_verdict rule_broken broken_at broken_section
+    pub rule_found : section < section_count → ((j : ℕ) → j < section → section_broken s langs rule j ≡ false) → k < n → Some (place_at section k) ≡ rule_place s langs rule
+    unfolding rule_place rule_broken broken_section
     rule_found inside before l =
         let e : lowest (section_broken s langs rule) section_count ≡ section = lowest_at (section_broken s langs rule) section_count section inside before (section_found l) in
         rw (e, lt-ltb section section_count inside, ← found_record) refl
 
-  pub rule_none : (rule : ℕ) → ((j : ℕ) → j < section_count → section_broken s langs rule j ≡ false) → Accepted ≡ rule_verdict s langs rule
-  unfolding rule_verdict rule_broken broken_section
+  pub rule_none : (rule : ℕ) → ((j : ℕ) → j < section_count → section_broken s langs rule j ≡ false) → None ≡ rule_place s langs rule
+  unfolding rule_place rule_broken broken_section
   rule_none rule none =
       let e : lowest (section_broken s langs rule) section_count ≡ section_count = lowest_none (section_broken s langs rule) section_count none in
       rw e refl
 
-  -- a rule that gives no acceptance is broken, and one that does is not
-  pub broken_one : (rule : ℕ) (r : ℕ) (p : Place) → Broken r p ≡ rule_verdict s langs rule → rule_broken s langs rule ≡ true
-  unfolding rule_verdict
-  broken_one rule r p e =
-      (elim (rule_broken s langs rule) as (λ b. rule_broken s langs rule ≡ b → b ≡ true) [
-        | true ↦ λ f. refl
-        | false ↦ λ f. let z : ◌≡◌ {A = Verdict} (Broken r p) Accepted = rw f at e in let y : ◌≡◌ {A = ℕ} 0 1 = cc in absurd (omega arith)
-      ]) refl
-
-  pub broken_none : (rule : ℕ) → Accepted ≡ rule_verdict s langs rule → rule_broken s langs rule ≡ false
-  unfolding rule_verdict broken_at
-  broken_none rule e =
-      (elim (rule_broken s langs rule) as (λ b. rule_broken s langs rule ≡ b → b ≡ false) [
-        | true ↦ λ f. let z = rw f at e in let y : ◌≡◌ {A = ℕ} 0 1 = cc in absurd (omega arith)
-        | false ↦ λ f. refl
-      ]) refl
+  -- a rule without a place is kept
+  pub broken_none : (rule : ℕ) → None ≡ rule_place s langs rule → rule_broken s langs rule ≡ false
+  unfolding rule_place
+  broken_none rule e = none_lent _ _ (sym e)
 
   module _ (i : ℕ) (inside : i < rule_count) (before : (j : ℕ) → j < i → rule_broken s langs (number_at j) ≡ false) where
-    pub verdict_broken : (r : ℕ) (p : Place) → Broken r p ≡ rule_verdict s langs (number_at i) → Broken r p ≡ verdict s langs
-    unfolding verdict broken_position rule_verdict
-    verdict_broken r p e =
-        let b : rule_broken s langs (number_at i) ≡ true = broken_one (number_at i) r p e in
-        let l : lowest (λ j. rule_broken s langs (number_at j)) rule_count ≡ i = lowest_at (λ j. rule_broken s langs (number_at j)) rule_count i inside before b in
-        e ∙ rw (l, lt-ltb i rule_count inside, b) refl
+    pub verdict_broken : (p : Place) → Some p ≡ rule_place s langs (number_at i) → Broken (number_at i) p ≡ verdict s langs
+    unfolding verdict broken_position rule_place broken_at
+    verdict_broken p e =
+        let b = cond_some _ _ p (sym e) in
+        let l : lowest (λ j. rule_broken s langs (number_at j)) rule_count ≡ i = lowest_at (λ j. rule_broken s langs (number_at j)) rule_count i inside before b.0 in
+        rw (l, lt-ltb i rule_count inside, b.1) refl
 
     -- when rule 21 comes, rule 19 is kept
     pub apart_before : number_at i ≡ 21 → GroupsApart s

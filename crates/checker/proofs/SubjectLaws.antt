@@ -1,9 +1,9 @@
 -- The rows of the code are the rules of the list, and the subjects by their digits. Assumes nothing.
-use Rattle.std.proofs.Common.{ℕ, zero, suc, ◌<◌, ◌≡◌, refl, sym, ap, ◌∙◌, true, false, List, [], ◌∷◌, get_or, replicate, eqb, arith}
+use Rattle.std.proofs.Common.{ℕ, zero, suc, ◌<◌, ◌≡◌, refl, sym, ap, ◌∙◌, true, false, List, [], ◌∷◌, get_or, replicate, eqb, ltb, cond, length, Option, Some, None, IfSome, is_some, option_copied, Bor, arith}
 use mathlib.Core.Logic.{⊎_elim}
 use native.Mathlib.Nat.{eq-or-lt_of_le, le_of_suc-le-suc}
-use Rattle.std.proofs.lemmas.List.{get_or-replicate}
-use borrow.Author.Tests.{eqb-true, ne_eqb}
+use Rattle.std.proofs.lemmas.List.{get_or-replicate, get_or_default}
+use borrow.Author.Tests.{eqb-true, ltb-true, ne_eqb}
 use Rattle.sheet.specs.Words.{Sheet}
 use Rattle.sheet.specs.Layout.{count}
 use Rattle.profile.specs.Counting.{every}
@@ -50,6 +50,23 @@ numbers_right = refl
 
 pub numbered : (i : ℕ) → i < rule_count → get_or numbers i 0 ≡ number_at i
 numbered i l = eqb-true _ _ (every_at (λ j. eqb (get_or numbers j 0) (number_at j)) rule_count i numbers_right l)
+
+-- what a read gives that asks whether the place is there
+looked : (xs : List ℕ) (i : ℕ) (r : Option (Bor ℕ)) → is_some r ≡ ltb i (length xs) → IfSome r (λ x. x.now ≡ get_or xs i x.now) → option_copied r ≡ cond (ltb i (length xs)) (Some (get_or xs i 0)) None
+looked xs i None e f = rw (← e) refl
+looked xs i (Some x) e f = rw (← e) (ap Some (f ∙ get_or_default xs i x.now 0 (ltb-true _ _ (sym e))))
+
+-- the rule at a position, as the code reads it
+listed : (i : ℕ) → cond (ltb i 25) (Some (get_or numbers i 0)) None ≡ cond (ltb i rule_count) (Some (number_at i)) None
+listed i =
+    rw rule_count_lem
+    ((elim (ltb i 25) as (λ b. ltb i 25 ≡ b → cond b (Some (get_or numbers i 0)) None ≡ cond b (Some (number_at i)) None) [
+      | true ↦ λ e. ap Some (numbered i (omega (arith, ltb-true i 25 e, rule_count_lem)))
+      | false ↦ λ e. refl
+    ]) refl)
+
+pub rule_listed : (i : ℕ) (r : Option (Bor ℕ)) → is_some r ≡ ltb i 25 → IfSome r (λ x. x.now ≡ get_or numbers i x.now) → option_copied r ≡ cond (ltb i rule_count) (Some (number_at i)) None
+rule_listed i r e f = looked numbers i r e f ∙ listed i
 
 -- kinds that are right at each section
 pub kinds_right : (rule : ℕ) (kinds : List SubjectKind) → every (λ j. eqb (kind_number (get_or kinds j Nothing)) (subject_kind rule j)) section_count ≡ true → KindsOf rule kinds

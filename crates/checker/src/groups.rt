@@ -1,4 +1,6 @@
-// Rules 21 and 22 for large sheets: how many programmes from the first on can be seen to keep them, in passes over the programmes.
+// Rules 21 and 22 for large sheets: how many programmes from the first on can be seen to keep them, in passes over the programmes. That
+// groups have no member in common, and that the programmes before `from` keep both rules, are premises: a public function asks nothing of
+// its caller. They are facts of a sheet and a number, which no struct has together here.
 ghost use Rattle.std.specs.Prelude.{ℕ, ◌<◌, ◌≤◌, false, true, ◌≡◌};
 ghost use Rattle.checker.specs.steps.Kept.{KeptBelow};
 ghost use Rattle.grouping.specs.steps.Groups.{GroupsApart, OneSpan};

@@ -16,22 +16,25 @@ pub enum SubjectKind {
     Records,
 }
 
-// A rule that is asked of records of a section. The number is document 01's, and a caller may ask with any.
+// A rule that is asked of records of a section. Both are numbers, as in document 01: a caller may ask with any, and the contracts say what
+// is answered then. An enum of rules would have to be made of the number first, and could fail.
 #[derive(Clone, Copy)]
 pub struct Asked {
     pub rule: u8,
     pub section: u8,
 }
 
-// The tables that a rule is lent.
+// The tables that a rule is lent, empty ones where it is to search. That they are right for a rule and section is a premise of the
+// contracts and no fact of the type: which tables are right goes by the rule, the section, the sheet and the list, and a caller may lend
+// any.
 #[derive(Clone, Copy)]
 pub struct LentTables<'a> {
     pub first: &'a [u16],
     pub second: &'a [u16],
 }
 
-// A table that a rule is lent, to find by one look what it would search for. Contracts say by its variant what stands in a table, which a
-// closure that fills it would have no name for.
+// A table that a rule is lent, to find by one look what it would search for. The contracts of what fills it and of what reads it say by the
+// variant what stands in it (`Right`). A closure that fills a table has no such name, and the rules read it without one.
 #[derive(Clone, Copy)]
 pub enum Table {
     // none

@@ -2,7 +2,7 @@
 ghost use Rattle.std.specs.Prelude.{◌^◌, ◌<◌, length, true, ◌≡◌};
 ghost use Rattle.checker.specs.Checked.{checked};
 ghost use Rattle.checker.specs.steps.Kept.{KeptBelow, Unbroken};
-ghost use Rattle.checker.specs.steps.Rows.{rule_verdict};
+ghost use Rattle.checker.specs.steps.Rows.{rule_place};
 ghost use Rattle.checker.specs.steps.Tables.{Right, first_table, second_table};
 ghost use Rattle.grouping.specs.steps.Groups.{GroupsApart};
 ghost use Rattle.profile.specs.Counting.{lowest};
@@ -24,8 +24,9 @@ use std::ops::Range;
 use tables::entry_counts::{entries_left, list_entries};
 
 // The lowest record of a section before the last of some that breaks the rule asked, or their end, by the tables that the rule is lent,
-// where those before the first of them keep it. That they do is a `requires` of three functions: a struct with that as its ghost field would
-// have to carry the sheet and the list too, which every function here takes as they are. So it is with `kept` below.
+// where those before the first of them keep it. That they do is a `requires` of three functions, and (s, langs, asked, records) go through
+// four: a struct of them with that as its ghost field would hold the two borrows, need a maker with the same `requires`, and be taken apart
+// again at each call of `breaks`, whose rules take the sheet by itself. So it is with `kept` below.
 #[inline(never)]
 fn broken_below(
     s: &[u8],
@@ -100,7 +101,7 @@ fn by_tables(s: &[u8], langs: &Languages, asked: Asked, records: Range<u16>) -> 
 // A table over the references is worth its filling where the lists of a section's records have more entries together.
 const FEW_ENTRIES: u32 = 8192;
 
-// Whether they have. The verdict is the same either way.
+// Whether they have. The verdict is the same either way, so the contract says nothing of the answer.
 fn crowded(s: &[u8], section: u8) -> bool {
     entries_left(count(s, section), FEW_ENTRIES, |k| {
         list_entries(s, section, k)
@@ -120,7 +121,8 @@ fn by_lists(s: &[u8], langs: &Languages, asked: Asked, n: u16) -> u16
 }
 
 // The lowest of n records of a section that breaks a rule, or n. A small sheet is searched without tables. The programmes before `kept`
-// keep rules 21 and 22, and rule 21 comes where rule 19 is kept.
+// keep rules 21 and 22, and rule 21 comes where rule 19 is kept. One arm for the rules, by document 01's numbers, that are lent the same
+// kinds of tables: an enum of these ways would only move the numbers into the function that picks one.
 fn lowest_broken(s: &[u8], langs: &Languages, asked: Asked, n: u16, kept: u16) -> u16
     requires { KeptBelow (sheet_of s.now) kept × (asked.rule ≡ 21 → GroupsApart (sheet_of s.now)) }
     ensures { result ≡ lowest (breaks (sheet_of s.now) langs.now asked.rule asked.section) n }
@@ -139,23 +141,24 @@ fn lowest_broken(s: &[u8], langs: &Languages, asked: Asked, n: u16, kept: u16) -
     }
 }
 
-// The verdict by one rule alone.
-fn rule_verdict(s: &[u8], langs: &Languages, rule: u8, kept: u16) -> Verdict
+// The place of a rule, None where no record breaks it.
+fn rule_place(s: &[u8], langs: &Languages, rule: u8, kept: u16) -> Option<Place>
     requires { KeptBelow (sheet_of s.now) kept × (rule ≡ 21 → GroupsApart (sheet_of s.now)) }
-    ensures { result ≡ rule_verdict (sheet_of s.now) langs.now rule }
+    ensures { result ≡ rule_place (sheet_of s.now) langs.now rule }
 {
     let kinds = subject_kinds(rule);
     for section in 0..8 {
         let n = kinds[usize::from(section)].how_many(s, section);
         let k = lowest_broken(s, langs, Asked { rule, section }, n, kept);
         if k < n {
-            return Verdict::Broken(rule, Place::at(section, k));
+            return Some(Place::at(section, k));
         }
     }
-    Verdict::Accepted
+    None
 }
 
-// How many programmes are known to keep rules 21 and 22, when a rule comes: before rule 21 one pass tells.
+// How many programmes are known to keep rules 21 and 22, when a rule comes: before rule 21 one pass tells. It is a function of its own,
+// since the check loses what an `if` in the loop would make of `kept` where its ways join.
 fn kept_at(s: &[u8], rule: u8, kept: u16) -> u16
     requires { KeptBelow (sheet_of s.now) kept × (rule ≡ 21 → GroupsApart (sheet_of s.now)) }
     ensures { KeptBelow (sheet_of s.now) result }
@@ -174,38 +177,31 @@ fn first_broken(sheet: &[u8], langs: &Languages) -> Verdict
     let mut kept: u16 = 0;
     for rule in RULES {
         kept = kept_at(sheet, rule, kept);
-        match rule_verdict(sheet, langs, rule, kept) {
-            Verdict::Broken(rule, place) => return Verdict::Broken(rule, place),
-            Verdict::Accepted => {}
+        if let Some(place) = rule_place(sheet, langs, rule, kept) {
+            return Verdict::Broken(rule, place);
         }
     }
     Verdict::Accepted
 }
 
-// How large the tables of the screening are.
-#[derive(Clone, Copy)]
-enum TableSize {
-    Middling,
-    Large,
-}
-
-// Whether the sheet passes the screening with them.
-fn sized_passes(sheet: &[u8], langs: &Languages, size: TableSize) -> bool
+// Whether the sheet passes the screening with tables for its length.
+fn passes(sheet: &[u8], langs: &Languages) -> bool
     ensures { result ≡ true → verdict (sheet_of sheet.now) langs.now ≡ Accepted }
 {
-    match size {
-        TableSize::Middling => middling_passes(sheet, langs),
-        TableSize::Large => large_passes(sheet, langs),
+    if sheet.len() < 16384 {
+        middling_passes(sheet, langs)
+    } else {
+        large_passes(sheet, langs)
     }
 }
 
-// The verdict by the screening with tables of a size, or else by the search. It is kept apart, so that a small sheet does not pay for its
-// tables (docs/SPEED.md).
+// The verdict by that screening, or else by the search. It is kept apart, so that a small sheet does not pay for its tables
+// (docs/SPEED.md).
 #[inline(never)]
-fn sized_verdict(sheet: &[u8], langs: &Languages, size: TableSize) -> Verdict
+fn large_verdict(sheet: &[u8], langs: &Languages) -> Verdict
     ensures { result ≡ verdict (sheet_of sheet.now) langs.now }
 {
-    if sized_passes(sheet, langs, size) {
+    if passes(sheet, langs) {
         return Verdict::Accepted;
     }
     first_broken(sheet, langs)
@@ -213,12 +209,12 @@ fn sized_verdict(sheet: &[u8], langs: &Languages, size: TableSize) -> Verdict
 
 // The same with a table of the list.
 #[inline(never)]
-fn tabled_verdict(sheet: &[u8], langs: &Languages, size: TableSize) -> Verdict
+fn tabled_verdict(sheet: &[u8], langs: &Languages) -> Verdict
     ensures { result ≡ verdict (sheet_of sheet.now) langs.now }
 {
     let mut table = [0u8; LANGUAGE_WORDS];
     let tabled = langs.tabled(&mut table);
-    sized_verdict(sheet, &tabled, size)
+    large_verdict(sheet, &tabled)
 }
 
 // The verdict under a list that rises. Most accepted sheets pass the screening; for the others the search decides. A large sheet may have
@@ -233,15 +229,10 @@ fn verdict_under(sheet: &[u8], langs: &Languages) -> Verdict
         }
         return first_broken(sheet, langs);
     }
-    let size = if n < 16384 {
-        TableSize::Middling
-    } else {
-        TableSize::Large
-    };
     if (n < 4096) | !langs.is_short_for(n) {
-        return sized_verdict(sheet, langs, size);
+        return large_verdict(sheet, langs);
     }
-    tabled_verdict(sheet, langs, size)
+    tabled_verdict(sheet, langs)
 }
 
 // The verdict on a lent sheet, under a lent list of languages: any length, any bytes.

@@ -1,8 +1,8 @@
 // The rules in checking order, which records can be a rule's place, and whether one breaks it.
-ghost use Rattle.std.specs.Prelude.{length, ◌≡◌};
+ghost use Rattle.std.specs.Prelude.{None, Some, cond, length, ltb, ◌≡◌};
 ghost use Rattle.checker.specs.steps.Tables.{Right, first_table, second_table};
 ghost use Rattle.checker.specs.steps.Rows.{KindsOf, subjects_of};
-ghost use Rattle.profile.specs.Verdict.{breaks};
+ghost use Rattle.profile.specs.Verdict.{breaks, number_at, rule_count};
 ghost use Rattle.sheet.specs.Words.{sheet_of};
 
 use crate::SubjectKind::{Itself, Nothing, Records};
@@ -26,6 +26,13 @@ use tables::{GroupTables, ObjectTables};
 pub const RULES: [u8; 25] = [
     33, 1, 2, 3, 4, 5, 6, 7, 8, 9, 10, 11, 12, 13, 14, 15, 16, 17, 18, 19, 20, 21, 22, 23, 24,
 ];
+
+// The rule at a position of that order.
+pub fn rule_at(i: usize) -> Option<u8>
+    ensures { result ≡ cond (ltb i rule_count) (Some (number_at i)) None }
+{
+    RULES.get(i).copied()
+}
 
 // The header.
 const HEADER: [SubjectKind; 8] = [
@@ -63,26 +70,27 @@ const LABELLED: [SubjectKind; 8] = [
 ];
 
 // Packs.
-const PACKS: [SubjectKind; 8] = [
+const PACK_RECORDS: [SubjectKind; 8] = [
     Nothing, Nothing, Nothing, Nothing, Records, Nothing, Nothing, Nothing,
 ];
 
 // Objects.
-const OBJECTS: [SubjectKind; 8] = [
+const OBJECT_RECORDS: [SubjectKind; 8] = [
     Nothing, Nothing, Nothing, Records, Nothing, Nothing, Nothing, Nothing,
 ];
 
 // Objects and value sets.
-const OBJECTS_AND_SETS: [SubjectKind; 8] = [
+const OBJECT_AND_SET_RECORDS: [SubjectKind; 8] = [
     Nothing, Nothing, Nothing, Records, Nothing, Nothing, Nothing, Records,
 ];
 
 // Programmes.
-const PROGRAMMES: [SubjectKind; 8] = [
+const PROGRAMME_RECORDS: [SubjectKind; 8] = [
     Nothing, Records, Nothing, Nothing, Nothing, Nothing, Nothing, Nothing,
 ];
 
-// What of each section, from 0 on, a rule can have as its place.
+// What of each section, from 0 on, a rule can have as its place. One arm a rule, as in the list of rules that the definition has. Rules are
+// document 01's numbers and the contract holds for each number: for an enum of rules a caller would have to show first that it is one.
 pub fn subject_kinds(rule: u8) -> [SubjectKind; 8]
     ensures { KindsOf rule result }
 {
@@ -96,19 +104,19 @@ pub fn subject_kinds(rule: u8) -> [SubjectKind; 8]
         7 => LIMITED_SECTIONS,
         8 => LISTING,
         9 => LABELLED,
-        10 => PACKS,
-        11 => OBJECTS_AND_SETS,
+        10 => PACK_RECORDS,
+        11 => OBJECT_AND_SET_RECORDS,
         12 => LABELLED,
-        13 => OBJECTS,
-        14 => OBJECTS,
-        15 => OBJECTS,
-        16 => OBJECTS,
-        17 => OBJECTS_AND_SETS,
-        18 => OBJECTS_AND_SETS,
-        19 => OBJECTS,
-        20 => OBJECTS,
-        21 => PROGRAMMES,
-        22 => PROGRAMMES,
+        13 => OBJECT_RECORDS,
+        14 => OBJECT_RECORDS,
+        15 => OBJECT_RECORDS,
+        16 => OBJECT_RECORDS,
+        17 => OBJECT_AND_SET_RECORDS,
+        18 => OBJECT_AND_SET_RECORDS,
+        19 => OBJECT_RECORDS,
+        20 => OBJECT_RECORDS,
+        21 => PROGRAMME_RECORDS,
+        22 => PROGRAMME_RECORDS,
         23 => HEADER,
         24 => HEADER,
         33 => HEADER,
@@ -131,7 +139,8 @@ impl SubjectKind {
 }
 
 // Whether a record of a section breaks a rule. `marks` is written for the rules about a programme. It is drawn into the loop over the
-// records (docs/SPEED.md).
+// records (docs/SPEED.md). One arm a rule, so it is longer than other functions: halves of it would take the same parameters and pick by
+// the rule's number twice. That the tables are right is a premise: a public function asks nothing of its caller.
 #[inline(always)]
 pub fn breaks(
     s: &[u8],

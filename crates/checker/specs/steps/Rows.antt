@@ -1,10 +1,9 @@
--- The subjects of a rule as the code has them, and the verdict by one rule. Assumes nothing.
-use Rattle.std.specs.Prelude.{ℕ, ◌<◌, ◌≡◌, cond, List, get_or}
+-- The subjects of a rule as the code has them, and the place of one rule. Assumes nothing.
+use Rattle.std.specs.Prelude.{ℕ, ◌<◌, ◌≡◌, cond, List, get_or, Option, Some, None}
 use Rattle.sheet.specs.Words.{Sheet}
 use Rattle.sheet.specs.Layout.{count}
-use Rattle.profile.specs.declared.Verdict.{Verdict}
-use Rattle.profile.specs.declared.Verdict.TheVariants.{Accepted}
-use Rattle.profile.specs.Verdict.{section_count, subject_kind, rule_broken, broken_at}
+use Rattle.profile.specs.declared.Place.{Place}
+use Rattle.profile.specs.Verdict.{section_count, subject_kind, rule_broken, broken_section, broken_record, place_at}
 use Rattle.checker.specs.declared.SubjectKind.{SubjectKind}
 use Rattle.checker.specs.declared.SubjectKind.TheVariants.{Nothing, Itself, Records}
 
@@ -24,6 +23,7 @@ subjects_of s section Nothing = 0
 subjects_of s section Itself = 1
 subjects_of s section Records = count s section
 
--- the verdict by one rule alone
-unfoldable pub rule_verdict : Sheet → List ℕ → ℕ → Verdict
-rule_verdict s langs rule = cond (rule_broken s langs rule) (broken_at s langs rule) Accepted
+-- the place of a rule, where it is broken
+unfoldable pub rule_place : Sheet → List ℕ → ℕ → Option Place
+rule_place s langs rule =
+    cond (rule_broken s langs rule) (Some (place_at (broken_section s langs rule) (broken_record s langs rule (broken_section s langs rule)))) None

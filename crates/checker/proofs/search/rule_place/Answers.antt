@@ -4,7 +4,7 @@ use Rattle.sheet.specs.Words.{sheet_of}
 use Rattle.checker.specs.declared.SubjectKind.TheVariants.{Nothing}
 use Rattle.checker.proofs.SubjectLaws.{all_subjects}
 use Rattle.checker.proofs.SearchLaws.{section_none, rule_found, rule_none}
-use Rattle.checker.proofs.search.rule_verdict.Goals as goal
+use Rattle.checker.proofs.search.rule_place.Goals as goal
 
 pub loop-section-init : goal.loop-section-init
 loop-section-init c = below_none _
