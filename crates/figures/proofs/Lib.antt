@@ -2,6 +2,7 @@ pub mod FiguresLaws
 pub mod GivenLaws
 pub mod FoundLaws
 pub mod KeptLaws
+mod OrderLaws
 pub mod WordLaws
 pub mod MemberLaws
 pub mod RangeLaws

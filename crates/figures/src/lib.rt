@@ -8,7 +8,8 @@ pub mod members;
 pub mod ranges;
 pub mod shares;
 
-// The number of a figure: a word of the sheet, taken as signed, or a number that follows from the sheet, a kind or a share.
+// The number of a figure: a word of the sheet, taken as signed, or a number that follows from the sheet, a kind or a share. Both are
+// numbers and neither is the absence of the other, so it is no `Option` and no `Result`.
 #[derive(Clone, Copy)]
 pub enum FigureNumber {
     Word(u16),

@@ -2,8 +2,14 @@
 ghost use Rattle.std.specs.Prelude.{take, ◌≡◌};
 ghost use Rattle.figures.specs.Lists.{no_figures, with_figure};
 
-use crate::clashes::no_figure;
-use crate::{Figure, Figures, MOST_FIGURES};
+use crate::{Figure, FigureNumber, Figures, MOST_FIGURES};
+
+// What stands where there is no figure. A derived `Default` would need a variant of `FigureNumber` without a number.
+const NO_FIGURE: Figure = Figure {
+    section: 0,
+    index: 0,
+    number: FigureNumber::Word(0),
+};
 
 impl Figures {
     // No figures.
@@ -12,7 +18,7 @@ impl Figures {
     {
         Figures {
             count: 0,
-            lines: [no_figure(); MOST_FIGURES],
+            lines: [NO_FIGURE; MOST_FIGURES],
         }
     }
 

@@ -3,8 +3,7 @@ ghost use Rattle.std.specs.Prelude.{◌≡◌};
 ghost use Rattle.figures.specs.Members.{kind_clash, kind_figure, leader_clash, member_clash, word_clash, word_clashes};
 ghost use Rattle.sheet.specs.Words.{sheet_of};
 
-use crate::clashes::{in_object, told};
-use crate::{Clash, Figure, FigureNumber};
+use crate::{Clash, Figure, FigureNumber, WordPlace};
 use relations::objects::kind;
 use sheet::fields::{
     COMPLEMENT_LIST, INTERACT, OBJECT_GAIN, OBJECT_GAIN_MAXIMUM, OBJECT_GAIN_MINIMUM,
@@ -28,8 +27,8 @@ const COMPARED: [u8; 7] = [
 fn word_clash(s: &[u8], l: u16, q: u16, at: u8) -> Option<Clash>
     ensures { result ≡ word_clash (sheet_of s.now) l q at }
 {
-    let first = told(s, in_object(l, at));
-    let second = told(s, in_object(q, at));
+    let first = WordPlace::in_object(l, at).told(s);
+    let second = WordPlace::in_object(q, at).told(s);
     let unequal = field(s, OBJECTS, l, at) != field(s, OBJECTS, q, at);
     unequal.then_some(Clash { first, second })
 }

@@ -1,66 +1,114 @@
 // Rule 18: "the value, then the bound".
 ghost use Rattle.std.specs.Prelude.{◌≡◌};
-ghost use Rattle.figures.specs.Ranges.{below_minimum, bound_place, effective_clash, effective_place, object_clash, object_clashes, own_clash, range_clash, range_clashes, range_place, set_clashes};
+ghost use Rattle.figures.specs.Clashes.{in_object, in_set, word_at};
+ghost use Rattle.figures.specs.Ranges.{bound_place, effective_clash, effective_place, object_clash, object_clashes, own_clash, range_clash, range_clashes, range_place, set_clashes};
+ghost use Rattle.profile.specs.Relations.{object_maximum, object_minimum, object_value, set_maximum, set_minimum, set_value};
 ghost use Rattle.sheet.specs.Words.{sheet_of};
 
-use crate::clashes::{in_object, in_set, told, word_at};
 use crate::{Clash, WordPlace};
 use relations::records::owner;
-use relations::sets::Positions;
+use relations::sets::{Positions, Values};
 use sheet::fields::{OBJECTS, SET_OWN, VALUE_SETS};
 use sheet::layout::field;
 use values::Sort;
-use values::gains::gain_of;
 use values::signed::signed;
-use values::values::{in_range, is_absent};
+use values::values::is_absent;
 
-// A value is below a minimum.
-#[tactic(auto, unfolding(crate::specs::Ranges::below_minimum, crate::specs::Ranges::ordered))]
-fn below_minimum(sort: Sort, value: u16, minimum: u16) -> bool
-    ensures { result ≡ below_minimum sort value minimum }
-{
-    match sort {
-        Sort::Gains => gain_of(value) < gain_of(minimum),
-        Sort::Offsets => signed(value) < signed(minimum),
-    }
-}
-
-// The bound that a value outside its range is told with.
-#[tactic(auto, unfolding(crate::specs::Ranges::bound_place))]
-fn bound_place(
-    s: &[u8],
-    sort: Sort,
+// Where a value stands, and where the ends of the range do that it is held against.
+#[derive(Clone, Copy)]
+struct RangePlaces {
     value: WordPlace,
     minimum: WordPlace,
     maximum: WordPlace,
-) -> WordPlace
-    ensures { result ≡ bound_place (sheet_of s.now) sort value minimum maximum }
-{
-    if below_minimum(sort, word_at(s, value), word_at(s, minimum)) {
-        minimum
-    } else {
-        maximum
-    }
 }
 
-// A value against a range, each by its place.
-#[tactic(auto, unfolding(crate::specs::Ranges::range_clash, profile::specs::Rules::leaves))]
-fn range_clash(
-    s: &[u8],
-    sort: Sort,
-    value: WordPlace,
-    minimum: WordPlace,
-    maximum: WordPlace,
-) -> Option<Clash>
-    ensures { result ≡ range_clash (sheet_of s.now) sort value minimum maximum }
-{
-    let v = word_at(s, value);
-    let lo = word_at(s, minimum);
-    let hi = word_at(s, maximum);
-    let outside = !is_absent(v) & (!is_absent(lo) & !in_range(sort, lo, v, hi));
-    let first = told(s, value);
-    let second = told(s, bound_place(s, sort, value, minimum, maximum));
-    outside.then_some(Clash { first, second })
+impl RangePlaces {
+    // An object's own value and its range.
+    fn of_object(o: u16, sort: Sort) -> RangePlaces
+        ensures value { result.value ≡ in_object o (object_value sort) }
+        ensures minimum { result.minimum ≡ in_object o (object_minimum sort) }
+        ensures maximum { result.maximum ≡ in_object o (object_maximum sort) }
+    {
+        let at = Positions::in_object(sort);
+        RangePlaces {
+            value: WordPlace::in_object(o, at.value),
+            minimum: WordPlace::in_object(o, at.minimum),
+            maximum: WordPlace::in_object(o, at.maximum),
+        }
+    }
+
+    // A value set's own words.
+    fn of_set(v: u16, sort: Sort) -> RangePlaces
+        ensures value { result.value ≡ in_set v (set_value sort) }
+        ensures minimum { result.minimum ≡ in_set v (set_minimum sort) }
+        ensures maximum { result.maximum ≡ in_set v (set_maximum sort) }
+    {
+        let at = Positions::in_set(sort);
+        RangePlaces {
+            value: WordPlace::in_set(v, at.value),
+            minimum: WordPlace::in_set(v, at.minimum),
+            maximum: WordPlace::in_set(v, at.maximum),
+        }
+    }
+
+    // The effective value of set v of object o and the effective range.
+    #[tactic(auto, unfolding(crate::specs::Ranges::effective_place, crate::specs::Ranges::range_place))]
+    fn effective(s: &[u8], o: u16, v: u16, sort: Sort) -> RangePlaces
+        ensures value { result.value ≡ effective_place (sheet_of s.now) o v sort }
+        ensures minimum { result.minimum ≡ range_place (sheet_of s.now) o v (set_minimum sort) (object_minimum sort) }
+        ensures maximum { result.maximum ≡ range_place (sheet_of s.now) o v (set_maximum sort) (object_maximum sort) }
+    {
+        let of_object = RangePlaces::of_object(o, sort);
+        let of_set = RangePlaces::of_set(v, sort);
+        let value = if is_absent(of_set.value.word(s)) {
+            of_object.value
+        } else {
+            of_set.value
+        };
+        let ranged = if field(s, VALUE_SETS, v, SET_OWN) == 1 {
+            of_set
+        } else {
+            of_object
+        };
+        RangePlaces { value, ..ranged }
+    }
+
+    // The words that stand there.
+    fn words(self, s: &[u8]) -> Values
+        ensures value { result.value ≡ word_at (sheet_of s.now) self.value }
+        ensures minimum { result.minimum ≡ word_at (sheet_of s.now) self.minimum }
+        ensures maximum { result.maximum ≡ word_at (sheet_of s.now) self.maximum }
+    {
+        Values {
+            value: self.value.word(s),
+            minimum: self.minimum.word(s),
+            maximum: self.maximum.word(s),
+        }
+    }
+
+    // The bound that a value outside its range is told with. The word of silence is that of the least number, so one order serves both
+    // sorts.
+    fn bound(self, s: &[u8], sort: Sort) -> WordPlace
+        ensures { result ≡ bound_place (sheet_of s.now) sort self.value self.minimum self.maximum }
+    {
+        if signed(self.value.word(s)) < signed(self.minimum.word(s)) {
+            self.minimum
+        } else {
+            self.maximum
+        }
+    }
+
+    // The value against the range.
+    #[tactic(auto, unfolding(crate::specs::Ranges::range_clash))]
+    fn clash(self, s: &[u8], sort: Sort) -> Option<Clash>
+        ensures { result ≡ range_clash (sheet_of s.now) sort self.value self.minimum self.maximum }
+    {
+        let words = self.words(s);
+        let outside = !is_absent(words.value) & words.leaves(sort);
+        let first = self.value.told(s);
+        let second = self.bound(s, sort).told(s);
+        outside.then_some(Clash { first, second })
+    }
 }
 
 // An object's own value against its range.
@@ -68,37 +116,7 @@ fn range_clash(
 fn object_clash(s: &[u8], o: u16, sort: Sort) -> Option<Clash>
     ensures { result ≡ object_clash (sheet_of s.now) o sort }
 {
-    range_clash(
-        s,
-        sort,
-        in_object(o, Positions::in_object(sort).value),
-        in_object(o, Positions::in_object(sort).minimum),
-        in_object(o, Positions::in_object(sort).maximum),
-    )
-}
-
-// Where the effective value of set v of object o stands.
-#[tactic(auto, unfolding(crate::specs::Ranges::effective_place))]
-fn effective_place(s: &[u8], o: u16, v: u16, sort: Sort) -> WordPlace
-    ensures { result ≡ effective_place (sheet_of s.now) o v sort }
-{
-    if is_absent(field(s, VALUE_SETS, v, Positions::in_set(sort).value)) {
-        in_object(o, Positions::in_object(sort).value)
-    } else {
-        in_set(v, Positions::in_set(sort).value)
-    }
-}
-
-// Where a word of its effective range stands: `inside` is its position in a set, `outside` in an object.
-#[tactic(auto, unfolding(crate::specs::Ranges::range_place))]
-fn range_place(s: &[u8], o: u16, v: u16, inside: u8, outside: u8) -> WordPlace
-    ensures { result ≡ range_place (sheet_of s.now) o v inside outside }
-{
-    if field(s, VALUE_SETS, v, SET_OWN) == 1 {
-        in_set(v, inside)
-    } else {
-        in_object(o, outside)
-    }
+    RangePlaces::of_object(o, sort).clash(s, sort)
 }
 
 // The effective value against the effective range.
@@ -106,25 +124,7 @@ fn range_place(s: &[u8], o: u16, v: u16, inside: u8, outside: u8) -> WordPlace
 fn effective_clash(s: &[u8], o: u16, v: u16, sort: Sort) -> Option<Clash>
     ensures { result ≡ effective_clash (sheet_of s.now) o v sort }
 {
-    range_clash(
-        s,
-        sort,
-        effective_place(s, o, v, sort),
-        range_place(
-            s,
-            o,
-            v,
-            Positions::in_set(sort).minimum,
-            Positions::in_object(sort).minimum,
-        ),
-        range_place(
-            s,
-            o,
-            v,
-            Positions::in_set(sort).maximum,
-            Positions::in_object(sort).maximum,
-        ),
-    )
+    RangePlaces::effective(s, o, v, sort).clash(s, sort)
 }
 
 // The set's own value against the object's range.
@@ -132,13 +132,11 @@ fn effective_clash(s: &[u8], o: u16, v: u16, sort: Sort) -> Option<Clash>
 fn own_clash(s: &[u8], o: u16, v: u16, sort: Sort) -> Option<Clash>
     ensures { result ≡ own_clash (sheet_of s.now) o v sort }
 {
-    range_clash(
-        s,
-        sort,
-        in_set(v, Positions::in_set(sort).value),
-        in_object(o, Positions::in_object(sort).minimum),
-        in_object(o, Positions::in_object(sort).maximum),
-    )
+    let places = RangePlaces {
+        value: RangePlaces::of_set(v, sort).value,
+        ..RangePlaces::of_object(o, sort)
+    };
+    places.clash(s, sort)
 }
 
 // The first clash of an object: "gain before offset".
@@ -164,7 +162,8 @@ fn set_clashes(s: &[u8], o: u16, v: u16) -> Option<Clash>
     effective.or(own)
 }
 
-// The first clash of a record that breaks rule 18.
+// The first clash of a record that breaks rule 18. The section comes as the verdict has it: it is one of two where the rule is broken, but
+// the contract holds of every number.
 #[tactic(auto, unfolding(crate::specs::Ranges::range_clashes))]
 pub fn range_clashes(s: &[u8], section: u32, k: u16) -> Option<Clash>
     ensures { result ≡ range_clashes (sheet_of s.now) section k }

@@ -2,44 +2,26 @@
 ghost use Rattle.std.specs.Prelude.{◌≡◌};
 ghost use Rattle.figures.specs.Lists.{first_figures, no_figures};
 ghost use Rattle.figures.specs.Shares.{has_share, share_figure, share_figures, share_list};
-ghost use Rattle.profile.specs.Relations.{lone, share};
 ghost use Rattle.sheet.specs.Words.{sheet_of};
 
 use crate::{Figure, FigureNumber, Figures};
 use relations::objects::leader;
-use relations::records::{complement, top};
-use relations::sizes::{largest_member, size};
 use sheet::fields::OBJECTS;
 use sheet::layout::count;
+use tables::ObjectTables;
 
-// A top object in no group.
-#[tactic(auto, unfolding(profile::specs::Relations::lone))]
-fn lone(s: &[u8], o: u16) -> bool
-    ensures { result ≡ lone (sheet_of s.now) o }
-{
-    top(s, o) & !leader(s, o) & !complement(s, o)
-}
+// No tables: each relation is found by its own search. Rule 24 is told of once.
+const NO_TABLES: ObjectTables<'static> = ObjectTables {
+    tops: &[],
+    complements: &[],
+};
 
 // A leader or a lone object.
 #[tactic(auto, unfolding(crate::specs::Shares::has_share))]
 fn has_share(s: &[u8], o: u16) -> bool
     ensures { result ≡ has_share (sheet_of s.now) o }
 {
-    leader(s, o) | lone(s, o)
-}
-
-// What an object adds to the counted tracks.
-#[tactic(auto, unfolding(profile::specs::Relations::share, relations::specs::steps::Sizes::largest_member))]
-fn share(s: &[u8], o: u16) -> u32
-    ensures { result ≡ share (sheet_of s.now) o }
-{
-    if leader(s, o) {
-        largest_member(s, o)
-    } else if lone(s, o) {
-        size(s, o)
-    } else {
-        0
-    }
+    leader(s, o) | NO_TABLES.lone_by(s, o)
 }
 
 // Its share, as a figure.
@@ -49,7 +31,7 @@ fn share_figure(s: &[u8], o: u16) -> Figure
     Figure {
         section: OBJECTS,
         index: o,
-        number: FigureNumber::Derived(share(s, o)),
+        number: FigureNumber::Derived(NO_TABLES.share(s, o)),
     }
 }
 

@@ -13,8 +13,8 @@ pub struct Range {
     pub maximum: u16,
 }
 
-// Tables that a programme's objects are looked up in: `leaders` has the leader of each object's group, `included` what the programme includes.
-// That they are right is a premise and no invariant, since the public functions over them ask nothing of their caller.
+// Tables that a programme's objects are looked up in: `leaders` has the leader of each object's group, `included` what the programme
+// includes. That they are right is a premise and no invariant, since the public functions over them ask nothing of their caller.
 #[derive(Clone, Copy)]
 pub struct ProgrammeTables<'a> {
     pub leaders: &'a [u16],

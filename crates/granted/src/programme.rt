@@ -11,19 +11,20 @@ use relations::objects::leader;
 use relations::programmes::named_set;
 use relations::sets::{Values, effective_value, effective_values, object_values, own_value};
 use sheet::fields::{OBJECTS, PROGRAMMES, SET_LIST, SET_SPAN};
-use sheet::layout::{field, number, reference};
+use sheet::layout::number;
+use sheet::spans::Span;
 use values::Sort;
 
 // Where the programme's set list has the first set of the object, the list's length where it has none.
 fn set_place(s: &[u8], p: u16, o: u16) -> u16
     ensures { result ≡ set_place (sheet_of s.now) p o }
 {
-    let from = field(s, OBJECTS, o, SET_SPAN);
-    let to = u32::from(from) + u32::from(number(s, OBJECTS, o, SET_SPAN));
-    let list = u32::from(field(s, PROGRAMMES, p, SET_LIST));
-    lowest(number(s, PROGRAMMES, p, SET_LIST), |i| {
-        let v = reference(s, list + u32::from(i));
-        (from <= v) & (u32::from(v) < to)
+    let span = Span::at(s, OBJECTS, o, SET_SPAN);
+    let to = u32::from(span.first) + u32::from(span.count);
+    let sets = Span::at(s, PROGRAMMES, p, SET_LIST).entries(s);
+    lowest(sets.list.count, |i| {
+        let v = sets.at(s, i);
+        (span.first <= v) & (u32::from(v) < to)
     })
 }
 
@@ -43,7 +44,9 @@ pub fn named_for(s: &[u8], p: u16, o: u16) -> Option<u16>
     }
 }
 
-// "included objects take the effective gain and offset of the set that the programme names, or their own, or 0"
+// "included objects take the effective gain and offset of the set that the programme names, or their own, or 0". An object and the set that
+// is named for it go through three functions here: a struct of the two would be taken apart in each equation, since a set's effective words
+// are functions of object and set (`effective_value`), and an object's own of the object alone.
 #[tactic(auto, unfolding(crate::specs::steps::NamedSet::start_by))]
 pub fn start_by(s: &[u8], o: u16, named: Option<u16>, sort: Sort) -> u16
     ensures { result ≡ start_by (sheet_of s.now) o named sort }
@@ -54,6 +57,7 @@ pub fn start_by(s: &[u8], o: u16, named: Option<u16>, sort: Sort) -> u16
     }
 }
 
+// The start value of an object that a programme includes.
 pub fn start_value(s: &[u8], p: u16, o: u16, sort: Sort) -> u16
     ensures { result ≡ start_value (sheet_of s.now) p o sort }
 {
