@@ -1,6 +1,7 @@
 use Rattle.std.proofs.Common.{◌<◌, sym, ap, ◌∙◌, arith}
 use borrow.Author.Count.{below_more}
 use Rattle.sheet.specs.Words.{sheet_of}
+use Rattle.profile.specs.declared.Verdict.TheVariants.{Broken}
 use Rattle.profile.specs.Verdict.{number_at, rule_count}
 use Rattle.checker.specs.steps.Rows.{rule_place}
 use Rattle.checker.proofs.SearchLaws.{apart_before, broken_none, verdict_broken, verdict_none}
@@ -21,7 +22,7 @@ pub returns-in-Some : goal.returns-in-Some
 returns-in-Some c =
     let s = sheet_of c.args.sheet.now in
     let i = c.loop-rule.rule-index in let inside : i < rule_count = omega (arith, c.loop-rule-test.true, rule_count_lem) in
-    rw (numbered i inside) (verdict_broken s c.args.langs.now i inside c.loop-rule.invariant.0 _ (sym c.in-Some.is ∙ c.rule_place.ensures ∙ ap (rule_place s c.args.langs.now) (numbered i inside)))
+    ap (λ r. Broken r c.in-Some.place) (numbered i inside) ∙ verdict_broken s c.args.langs.now i inside c.loop-rule.invariant.0 _ (sym c.in-Some.is ∙ c.rule_place.ensures ∙ ap (rule_place s c.args.langs.now) (numbered i inside))
 
 pub loop-rule-preserved : goal.loop-rule-preserved
 loop-rule-preserved c =
