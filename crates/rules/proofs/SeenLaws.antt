@@ -5,15 +5,11 @@ use mathlib.Core.Bool.{Bool, true, false, cond, not, ◌||◌}
 use mathlib.Core.List.{List}
 use native.Mathlib.Numerals.{add-one}
 use lib.Dec.{eqb}
-use lib.ListN.{length, get_or, set, replicate, length-set}
+use lib.ListN.{length, get_or, replicate}
 use Rattle.profile.specs.Counting.{any}
 use Rattle.tables.specs.steps.Marks.{Standing}
-use Rattle.tables.proofs.MarkLaws.{set_standing, nought}
+use Rattle.tables.proofs.MarkLaws.{nought}
 use Rattle.tables.proofs.TableLaws.{flag}
-
--- the place is marked
-pub see_standing : (t : List ℕ) (y : ℕ) → Standing (λ z. cond (eqb y z) 1 (get_or t z 0)) (set t y 1)
-see_standing t y x l = set_standing t y 1 (λ z. cond (eqb y z) 1 (get_or t z 0)) (λ z k. refl) x (rw (length-set t y 1) at l)
 
 -- 1 stands for those among the first j
 abbrev pub Seen : (ℕ → ℕ) → List ℕ → ℕ → Type 0

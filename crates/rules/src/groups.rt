@@ -31,6 +31,7 @@ fn named_more(s: &[u8], complements: &[u16], q: u16) -> bool
 }
 
 // A complement that isn't top, that itself lists some, or that complement lists name more than once.
+#[tactic(auto, unfolding(profile::specs::Rules::bad_complement, crate::specs::steps::Loops::total_times))]
 pub fn bad_complement(s: &[u8], tables: &ObjectTables, q: u16) -> bool
     ensures { ObjectsTabled (sheet_of s.now) tables.now → result ≡ bad_complement (sheet_of s.now) q }
 {
@@ -52,6 +53,7 @@ pub fn rule20(s: &[u8], section: u8, o: u16) -> bool
 }
 
 // The programme includes some of a leader's group, but neither one member nor all.
+#[tactic(auto, unfolding(profile::specs::Relations::wholly_included, profile::specs::Relations::included, tables::specs::steps::Members::how_many_members))]
 fn splits(s: &[u8], p: u16, marks: &[u16], l: u16) -> bool
     ensures { Included (sheet_of s.now) p marks.now → result ≡ splits (sheet_of s.now) p l }
 {
@@ -62,6 +64,7 @@ fn splits(s: &[u8], p: u16, marks: &[u16], l: u16) -> bool
     (n != 0) & (n != 1) & (n != members(s, l))
 }
 
+#[tactic(auto, unfolding(profile::specs::Rules::rule21))]
 pub fn rule21(s: &[u8], marks: &[u16], section: u8, p: u16) -> bool
     ensures { Included (sheet_of s.now) p marks.now → result ≡ rule21 (sheet_of s.now) section p }
 {

@@ -24,6 +24,7 @@ fn outside(s: &[u8], column: u8, n: u16) -> bool
     (n < 1) | exceeds(s, column, u64::from(n))
 }
 
+#[tactic(auto, unfolding(profile::specs::Rules::rule7))]
 pub fn rule7(s: &[u8], section: u8, k: u16) -> bool
     ensures { result ≡ rule7 (sheet_of s.now) section k }
 {

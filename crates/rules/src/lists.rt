@@ -25,6 +25,7 @@ fn beyond(s: &[u8], target: u8, section: u8, k: u16, at: u8) -> bool
     Span::at(s, section, k, at).is_beyond(count(s, target))
 }
 
+#[tactic(auto, unfolding(profile::specs::Rules::rule4))]
 pub fn rule4(s: &[u8], section: u8, k: u16) -> bool
     ensures { result ≡ rule4 (sheet_of s.now) section k }
 {
@@ -83,6 +84,7 @@ pub fn second_target(section: u8) -> u8
 }
 
 // It is lent a table for each of the two sections that the lists name records of.
+#[tactic(auto, unfolding(profile::specs::Rules::rule5))]
 pub fn rule5(s: &[u8], first: &[u16], second: &[u16], section: u8, k: u16) -> bool
     ensures { LacksRight (sheet_of s.now) (first_target section) first.now → LacksRight (sheet_of s.now) (second_target section) second.now → result ≡ rule5 (sheet_of s.now) section k }
 {
@@ -101,6 +103,7 @@ pub fn rule5(s: &[u8], first: &[u16], second: &[u16], section: u8, k: u16) -> bo
     }
 }
 
+#[tactic(auto, unfolding(profile::specs::Rules::rule9))]
 pub fn rule9(s: &[u8], next: &[u16], section: u8, k: u16) -> bool
     ensures { RepeatRight (sheet_of s.now) next.now → result ≡ rule9 (sheet_of s.now) section k }
 {

@@ -21,6 +21,7 @@ use sheet::layout::{count, field};
 use tables::reads::look;
 
 // How often all lists at a position of the objects name x.
+#[tactic(auto, unfolding(crate::specs::steps::Loops::total_times, profile::specs::Counting::sum))]
 pub fn total_times(s: &[u8], at: u8, x: u16) -> u32
     ensures { result ≡ total_times (sheet_of s.now) at x }
 {
@@ -32,6 +33,7 @@ pub fn total_times(s: &[u8], at: u8, x: u16) -> u32
 }
 
 // How often contents and child lists name an object.
+#[tactic(auto, unfolding(profile::specs::Relations::namings, crate::specs::steps::Loops::total_times))]
 fn namings(s: &[u8], o: u16) -> u64
     ensures { result ≡ namings (sheet_of s.now) o }
 {
@@ -77,6 +79,7 @@ fn is_listed(s: &[u8], listed: &[u16], c: u16) -> bool
 }
 
 // It is lent the table of namings for an object, and that of spans for a value set.
+#[tactic(auto, unfolding(profile::specs::Rules::rule11))]
 pub fn rule11(s: &[u8], table: &[u16], section: u8, k: u16) -> bool
     ensures { (section ≡ objects → Named (sheet_of s.now) table.now) → (section ≡ value_sets → Spanned (sheet_of s.now) table.now) → result ≡ rule11 (sheet_of s.now) section k }
 {
@@ -88,6 +91,7 @@ pub fn rule11(s: &[u8], table: &[u16], section: u8, k: u16) -> bool
 }
 
 // It is lent the table of repeats for a programme, and that of content lists for a content.
+#[tactic(auto, unfolding(profile::specs::Rules::rule12))]
 pub fn rule12(s: &[u8], table: &[u16], section: u8, k: u16) -> bool
     ensures { (section ≡ programmes → RepeatRight (sheet_of s.now) table.now) → (section ≡ contents → Listed (sheet_of s.now) table.now) → result ≡ rule12 (sheet_of s.now) section k }
 {

@@ -26,6 +26,7 @@ pub fn rule17(s: &[u8], owners: &[u16], section: u8, k: u16) -> bool
 }
 
 // An object's own value leaves its range.
+#[tactic(auto, unfolding(profile::specs::Rules::object_leaves))]
 fn object_leaves(s: &[u8], o: u16, sort: Sort) -> bool
     ensures { result ≡ object_leaves (sheet_of s.now) o sort }
 {
@@ -34,7 +35,9 @@ fn object_leaves(s: &[u8], o: u16, sort: Sort) -> bool
     Values { value, ..object }.leaves(sort)
 }
 
-// Set v of object o: its effective value leaves the effective range, or its own one the object's range.
+// Set v of object o: its effective value leaves the effective range, or its own one the object's range. The object, the set and the sort are
+// the parameters of the definition, and each function here reads other words by them.
+#[tactic(auto, unfolding(profile::specs::Rules::set_leaves))]
 fn set_leaves(s: &[u8], o: u16, v: u16, sort: Sort) -> bool
     ensures { result ≡ set_leaves (sheet_of s.now) o v sort }
 {
@@ -47,6 +50,7 @@ fn set_leaves(s: &[u8], o: u16, v: u16, sort: Sort) -> bool
     effective_values(s, o, v, sort).leaves(sort) | !is_absent(own) & ranged.leaves(sort)
 }
 
+#[tactic(auto, unfolding(profile::specs::Rules::rule18))]
 pub fn rule18(s: &[u8], owners: &[u16], section: u8, k: u16) -> bool
     ensures { Owners (sheet_of s.now) owners.now → result ≡ rule18 (sheet_of s.now) section k }
 {

@@ -101,6 +101,7 @@ fn tracks_with(s: &[u8], o: u16, ordinal: u16) -> u16
 }
 
 // Whether some channel is not the ordinal of exactly one of the object's tracks.
+#[tactic(auto, unfolding(crate::specs::steps::Loops::bad_channel))]
 pub fn bad_channel(s: &[u8], o: u16) -> bool
     ensures { result ≡ bad_channel (sheet_of s.now) o }
 {

@@ -19,6 +19,7 @@ use tables::members::members_passing;
 use tables::reads::{included_by, names_set_by, owner_by};
 
 // The programme includes the whole group of a leader, and names sets for some of it, but not all.
+#[tactic(auto, unfolding(profile::specs::Relations::wholly_included, profile::specs::Relations::included, profile::specs::Rules::sets_named, tables::specs::steps::Members::how_many_members))]
 fn partly_set(s: &[u8], p: u16, marks: &[u16], sets: &[u16], l: u16) -> bool
     ensures { Included (sheet_of s.now) p marks.now → NamedSets (sheet_of s.now) p sets.now → result ≡ partly_set (sheet_of s.now) p l }
 {

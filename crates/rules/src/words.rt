@@ -104,6 +104,7 @@ fn bad_set(s: &[u8], v: u16) -> bool
         | (own == 0) & (set_range(s, v, Sort::Gains) | set_range(s, v, Sort::Offsets))
 }
 
+#[tactic(auto, unfolding(profile::specs::Rules::rule6))]
 pub fn rule6(s: &[u8], langs: &Languages, next: &[u16], section: u8, k: u16) -> bool
     ensures { LanguagesRight (sheet_of s.now) langs.now next.now → result ≡ rule6 (sheet_of s.now) langs.now section k }
 {

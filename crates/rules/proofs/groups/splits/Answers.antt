@@ -6,9 +6,6 @@ use Rattle.tables.specs.steps.Members.{how_many_members}
 use Rattle.sheet.specs.Words.{sheet_of}
 use Rattle.rules.proofs.groups.splits.Goals as goal
 
-pub returns-then-not-leader : goal.returns-then-not-leader
-returns-then-not-leader c = λ marks. simp (sym c.leader.ensures ∙ c.if-not-leader.true)
-
 pub returns : goal.returns
 unfolding wholly_included included how_many_members
 returns c = λ marks.

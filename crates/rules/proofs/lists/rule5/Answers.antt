@@ -5,8 +5,6 @@ use Rattle.runs.specs.steps.Runs.{LacksRight}
 use Rattle.rules.specs.steps.Loops.{first_target, second_target}
 use Rattle.sheet.specs.Words.{sheet_of}
 use Rattle.profile.proofs.BoolLaws.{or_false}
-use native.Mathlib.Omega.{arith}
-use borrow.Author.Tests.{ne_eqb}
 use Rattle.rules.proofs.lists.rule5.Goals as goal
 
 pub returns-in-1 : goal.returns-in-1
@@ -17,10 +15,6 @@ returns-in-1 c = λ first second.
     let g : LacksRight s value_sets a.second.now = rw c.in-1.is at second in
     simp (c.list_lacks_by-in-1.ensures g, c.list_lacks_by.ensures f, c.in-1.is, or_false)
 
-pub returns-in-2 : goal.returns-in-2
-unfolding rule5
-returns-in-2 c = λ first second. simp (c.lacks.ensures, c.field.ensures, c.in-2.is, or_false)
-
 pub returns-in-3 : goal.returns-in-3
 unfolding rule5 first_target second_target
 returns-in-3 c =
@@ -29,11 +23,3 @@ returns-in-3 c =
     let f : LacksRight s tracks a.first.now = rw c.in-3.is at first in
     let g : LacksRight s objects a.second.now = rw c.in-3.is at second in
     simp (c.list_lacks_by-in-3-3.ensures g, c.list_lacks_by-in-3-2.ensures g, c.list_lacks_by-in-3.ensures f, c.lacks-in-3.ensures, c.pack_of.ensures, c.has_pack.ensures, c.in-3.is, or_false)
-
-pub returns-in-5 : goal.returns-in-5
-unfolding rule5
-returns-in-5 c = λ first second. simp (c.lacks-in-5.ensures, c.field-in-5.ensures, c.in-5.is)
-
-pub returns-in_default : goal.returns-in_default
-unfolding rule5
-returns-in_default c = λ first second. simp (ne_eqb c.args.section 1 (omega arith), ne_eqb c.args.section 2 (omega arith), ne_eqb c.args.section 3 (omega arith), ne_eqb c.args.section 5 (omega arith), or_false)

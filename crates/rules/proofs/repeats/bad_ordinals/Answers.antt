@@ -13,9 +13,6 @@ use Rattle.rules.specs.steps.Loops.{bad_channel, keys_alike}
 use Rattle.runs.proofs.OrdinalLaws.{once_each}
 use Rattle.rules.proofs.repeats.bad_ordinals.Goals as goal
 
-pub returns-then-n-le-SHORT : goal.returns-then-n-le-SHORT
-returns-then-n-le-SHORT c = λ e. c.bad_channel.ensures
-
 pub returns : goal.returns
 unfolding bad_channel keys_alike track_at
 returns c =

@@ -18,12 +18,6 @@ loop-j-init c =
     let a = c.args in let s = sheet_of a.s.now in
     (length-replicate {A = ℕ} 2048 0, λ right. (firsts_none s (named_set s a.p) (λ i. leader_of s (owner s (named_set s a.p i))) 2048, below_none _))
 
-pub returns-then-l-ge2048 : goal.returns-then-l-ge2048
-returns-then-l-ge2048 c = λ right. c.group_pairs_differ.ensures right
-
-pub first_of-i-requires : goal.first_of-i-requires
-first_of-i-requires c = (c.loop-j.invariant.0, omega (arith, c.if-l-ge2048.false), omega (arith, c.loop-j-test.true))
-
 pub returns-then-sets_differ : goal.returns-then-sets_differ
 unfolding two_of named_set entry
 returns-then-sets_differ c =

@@ -16,9 +16,6 @@ use Rattle.rules.proofs.repeats.keys_alike.Goals as goal
 pub loop-j-init : goal.loop-j-init
 loop-j-init g c = (length-replicate {A = ℕ} 65536 0, λ f h. (seen_none _ 65536, below_none _))
 
-pub see-requires : goal.see-requires
-see-requires g c = c.loop-j.invariant.0
-
 pub returns-then-see : goal.returns-then-see
 unfolding keys_alike two_of
 returns-then-see g c =

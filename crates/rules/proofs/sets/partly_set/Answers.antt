@@ -8,9 +8,6 @@ use Rattle.tables.specs.steps.Members.{how_many_members}
 use Rattle.sheet.specs.Words.{sheet_of}
 use Rattle.rules.proofs.sets.partly_set.Goals as goal
 
-pub returns-then-not-leader : goal.returns-then-not-leader
-returns-then-not-leader c = λ marks sets. simp (sym c.leader.ensures ∙ c.if-not-leader.true)
-
 pub returns-then-members_passing-all : goal.returns-then-members_passing-all
 unfolding wholly_included included sets_named how_many_members
 returns-then-members_passing-all c = λ marks sets.
