@@ -7,8 +7,8 @@ use lib.Dec.{eqb}
 use lib.ListN.{length, length-append}
 use Rattle.std.specs.Prelude.{Option, Some, None, Result, Ok, Err}
 use Rattle.values.specs.declared.Gain.{Gain}
-use Rattle.factors.specs.declared.Refusal.{Refusal}
-use Rattle.factors.specs.declared.Refusal.TheVariants.{FactorTooHigh}
+use Rattle.factors.specs.declared.FactorRefusal.{FactorRefusal}
+use Rattle.factors.specs.declared.FactorRefusal.TheVariants.{FactorTooHigh}
 use Rattle.factors.specs.Conversion.{conversion}
 use Rattle.text.specs.Decimal.{decimal, spelled}
 use Rattle.text.specs.Lines.{said}
@@ -17,7 +17,7 @@ use Rattle.text.proofs.DecimalLaws.{gain_fits_lem}
 use Rattle.factorlines.specs.FactorLines.{conversion_text, factor_answer, factor_of, factor_line}
 use Rattle.factorlines.specs.Reading.{Reading, reading, kept, after_byte, after_read}
 
-conversion_fits : (c : Result Gain Refusal) → length (conversion_text c) ≤ 21
+conversion_fits : (c : Result Gain FactorRefusal) → length (conversion_text c) ≤ 21
 unfolding conversion_text decimal spelled
 conversion_fits (Ok g) = gain_fits_lem g
 conversion_fits (Err FactorTooHigh) = omega arith

@@ -3,8 +3,8 @@
 -- `?` where a line is no number of 32 bits. Assumes nothing.
 use Rattle.std.specs.Prelude.{ℕ, ◌≡◌, refl, cond, List, [], ◌++◌, map, Option, Some, None, Result, Ok, Err, eqb, length, get_or}
 use Rattle.values.specs.declared.Gain.{Gain}
-use Rattle.factors.specs.declared.Refusal.{Refusal}
-use Rattle.factors.specs.declared.Refusal.TheVariants.{FactorTooHigh}
+use Rattle.factors.specs.declared.FactorRefusal.{FactorRefusal}
+use Rattle.factors.specs.declared.FactorRefusal.TheVariants.{FactorTooHigh}
 use Rattle.factors.specs.Table.{entries}
 use Rattle.factors.specs.Decibels.{tenth_at}
 use Rattle.factors.specs.Conversion.{factor_too_high, least_tenth, factor_gain, conversion}
@@ -18,7 +18,7 @@ unfoldable pub factor_of : List ℕ → Option ℕ
 factor_of s = cond (eqb (length (fields s)) 1) (wide_number_of (get_or (fields s) 0 [])) None
 
 -- as in `-600`, `silence` or `refused 34`
-unfoldable pub conversion_text : Result Gain Refusal → List ℕ
+unfoldable pub conversion_text : Result Gain FactorRefusal → List ℕ
 conversion_text (Ok g) = gain_text g
 conversion_text (Err FactorTooHigh) = ascii "refused " ++ decimal factor_too_high
 

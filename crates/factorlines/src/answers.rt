@@ -4,7 +4,7 @@ ghost use Rattle.std.specs.Prelude.{◌≡◌};
 ghost use Rattle.factorlines.specs.FactorLines.{conversion_text, factor_line, factor_of};
 ghost use Rattle.text.specs.Buffer.{Appends};
 
-use factors::Refusal;
+use factors::FactorRefusal;
 use factors::convert::gain_of_factor;
 use text::lines::{field, field_count, said};
 use text::numbers::wide_number_of;
@@ -24,14 +24,14 @@ fn factor_of(text: &[u8]) -> Option<u32>
 }
 
 // As in `-600`, `silence` or `refused 34`.
-fn put_conversion(answers: &mut Text, conversion: Result<Gain, Refusal>)
+fn put_conversion(answers: &mut Text, conversion: Result<Gain, FactorRefusal>)
     ensures { Appends answers.old (conversion_text conversion) answers.new }
 {
     match conversion {
         Ok(gain) => answers.gain(gain),
-        Err(Refusal::FactorTooHigh) => {
+        Err(FactorRefusal::FactorTooHigh) => {
             answers.text(b"refused ");
-            answers.number(Refusal::FactorTooHigh as u64);
+            answers.number(FactorRefusal::FactorTooHigh as u64);
         }
     }
 }

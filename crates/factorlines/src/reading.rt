@@ -13,6 +13,8 @@ pub const READ_ROOM: usize = 4096;
 pub const ANSWERS_ROOM: usize = 22 * READ_ROOM;
 
 // Answers the lines that end in a read, gives the length of the answers, and keeps the beginning of the next line.
+// The length stands beside the lent buffer, since the contract says what the whole buffer has afterwards: a `Text` handed out would keep
+// the buffer lent, and a clause could then name the text alone.
 pub fn answer_read(line: &mut Text, read: &[u8], answers: &mut [u8; ANSWERS_ROOM]) -> usize
     ensures same_buffer { line.new.buffer.ghost_name ≡ line.old.buffer.ghost_name }
     ensures line_after { written line.new ≡ (after_read (reading (written line.old) []) read.now).line }
@@ -30,7 +32,7 @@ pub fn answer_read(line: &mut Text, read: &[u8], answers: &mut [u8; ANSWERS_ROOM
     text.count
 }
 
-// At the end of the input a line without a newline is answered, unless it is empty.
+// At the end of the input a line without a newline is answered, unless it is empty. It gives a length as `answer_read` does.
 pub fn answer_last(line: &Text, answers: &mut [u8; ANSWERS_ROOM]) -> usize
     ensures { TextFilled answers.old (last_answer (written line.now)) result answers.new }
 {

@@ -13,7 +13,7 @@ use Rattle.std.proofs.lemmas.List.Sums.{position_or_len_is}
 use Rattle.std.specs.Prelude.{Ok, Err}
 use Rattle.values.specs.declared.Gain.TheVariants.{Tenths}
 use Rattle.values.specs.Gain.{at_most, legal_gain}
-use Rattle.factors.specs.declared.Refusal.TheVariants.{FactorTooHigh}
+use Rattle.factors.specs.declared.FactorRefusal.TheVariants.{FactorTooHigh}
 use Rattle.factors.specs.Table.{entries}
 use Rattle.factors.specs.Decibels.{tenth_at}
 use Rattle.factors.specs.Conversion.{most_factor, least_tenth, factor_gain, conversion}

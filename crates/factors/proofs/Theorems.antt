@@ -11,7 +11,7 @@ use lib.Signed.{lt_z}
 use Rattle.std.specs.Prelude.{Ok, Err}
 use Rattle.values.specs.declared.Gain.TheVariants.{Silent, Tenths}
 use Rattle.values.specs.Gain.{at_most, legal_gain}
-use Rattle.factors.specs.declared.Refusal.TheVariants.{FactorTooHigh}
+use Rattle.factors.specs.declared.FactorRefusal.TheVariants.{FactorTooHigh}
 use Rattle.factors.specs.Table.{entries}
 use Rattle.factors.specs.Decibels.{keeps_rule}
 use Rattle.factors.specs.Conversion.{most_factor, least_tenth, factor_gain, conversion}

@@ -3,17 +3,17 @@
 use Rattle.std.specs.Prelude.{ℕ, ◌≡◌, refl, List, [], ◌∷◌, map, pos, negsuc, Result, Ok, Err}
 use Rattle.values.specs.declared.Gain.{Gain}
 use Rattle.values.specs.declared.Gain.TheVariants.{Silent, Tenths}
-use Rattle.factors.specs.declared.Refusal.{Refusal}
-use Rattle.factors.specs.declared.Refusal.TheVariants.{FactorTooHigh}
+use Rattle.factors.specs.declared.FactorRefusal.{FactorRefusal}
+use Rattle.factors.specs.declared.FactorRefusal.TheVariants.{FactorTooHigh}
 use Rattle.factors.specs.Table.{entries}
 use Rattle.factors.specs.Decibels.{tenth_at}
 use Rattle.factors.specs.Conversion.{least_tenth, factor_gain, conversion}
 
 pub record Case : Type 0 where
   pub factor : ℕ
-  pub answer : Result Gain Refusal
+  pub answer : Result Gain FactorRefusal
 
-abbrev case : ℕ → Result Gain Refusal → Case
+abbrev case : ℕ → Result Gain FactorRefusal → Case
 case f c = record { factor = f; answer = c }
 
 abbrev pub cases : List Case

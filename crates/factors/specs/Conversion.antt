@@ -5,8 +5,8 @@ use Rattle.std.specs.Prelude.{ℕ, cond, eqb, leb, ℤ, Result, Ok, Err}
 use Rattle.std.specs.List.{position_or_len}
 use Rattle.values.specs.declared.Gain.{Gain}
 use Rattle.values.specs.declared.Gain.TheVariants.{Silent, Tenths}
-use Rattle.factors.specs.declared.Refusal.{Refusal}
-use Rattle.factors.specs.declared.Refusal.TheVariants.{FactorTooHigh}
+use Rattle.factors.specs.declared.FactorRefusal.{FactorRefusal}
+use Rattle.factors.specs.declared.FactorRefusal.TheVariants.{FactorTooHigh}
 use Rattle.factors.specs.Table.{entries}
 use Rattle.factors.specs.Decibels.{tenth_at}
 
@@ -27,5 +27,5 @@ unfoldable pub factor_gain : ℕ → Gain
 factor_gain f = cond (eqb f 0) Silent (Tenths (least_tenth f))
 
 -- the answer to a factor of f millionths
-unfoldable pub conversion : ℕ → Result Gain Refusal
+unfoldable pub conversion : ℕ → Result Gain FactorRefusal
 conversion f = cond (leb f most_factor) (Ok (factor_gain f)) (Err FactorTooHigh)

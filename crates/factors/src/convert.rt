@@ -4,7 +4,7 @@ ghost use Rattle.std.specs.Prelude.{leb, ◌≡◌, ◌≤◌};
 ghost use Rattle.factors.specs.Conversion.{conversion, least_tenth};
 ghost use Rattle.factors.specs.Table.{entries};
 
-use crate::Refusal;
+use crate::FactorRefusal;
 use crate::table::LARGEST;
 use values::Gain;
 
@@ -27,11 +27,11 @@ fn least_tenth(factor: u32) -> i16
 }
 
 // The gain of a factor of so many millionths: "0 is silence".
-pub fn gain_of_factor(millionths: u32) -> Result<Gain, Refusal>
+pub fn gain_of_factor(millionths: u32) -> Result<Gain, FactorRefusal>
     ensures { result ≡ conversion millionths }
 {
     if millionths > MOST_FACTOR {
-        return Err(Refusal::FactorTooHigh);
+        return Err(FactorRefusal::FactorTooHigh);
     }
     if millionths == 0 {
         return Ok(Gain::Silent);

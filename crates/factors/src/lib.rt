@@ -5,8 +5,9 @@
 pub mod convert;
 pub mod table;
 
-// Why a factor has no gain, with the refusal's number: "34, the factor is above 11,220,184".
+// Why a factor has no gain, with the refusal's number: "34, the factor is above 11,220,184". An enum of one variant, since a `None` would
+// not say which refusal it is.
 #[derive(Clone, Copy)]
-pub enum Refusal {
+pub enum FactorRefusal {
     FactorTooHigh = 34,
 }

@@ -8,6 +8,7 @@ use native.Mathlib.Nat.{le_of_suc-le-suc, add-zero}
 use lib.Dec.{eqb, ltb}
 use lib.ListN.{length, get_or}
 use borrow.Author.Tests.{ltb-true, ltb-false, eqb-true, eqb-false, eq-eqb, ne_eqb, not-true}
+use borrow.Table.Steps.{cases}
 use Rattle.sheet.specs.Words.{Sheet}
 use Rattle.sheet.specs.Layout.{count, field, number, entry}
 use Rattle.sheet.specs.Fields.{objects, packs, tracks, track_list, child_list, pack_channels, track_pack, track_ordinal}
@@ -107,10 +108,9 @@ module _ (s : Sheet) (a : AcceptedSheet s) where
 
   own_count : (o q n : ℕ) → o < count s objects → n < channels s o → how_many_in (is_channel s o n) (own_entries s q) ≡ cond (eqb q o) 1 0
   own_count o q n l k =
-      (elim (eqb q o) as (λ b. eqb q o ≡ b → how_many_in (is_channel s o n) (own_entries s q) ≡ cond (eqb q o) 1 0) [
-        | true ↦ λ e. let z : q ≡ o = eqb-true q o e in rw e (rw z (own_channel o n l k))
-        | false ↦ λ e. rw e (other_channel o q n (eqb-false q o e))
-      ]) refl
+      cases (eqb q o)
+      (λ e. let z : q ≡ o = eqb-true q o e in rw e (rw z (own_channel o n l k)))
+      (λ e. rw e (other_channel o q n (eqb-false q o e)))
 
   -- what an object gives: once for itself, and once for each naming in its child list
   object_count : (o q n : ℕ) → o < count s objects → n < channels s o → how_many_in (is_channel s o n) (object_entries s q) ≡ cond (eqb q o) 1 0 + times s objects q child_list o
@@ -152,10 +152,9 @@ module _ (s : Sheet) (a : AcceptedSheet s) (few : count s objects ≤ state_obje
     where
       of_object : (o : ℕ) → o < state_objects → Each (λ (e : Entry). e.track < count s tracks) (cond (active st o) (object_entries s o) [])
       of_object o k =
-          (elim (active st o) as (λ b. active st o ≡ b → Each (λ (e : Entry). e.track < count s tracks) (cond (active st o) (object_entries s o) [])) [
-            | true ↦ λ e. rw e (object_each s a o (active_top s a few st h o k e).0)
-            | false ↦ λ e. rw e tt
-          ]) refl
+          cases (active st o)
+          (λ e. rw e (object_each s a o (active_top s a few st h o k e).0))
+          (λ e. rw e tt)
 
   -- how often a channel of object o is listed
   abbrev heard : ℕ → ℕ → ℕ
@@ -171,12 +170,11 @@ module _ (s : Sheet) (a : AcceptedSheet s) (few : count s objects ≤ state_obje
   -- an active object is heard from itself alone
   heard_itself : (o q : ℕ) → o < count s objects → active st o ≡ true → q < state_objects → heard o q ≡ cond (eqb o q) 1 0
   heard_itself o q l e k =
-      (elim (active st q) as (λ b. active st q ≡ b → heard o q ≡ cond (eqb o q) 1 0) [
-        | true ↦ λ f.
-            let none : times s objects q child_list o ≡ 0 = top_no_child s a o q l (active_top s a few st h q k f).0 (active_top s a few st h o (small o l) e).1 in
-            rw (f, none, add-zero, swapped q o)
-        | false ↦ λ f. rw (f, ne_eqb o q (λ z. true≢false (sym e ∙ ap (active st) z ∙ f)))
-      ]) refl
+      cases (active st q)
+      (λ f.
+      let none : times s objects q child_list o ≡ 0 = top_no_child s a o q l (active_top s a few st h q k f).0 (active_top s a few st h o (small o l) e).1 in
+      rw (f, none, add-zero, swapped q o))
+      (λ f. rw (f, ne_eqb o q (λ z. true≢false (sym e ∙ ap (active st) z ∙ f))))
 
   -- a child of one active object is heard from that alone
   child_lists : (o : ℕ) → o < count s objects → sum (λ q. times s objects q child_list o) (count s objects) ≤ 1
@@ -186,40 +184,35 @@ module _ (s : Sheet) (a : AcceptedSheet s) (few : count s objects ≤ state_obje
   elsewhere : (o r q : ℕ) → o < count s objects → r < count s objects → q < count s objects → 1 ≤ times s objects r child_list o → (r ≡ q → ⊥) → times s objects q child_list o ≡ 0
   elsewhere o r q l m n g d =
       let f : ℕ → ℕ = λ j. times s objects j child_list o in
-      (elim (ltb r q) as (λ b. ltb r q ≡ b → times s objects q child_list o ≡ 0) [
-        | true ↦ λ x. omega (arith, child_lists o l, sum_two f (count s objects) r q (ltb-true r q x) n)
-        | false ↦ λ x. (elim (ltb q r) as (λ b. ltb q r ≡ b → times s objects q child_list o ≡ 0) [
-          | true ↦ λ y. omega (arith, child_lists o l, sum_two f (count s objects) q r (ltb-true q r y) m)
-          | false ↦ λ y. absurd (d (omega (arith, ltb-false r q x, ltb-false q r y)))
-        ]) refl
-      ]) refl
+      cases (ltb r q)
+      (λ x. omega (arith, child_lists o l, sum_two f (count s objects) r q (ltb-true r q x) n))
+      (λ x. cases (ltb q r)
+      (λ y. omega (arith, child_lists o l, sum_two f (count s objects) q r (ltb-true q r y) m))
+      (λ y. absurd (d (omega (arith, ltb-false r q x, ltb-false q r y)))))
 
   heard_child : (o r q : ℕ) → o < count s objects → active st o ≡ false → r < count s objects → active st r ≡ true → 1 ≤ times s objects r child_list o → q < state_objects
       → heard o q ≡ cond (eqb r q) 1 0
   heard_child o r q l e m f g k =
-      (elim (eqb r q) as (λ b. eqb r q ≡ b → heard o q ≡ cond (eqb r q) 1 0) [
-        | true ↦ λ x.
-            let z : r ≡ q = eqb-true r q x in
-            let one : times s objects r child_list o ≡ 1 = omega (arith, child_lists o l, sum_one (λ j. times s objects j child_list o) (count s objects) r m) in
-            rw (x, sym z, f, one, ne_eqb r o (λ y. true≢false (sym f ∙ ap (active st) y ∙ e)))
-        | false ↦ λ x.
-            (elim (active st q) as (λ b. active st q ≡ b → heard o q ≡ cond (eqb r q) 1 0) [
-              | true ↦ λ y. rw (x, y, ne_eqb q o (λ z. true≢false (sym y ∙ ap (active st) z ∙ e)), elsewhere o r q l m (active_top s a few st h q k y).0 g (eqb-false r q x))
-              | false ↦ λ y. rw (x, y)
-            ]) refl
-      ]) refl
+      cases (eqb r q)
+      (λ x.
+      let z : r ≡ q = eqb-true r q x in
+      let one : times s objects r child_list o ≡ 1 = omega (arith, child_lists o l, sum_one (λ j. times s objects j child_list o) (count s objects) r m) in
+      rw (x, sym z, f, one, ne_eqb r o (λ y. true≢false (sym f ∙ ap (active st) y ∙ e))))
+      (λ x.
+      cases (active st q)
+      (λ y. rw (x, y, ne_eqb q o (λ z. true≢false (sym y ∙ ap (active st) z ∙ e)), elsewhere o r q l m (active_top s a few st h q k y).0 g (eqb-false r q x)))
+      (λ y. rw (x, y)))
 
   heard_once : (o : ℕ) → o < count s objects → sounds s st o ≡ true → sum (heard o) state_objects ≡ 1
   unfolding sounds
   heard_once o l e =
-      (elim (active st o) as (λ b. active st o ≡ b → sum (heard o) state_objects ≡ 1) [
-        | true ↦ λ f. sum_eq (heard o) (λ q. cond (eqb o q) 1 0) state_objects (λ q k. heard_itself o q l f k) ∙ sum_at (λ q. 1) o state_objects (small o l)
-        | false ↦ λ f.
-            let w = any_witness (λ q. active st q && lists s objects q child_list o) (count s objects) (rw f at e) in
-            let both = and_both (active st w.0) (lists s objects w.0 child_list o) w.2 in
-            sum_eq (heard o) (λ q. cond (eqb w.0 q) 1 0) state_objects (λ q k. heard_child o w.0 q l f w.1 both.0 (lists_times s objects w.0 child_list o both.1) k)
-            ∙ sum_at (λ q. 1) w.0 state_objects (small w.0 w.1)
-      ]) refl
+      cases (active st o)
+      (λ f. sum_eq (heard o) (λ q. cond (eqb o q) 1 0) state_objects (λ q k. heard_itself o q l f k) ∙ sum_at (λ q. 1) o state_objects (small o l))
+      (λ f.
+      let w = any_witness (λ q. active st q && lists s objects q child_list o) (count s objects) (rw f at e) in
+      let both = and_both (active st w.0) (lists s objects w.0 child_list o) w.2 in
+      sum_eq (heard o) (λ q. cond (eqb w.0 q) 1 0) state_objects (λ q k. heard_child o w.0 q l f w.1 both.0 (lists_times s objects w.0 child_list o both.1) k)
+      ∙ sum_at (λ q. 1) w.0 state_objects (small w.0 w.1))
 
   -- each sounding object with a pack has each channel of it once among its own entries
   pub channels_once : (o : ℕ) → o < count s objects → sounds s st o ≡ true → has_pack s o ≡ true → (n : ℕ) → n < field s packs (pack_of s o) pack_channels

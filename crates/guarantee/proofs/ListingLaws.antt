@@ -9,6 +9,7 @@ use native.Mathlib.Nat.{le_trans}
 use lib.Dec.{eqb}
 use lib.ListN.{length, length-append}
 use borrow.Author.Tests.{ltb-true, ltb-false, eqb-true, eq-eqb}
+use borrow.Table.Steps.{cases}
 use Rattle.sheet.specs.Words.{Sheet}
 use Rattle.sheet.specs.Layout.{count, field, number, entry}
 use Rattle.sheet.specs.Fields.{programmes, contents, objects, content_list, content_object, track_list, child_list}
@@ -55,10 +56,9 @@ module _ (s : Sheet) (a : AcceptedSheet s) where
   object_length o l =
       length-append (own_entries s o) (concat_below (λ i. own_entries s (entry s objects o child_list i)) (number s objects o child_list))
       ∙ ap₂ (λ (x y : ℕ). x + y) (own_length o) (children_length o (number s objects o child_list))
-      ∙ (elim (has_children s o) as (λ b. has_children s o ≡ b → number s objects o track_list + sum (λ i. number s objects (entry s objects o child_list i) track_list) (number s objects o child_list) ≡ size s o) [
-        | true ↦ λ e. rw (e, no_tracks o l e) (omega arith)
-        | false ↦ λ e. rw (e, no_children o e) (unfold sum in omega arith)
-      ]) refl
+      ∙ cases (has_children s o)
+      (λ e. rw (e, no_tracks o l e) (omega arith))
+      (λ e. rw (e, no_children o e) (unfold sum in omega arith))
 
   -- and there is one at least
   leaf_size : (o : ℕ) → o < count s objects → has_pack s o ≡ true → 1 ≤ number s objects o track_list
@@ -67,13 +67,12 @@ module _ (s : Sheet) (a : AcceptedSheet s) where
   pub some_size : (o : ℕ) → o < count s objects → 1 ≤ size s o
   unfolding size
   some_size o l =
-      (elim (has_children s o) as (λ b. has_children s o ≡ b → 1 ≤ size s o) [
-        | true ↦ λ e.
-            let n : 0 < number s objects o child_list = unfold has_children in ltb-true _ _ e in
-            let c : ℕ = entry s objects o child_list 0 in
-            rw e (le_trans (leaf_size c (a.child_index o 0 l n) (a.child_pack o 0 l n)) (sum_one (λ i. number s objects (entry s objects o child_list i) track_list) (number s objects o child_list) 0 n))
-        | false ↦ λ e. rw e (leaf_size o l (a.pack_or_children o l ∙ ap not e))
-      ]) refl
+      cases (has_children s o)
+      (λ e.
+      let n : 0 < number s objects o child_list = unfold has_children in ltb-true _ _ e in
+      let c : ℕ = entry s objects o child_list 0 in
+      rw e (le_trans (leaf_size c (a.child_index o 0 l n) (a.child_pack o 0 l n)) (sum_one (λ i. number s objects (entry s objects o child_list i) track_list) (number s objects o child_list) 0 n)))
+      (λ e. rw e (leaf_size o l (a.pack_or_children o l ∙ ap not e)))
 
 -- a part of a test counts no more than the whole
 part_count : (b c : Bool) → cond (b && c) 1 0 ≤ cond b 1 0
@@ -89,26 +88,24 @@ none false = zero-le
 among_members : (s : Sheet) (st : State) (u o : ℕ) → leader s u ≡ true
     → cond (active st o && eqb (leader_of s o) u) 1 0 ≤ sum (λ i. cond (eqb (member s u i) o) (cond (active st o) 1 0) 0) (members s u)
 among_members s st u o e =
-    (elim (eqb (leader_of s o) u) as (λ b. eqb (leader_of s o) u ≡ b → cond (active st o && eqb (leader_of s o) u) 1 0 ≤ sum (λ i. cond (eqb (member s u i) o) (cond (active st o) 1 0) 0) (members s u)) [
-      | true ↦ λ q.
-          let z : leader_of s o ≡ u = eqb-true (leader_of s o) u q in
-          let w = member_at s o u z e in
-          let f : ℕ → ℕ = λ i. cond (eqb (member s u i) o) (cond (active st o) 1 0) 0 in
-          let at_it : f w.0 ≡ cond (active st o) 1 0 = ap (λ (b : Bool). cond b (cond (active st o) 1 0) 0) (eq-eqb (member s u w.0) o w.2) in
-          le_trans (part_count (active st o) (eqb (leader_of s o) u)) (rw at_it at (sum_one f (members s u) w.0 w.1))
-      | false ↦ λ q. rw q (none (active st o))
-    ]) refl
+    cases (eqb (leader_of s o) u)
+    (λ q.
+    let z : leader_of s o ≡ u = eqb-true (leader_of s o) u q in
+    let w = member_at s o u z e in
+    let f : ℕ → ℕ = λ i. cond (eqb (member s u i) o) (cond (active st o) 1 0) 0 in
+    let at_it : f w.0 ≡ cond (active st o) 1 0 = ap (λ (b : Bool). cond b (cond (active st o) 1 0) 0) (eq-eqb (member s u w.0) o w.2) in
+    le_trans (part_count (active st o) (eqb (leader_of s o) u)) (rw at_it at (sum_one f (members s u) w.0 w.1)))
+    (λ q. rw q (none (active st o)))
 
 -- where u is no leader, it alone has itself for a leader
 only_itself : (s : Sheet) (st : State) (u o : ℕ) → leader s u ≡ false → cond (active st o && eqb (leader_of s o) u) 1 0 ≤ cond (eqb u o) 1 0
 only_itself s st u o e =
-    (elim (eqb (leader_of s o) u) as (λ b. eqb (leader_of s o) u ≡ b → cond (active st o && eqb (leader_of s o) u) 1 0 ≤ cond (eqb u o) 1 0) [
-      | true ↦ λ q.
-          let z : leader_of s o ≡ u = eqb-true (leader_of s o) u q in
-          let y : u ≡ o = sym z ∙ no_leader s o (rw z e) in
-          rw (eq-eqb u o y) (le_trans (part_count (active st o) (eqb (leader_of s o) u)) (small_count (active st o)))
-      | false ↦ λ q. rw q (none (active st o))
-    ]) refl
+    cases (eqb (leader_of s o) u)
+    (λ q.
+    let z : leader_of s o ≡ u = eqb-true (leader_of s o) u q in
+    let y : u ≡ o = sym z ∙ no_leader s o (rw z e) in
+    rw (eq-eqb u o y) (le_trans (part_count (active st o) (eqb (leader_of s o) u)) (small_count (active st o))))
+    (λ q. rw q (none (active st o)))
   where
     small_count : (b : Bool) → cond b 1 0 ≤ 1
     small_count true = omega arith
@@ -133,10 +130,9 @@ lone_share s o t e =
   where
     alone : complement s o ≡ false
     alone =
-        (elim (complement s o) as (λ b. complement s o ≡ b → complement s o ≡ false) [
-          | true ↦ λ c. absurd (true≢false (sym (lists_leader s (leader_of s o) o (leader_lists s o c).1) ∙ e))
-          | false ↦ λ c. c
-        ]) refl
+        cases (complement s o)
+        (λ c. absurd (true≢false (sym (lists_leader s (leader_of s o) o (leader_lists s o c).1) ∙ e)))
+        (λ c. c)
 
 module _ (s : Sheet) (a : AcceptedSheet s) (few : count s objects ≤ state_objects) (st : State) (h : sound s st ≡ true) where
   abbrev p : ℕ
@@ -149,20 +145,18 @@ module _ (s : Sheet) (a : AcceptedSheet s) (few : count s objects ≤ state_obje
   active_included : (o : ℕ) → o < state_objects → active st o ≡ true → includes s p o ≡ true
   unfolding active
   active_included o k e =
-      (elim (includes s p o) as (λ b. includes s p o ≡ b → includes s p o ≡ true) [
-        | true ↦ λ i. i
-        | false ↦ λ i. absurd (true≢false (sym e ∙ (resting_parts (setting st o) (rest_parts s st o i (sound_object s st h o k))).0))
-      ]) refl
+      cases (includes s p o)
+      (λ i. i)
+      (λ i. absurd (true≢false (sym e ∙ (resting_parts (setting st o) (rest_parts s st o i (sound_object s st h o k))).0)))
 
   pub active_top : (o : ℕ) → o < state_objects → active st o ≡ true → (o < count s objects) × (top s o ≡ true)
   active_top o k e = included_top s a p o p_index (active_included o k e)
 
   inactive_past : (o : ℕ) → count s objects ≤ o → o < state_objects → active st o ≡ false
   inactive_past o g k =
-      (elim (active st o) as (λ b. active st o ≡ b → active st o ≡ false) [
-        | true ↦ λ e. absurd (omega (arith, (active_top o k e).0))
-        | false ↦ λ e. e
-      ]) refl
+      cases (active st o)
+      (λ e. absurd (omega (arith, (active_top o k e).0)))
+      (λ e. e)
 
   small : (o : ℕ) → o < count s objects → o < state_objects
   small o l = omega arith
@@ -205,10 +199,9 @@ module _ (s : Sheet) (a : AcceptedSheet s) (few : count s objects ≤ state_obje
     where
       implied : (o : ℕ) → o < count s objects → cond (active st o) 1 0 ≤ cond (includes s p o) 1 0
       implied o k =
-          (elim (active st o) as (λ b. active st o ≡ b → cond (active st o) 1 0 ≤ cond (includes s p o) 1 0) [
-            | true ↦ λ e. rw (e, active_included o (small o k) e) (omega arith)
-            | false ↦ λ e. rw e zero-le
-          ]) refl
+          cases (active st o)
+          (λ e. rw (e, active_included o (small o k) e) (omega arith))
+          (λ e. rw e zero-le)
 
   one_member : (l : ℕ) → l < count s objects → leader s l ≡ true → active_members s st l ≤ 1
   one_member l m e =
@@ -239,19 +232,17 @@ module _ (s : Sheet) (a : AcceptedSheet s) (few : count s objects ≤ state_obje
 
   one_of_unit : (u : ℕ) → u < count s objects → how_many (of_unit u) (count s objects) ≤ 1
   one_of_unit u m =
-      (elim (leader s u) as (λ b. leader s u ≡ b → how_many (of_unit u) (count s objects) ≤ 1) [
-        | true ↦ λ e. le_trans (unit_of_leader u m e) (one_member u m e)
-        | false ↦ λ e. unit_of_single u m e
-      ]) refl
+      cases (leader s u)
+      (λ e. le_trans (unit_of_leader u m e) (one_member u m e))
+      (λ e. unit_of_single u m e)
 
   -- an active object is no larger than its unit's share
   in_share : (o : ℕ) → o < count s objects → active st o ≡ true → (leader_of s o < count s objects) × (size s o ≤ share s (leader_of s o))
   in_share o l e = (
     leader_index s a o l,
-    (elim (leader s (leader_of s o)) as (λ b. leader s (leader_of s o) ≡ b → size s o ≤ share s (leader_of s o)) [
-      | true ↦ λ q. member_share s o q
-      | false ↦ λ q. rw (no_leader s o q) (lone_share s o (active_top o (small o l) e).1 q)
-    ]) refl,
+    cases (leader s (leader_of s o))
+        (λ q. member_share s o q)
+        (λ q. rw (no_leader s o q) (lone_share s o (active_top o (small o l) e).1 q)),
   )
 
   -- the upper bound: at most the counted tracks
@@ -271,15 +262,14 @@ module _ (s : Sheet) (a : AcceptedSheet s) (few : count s objects ≤ state_obje
   some_active : (o : ℕ) × (o < count s objects) × (active st o ≡ true)
   some_active =
       let l = (included_top s a p first_object p_index first_included).0 in
-      (elim (in_whole_group s p first_object) as (λ b. in_whole_group s p first_object ≡ b → (o : ℕ) × (o < count s objects) × (active st o ≡ true)) [
-        | true ↦ λ w.
-            let g : ℕ = leader_of s first_object in
-            let one : how_many (λ i. active st (member s g i)) (members s g) ≡ 1 = unfold active_members in whole_active first_object l first_included w in
-            let t : any (λ i. active st (member s g i)) (members s g) ≡ true = any_how_many (λ i. active st (member s g i)) (members s g) ∙ ap (λ (n : ℕ). not (eqb n 0)) one in
-            let k = any_witness (λ i. active st (member s g i)) (members s g) t in
-            (member s g k.0, member_index s a g k.0 (leader_index s a first_object l) k.1, k.2)
-        | false ↦ λ w. (first_object, l, single_active first_object l first_included w)
-      ]) refl
+      cases (in_whole_group s p first_object)
+      (λ w.
+      let g : ℕ = leader_of s first_object in
+      let one : how_many (λ i. active st (member s g i)) (members s g) ≡ 1 = unfold active_members in whole_active first_object l first_included w in
+      let t : any (λ i. active st (member s g i)) (members s g) ≡ true = any_how_many (λ i. active st (member s g i)) (members s g) ∙ ap (λ (n : ℕ). not (eqb n 0)) one in
+      let k = any_witness (λ i. active st (member s g i)) (members s g) t in
+      (member s g k.0, member_index s a g k.0 (leader_index s a first_object l) k.1, k.2))
+      (λ w. (first_object, l, single_active first_object l first_included w))
 
   pub listing_least : 1 ≤ length (entries s st)
   listing_least =

@@ -7,6 +7,7 @@ use native.Mathlib.Omega.{arith}
 use lib.IntN.{ℤ}
 use lib.ListN.{length, length-set}
 use borrow.Author.Tests.{leb-false, not-false, lt-ltb}
+use borrow.Table.Steps.{cases}
 use Rattle.std.specs.Prelude.{Ok, Err}
 use Rattle.sheet.specs.Words.{Sheet}
 use Rattle.sheet.specs.Layout.{count}
@@ -37,10 +38,9 @@ use Rattle.guarantee.proofs.SoundLaws.{start_sound, sound_programme, sound_objec
 pub done_ground : (g : Ground) (gs : List Ground) → answer_by (g ∷ gs) ≡ Ok tt → (g.holds ≡ false) × (answer_by gs ≡ Ok tt)
 unfolding answer_by
 done_ground g gs e =
-    (elim g.holds as (λ b. g.holds ≡ b → (g.holds ≡ false) × (answer_by gs ≡ Ok tt)) [
-      | true ↦ λ h. let z : ◌≡◌ {A = Answer} (Err g.refusal) (Ok tt) = rw h at e in let y : ◌≡◌ {A = ℕ} 0 1 = cc in absurd (omega arith)
-      | false ↦ λ h. (h, rw h at e)
-    ]) refl
+    cases g.holds
+    (λ h. let z : ◌≡◌ {A = Answer} (Err g.refusal) (Ok tt) = rw h at e in let y : ◌≡◌ {A = ℕ} 0 1 = cc in absurd (omega arith))
+    (λ h. (h, rw h at e))
 
 -- grounds that come behind 25 and 26
 abbrev Later : List Ground → Type 0
@@ -51,10 +51,9 @@ later_answer : (gs : List Ground) → Later gs → (r : Refusal) → answer_by g
 unfolding answer_by
 later_answer [] later r e = let y : ◌≡◌ {A = ℕ} 0 1 = cc in absurd (omega arith)
 later_answer (g ∷ gs) later r e =
-    (elim g.holds as (λ b. g.holds ≡ b → 27 ≤ refusal_number r) [
-      | true ↦ λ h. let z : ◌≡◌ {A = Answer} (Err g.refusal) (Err r) = rw h at e in let q : g.refusal ≡ r = cc in rw (sym q) later.0
-      | false ↦ λ h. later_answer gs later.1 r (rw h at e)
-    ]) refl
+    cases g.holds
+    (λ h. let z : ◌≡◌ {A = Answer} (Err g.refusal) (Err r) = rw h at e in let q : g.refusal ≡ r = cc in rw (sym q) later.0)
+    (λ h. later_answer gs later.1 r (rw h at e))
 
 -- what holds of the given state, and of the one made if the call is done, holds of the one handed back
 handed_back : (P : State → Type 0) (answer : Answer) (given made : State) → P given → (answer ≡ Ok tt → P made) → P (reply_by answer given made).state

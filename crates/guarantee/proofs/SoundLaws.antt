@@ -9,6 +9,7 @@ use lib.Signed.{le_z}
 use lib.ListN.{length}
 use lib.Seq.{get_or-set_same, get_or-set_other}
 use borrow.Author.Tests.{ltb-true, lt-ltb, eqb-true, eqb-false, eq-eqb, ne_eqb}
+use borrow.Table.Steps.{cases}
 use Rattle.sheet.specs.Words.{Sheet}
 use Rattle.sheet.specs.Layout.{count, number, entry}
 use Rattle.sheet.specs.Fields.{programmes, objects, complement_list}
@@ -154,12 +155,11 @@ module _ (s : Sheet) (a : AcceptedSheet s) (few : count s objects ≤ state_obje
   start_activity : (p o : ℕ) → p < count s programmes → o < state_objects → includes s p o ≡ true → sound_activity s (started s p) o ≡ true
   unfolding sound_activity started
   start_activity p o l k e =
-      (elim (in_whole_group s p o) as (λ b. in_whole_group s p o ≡ b → sound_activity s (started s p) o ≡ true) [
-        | true ↦ λ w.
-            let parts = whole_parts s p o w in
-            rw w (eq-eqb (active_members s (started s p) (leader_of s o)) 1 (start_group p (leader_of s o) (leader_index s a o (included_top s a p o l e).0) parts.0 parts.1))
-        | false ↦ λ w. rw w (start_active s p o k e ∙ alone w)
-      ]) refl
+      cases (in_whole_group s p o)
+      (λ w.
+      let parts = whole_parts s p o w in
+      rw w (eq-eqb (active_members s (started s p) (leader_of s o)) 1 (start_group p (leader_of s o) (leader_index s a o (included_top s a p o l e).0) parts.0 parts.1)))
+      (λ w. rw w (start_active s p o k e ∙ alone w))
     where
       alone : in_whole_group s p o ≡ false → starts_active s p o ≡ true
       alone w = unfold starts_active in rw w
@@ -167,14 +167,13 @@ module _ (s : Sheet) (a : AcceptedSheet s) (few : count s objects ≤ state_obje
   start_sound_at : (p o : ℕ) → p < count s programmes → o < state_objects → sound_at s (started s p) o ≡ true
   unfolding started
   start_sound_at p o l k =
-      (elim (includes s p o) as (λ b. includes s p o ≡ b → sound_at s (started s p) o ≡ true) [
-        | true ↦ λ e.
-            let x = start_at s p o k ∙ start_included s p o e in
-            included_sound s (started s p) o e (start_activity p o l k e)
-            (ap (λ (y : Setting). sound_gain s p o y.gain) x ∙ start_gain s p o)
-            (ap (λ (y : Setting). sound_offset s p o y.offset) x ∙ start_offset s p o)
-        | false ↦ λ e. rest_sound s (started s p) o e (ap is_resting (start_at s p o k ∙ start_rest s p o e) ∙ rests)
-      ]) refl
+      cases (includes s p o)
+      (λ e.
+      let x = start_at s p o k ∙ start_included s p o e in
+      included_sound s (started s p) o e (start_activity p o l k e)
+      (ap (λ (y : Setting). sound_gain s p o y.gain) x ∙ start_gain s p o)
+      (ap (λ (y : Setting). sound_offset s p o y.offset) x ∙ start_offset s p o))
+      (λ e. rest_sound s (started s p) o e (ap is_resting (start_at s p o k ∙ start_rest s p o e) ∙ rests))
     where
       rests : is_resting resting ≡ true
       rests = unfold is_resting same_gain same_offset at_most in refl
@@ -199,14 +198,13 @@ activity_same s x y o e m n h = by x.programme y.programme (active_members s x (
 -- an object whose setting is as before, and whose activity is still sound, is still sound
 kept : (s : Sheet) (x y : State) (o : ℕ) → x.programme ≡ y.programme → setting x o ≡ setting y o → (includes s y.programme o ≡ true → sound_activity s y o ≡ true → sound_activity s x o ≡ true) → sound_at s y o ≡ true → sound_at s x o ≡ true
 kept s x y o e f g h =
-    (elim (includes s y.programme o) as (λ b. includes s y.programme o ≡ b → sound_at s x o ≡ true) [
-      | true ↦ λ i.
-          let parts = included_parts s y o i h in
-          included_sound s x o (ap (λ (p : ℕ). includes s p o) e ∙ i) (g i parts.0)
-          (ap₂ (λ (p : ℕ) (w : Setting). sound_gain s p o w.gain) e f ∙ parts.1)
-          (ap₂ (λ (p : ℕ) (w : Setting). sound_offset s p o w.offset) e f ∙ parts.2)
-      | false ↦ λ i. rest_sound s x o (ap (λ (p : ℕ). includes s p o) e ∙ i) (ap is_resting f ∙ rest_parts s y o i h)
-    ]) refl
+    cases (includes s y.programme o)
+    (λ i.
+    let parts = included_parts s y o i h in
+    included_sound s x o (ap (λ (p : ℕ). includes s p o) e ∙ i) (g i parts.0)
+    (ap₂ (λ (p : ℕ) (w : Setting). sound_gain s p o w.gain) e f ∙ parts.1)
+    (ap₂ (λ (p : ℕ) (w : Setting). sound_offset s p o w.offset) e f ∙ parts.2))
+    (λ i. rest_sound s x o (ap (λ (p : ℕ). includes s p o) e ∙ i) (ap is_resting f ∙ rest_parts s y o i h))
 
 -- storing a setting that is as active as the one before
 module _ (s : Sheet) (st : State) (o : ℕ) (x : Setting) (long : length st.objects ≡ state_objects) (l : o < state_objects) (alike : x.active ≡ (setting st o).active) where
@@ -224,10 +222,9 @@ module _ (s : Sheet) (st : State) (o : ℕ) (x : Setting) (long : length st.obje
   stored_active : (q : ℕ) → active next q ≡ active st q
   unfolding active
   stored_active q =
-      (elim (eqb q o) as (λ b. eqb q o ≡ b → (setting next q).active ≡ (setting st q).active) [
-        | true ↦ λ e. let z : q ≡ o = eqb-true q o e in rw z (ap (λ (y : Setting). y.active) stored_here ∙ alike)
-        | false ↦ λ e. ap (λ (y : Setting). y.active) (stored_other q (eqb-false q o e))
-      ]) refl
+      cases (eqb q o)
+      (λ e. let z : q ≡ o = eqb-true q o e in rw z (ap (λ (y : Setting). y.active) stored_here ∙ alike))
+      (λ e. ap (λ (y : Setting). y.active) (stored_other q (eqb-false q o e)))
 
   stored_activity : (q : ℕ) → sound_activity s st q ≡ true → sound_activity s next q ≡ true
   stored_activity q h = activity_same s next st q (unfold with_setting in refl) (members_same s next st (leader_of s q) (λ i m. stored_active (member s (leader_of s q) i))) (stored_active q) h
@@ -236,15 +233,14 @@ module _ (s : Sheet) (st : State) (o : ℕ) (x : Setting) (long : length st.obje
       → (q : ℕ) → q < state_objects → sound_at s next q ≡ true
   unfolding with_setting
   stored_at h e g z q k =
-      (elim (eqb q o) as (λ b. eqb q o ≡ b → sound_at s next q ≡ true) [
-        | true ↦ λ f.
-            let y : q ≡ o = eqb-true q o f in
-            let parts = included_parts s st o e (sound_object s st h o l) in
-            rw y (included_sound s next o e (stored_activity o parts.0)
-            (ap (λ (w : Setting). sound_gain s st.programme o w.gain) stored_here ∙ g)
-            (ap (λ (w : Setting). sound_offset s st.programme o w.offset) stored_here ∙ z))
-        | false ↦ λ f. kept s next st q refl (stored_other q (eqb-false q o f)) (λ i y. stored_activity q y) (sound_object s st h q k)
-      ]) refl
+      cases (eqb q o)
+      (λ f.
+      let y : q ≡ o = eqb-true q o f in
+      let parts = included_parts s st o e (sound_object s st h o l) in
+      rw y (included_sound s next o e (stored_activity o parts.0)
+      (ap (λ (w : Setting). sound_gain s st.programme o w.gain) stored_here ∙ g)
+      (ap (λ (w : Setting). sound_offset s st.programme o w.offset) stored_here ∙ z)))
+      (λ f. kept s next st q refl (stored_other q (eqb-false q o f)) (λ i y. stored_activity q y) (sound_object s st h q k))
 
   -- is sound where the new gain and offset are
   pub stored_sound : sound s st ≡ true → includes s st.programme o ≡ true → sound_gain s st.programme o x.gain ≡ true → sound_offset s st.programme o x.offset ≡ true
@@ -313,10 +309,9 @@ module _ (s : Sheet) (a : AcceptedSheet s) (few : count s objects ≤ state_obje
   other_activity : (q : ℕ) → q < state_objects → includes s st.programme q ≡ true → (leader_of s q ≡ l → ⊥) → sound_activity s st q ≡ true → sound_activity s moved q ≡ true
   other_activity q k i f x =
       let q_index = (included_top s a st.programme q (sound_programme s st h) i).0 in
-      (elim (leader s (leader_of s q)) as (λ b. leader s (leader_of s q) ≡ b → sound_activity s moved q ≡ true) [
-        | true ↦ λ y. activity_same s moved st q refl (other_group (leader_of s q) (leader_index s a q q_index) y f) (unfold active in ap (λ (z : Setting). z.active) (moved_other q k f)) x
-        | false ↦ λ y. lone_parts s moved q y ∙ unfold active in ap (λ (z : Setting). z.active) (moved_other q k f) ∙ sym (lone_parts s st q y) ∙ x
-      ]) refl
+      cases (leader s (leader_of s q))
+      (λ y. activity_same s moved st q refl (other_group (leader_of s q) (leader_index s a q q_index) y f) (unfold active in ap (λ (z : Setting). z.active) (moved_other q k f)) x)
+      (λ y. lone_parts s moved q y ∙ unfold active in ap (λ (z : Setting). z.active) (moved_other q k f) ∙ sym (lone_parts s st q y) ∙ x)
 
   group_included : (q : ℕ) → leader_of s q ≡ l → includes s st.programme q ≡ true
   group_included q f =
@@ -329,18 +324,17 @@ module _ (s : Sheet) (a : AcceptedSheet s) (few : count s objects ≤ state_obje
 
   moved_at : (q : ℕ) → q < state_objects → sound_at s moved q ≡ true
   moved_at q k =
-      (elim (eqb (leader_of s q) l) as (λ b. eqb (leader_of s q) l ≡ b → sound_at s moved q ≡ true) [
-        | true ↦ λ x.
-            let f : leader_of s q ≡ l = eqb-true (leader_of s q) l x in
-            let i = group_included q f in
-            let parts = included_parts s st q i (sound_object s st h q k) in
-            included_sound s moved q i (group_activity q f)
-            (ap (λ (y : Setting). sound_gain s st.programme q y.gain) (moved_here q k f) ∙ parts.1)
-            (ap (λ (y : Setting). sound_offset s st.programme q y.offset) (moved_here q k f) ∙ parts.2)
-        | false ↦ λ x.
-            let f = eqb-false (leader_of s q) l x in
-            kept s moved st q refl (moved_other q k f) (λ i y. other_activity q k i f y) (sound_object s st h q k)
-      ]) refl
+      cases (eqb (leader_of s q) l)
+      (λ x.
+      let f : leader_of s q ≡ l = eqb-true (leader_of s q) l x in
+      let i = group_included q f in
+      let parts = included_parts s st q i (sound_object s st h q k) in
+      included_sound s moved q i (group_activity q f)
+      (ap (λ (y : Setting). sound_gain s st.programme q y.gain) (moved_here q k f) ∙ parts.1)
+      (ap (λ (y : Setting). sound_offset s st.programme q y.offset) (moved_here q k f) ∙ parts.2))
+      (λ x.
+      let f = eqb-false (leader_of s q) l x in
+      kept s moved st q refl (moved_other q k f) (λ i y. other_activity q k i f y) (sound_object s st h q k))
 
   -- leaves the state sound
   pub moved_sound : sound s moved ≡ true

@@ -5,6 +5,7 @@ use mathlib.Core.Bool.{Bool, true, false, cond}
 use native.Mathlib.Omega.{arith}
 use lib.Dec.{eqb, ltb}
 use borrow.Author.Tests.{ltb-true, ltb-false}
+use borrow.Table.Steps.{cases}
 use Rattle.sheet.specs.Words.{Sheet}
 use Rattle.sheet.specs.Layout.{count, field, number}
 use Rattle.sheet.specs.Fields.{programmes, objects, value_sets, set_list, set_own}
@@ -23,10 +24,9 @@ use Rattle.granted.specs.Granted.{start_value, granted_minimum, granted_maximum}
 legal_or : (t : Sort) (w d : ℕ) → Legal t w → is_value t d ≡ true → is_value t (or_else w d) ≡ true
 unfolding or_else
 legal_or t w d h e =
-    (elim (is_absent w) as (λ b. is_absent w ≡ b → is_value t (cond (is_absent w) d w) ≡ true) [
-      | true ↦ λ q. rw q e
-      | false ↦ λ q. rw q (rw q at h)
-    ]) refl
+    cases (is_absent w)
+    (λ q. rw q e)
+    (λ q. rw q (rw q at h))
 
 -- what is counted once is in one place
 pub once : (p : ℕ → Bool) (n i j : ℕ) → how_many p n ≡ 1 → i < n → j < n → p i ≡ true → p j ≡ true → i ≡ j
@@ -35,13 +35,11 @@ once p n i j e l m a b =
     let one : sum f n ≡ 1 = sym (how_many_sum p n) ∙ e in
     let fi : f i ≡ 1 = ap (λ (t : Bool). cond t 1 0) a in
     let fj : f j ≡ 1 = ap (λ (t : Bool). cond t 1 0) b in
-    (elim (ltb i j) as (λ t. ltb i j ≡ t → i ≡ j) [
-      | true ↦ λ x. absurd (omega (arith, sum_two f n i j (ltb-true i j x) m))
-      | false ↦ λ x. (elim (ltb j i) as (λ t. ltb j i ≡ t → i ≡ j) [
-        | true ↦ λ y. absurd (omega (arith, sum_two f n j i (ltb-true j i y) l))
-        | false ↦ λ y. omega (arith, ltb-false i j x, ltb-false j i y)
-      ]) refl
-    ]) refl
+    cases (ltb i j)
+    (λ x. absurd (omega (arith, sum_two f n i j (ltb-true i j x) m)))
+    (λ x. cases (ltb j i)
+    (λ y. absurd (omega (arith, sum_two f n j i (ltb-true j i y) l)))
+    (λ y. omega (arith, ltb-false i j x, ltb-false j i y)))
 
 module _ (s : Sheet) (a : AcceptedSheet s) where
   -- the owner of a set is the object whose span has it
@@ -69,36 +67,32 @@ module _ (s : Sheet) (a : AcceptedSheet s) where
   pub start_legal : (p o : ℕ) (t : Sort) → p < count s programmes → o < count s objects → is_value t (start_value s p o t) ≡ true
   unfolding start_value effective_value
   start_legal p o t l m =
-      (elim (names_set s p o) as (λ b. names_set s p o ≡ b → is_value t (start_value s p o t) ≡ true) [
-        | true ↦ λ e. rw e (legal_or t (field s value_sets (set_for s p o) (set_value t)) (own_value s o t) (a.set_value_lem (set_for s p o) t (named p o l e).0) (own_legal o t m))
-        | false ↦ λ e. rw e (own_legal o t m)
-      ]) refl
+      cases (names_set s p o)
+      (λ e. rw e (legal_or t (field s value_sets (set_for s p o) (set_value t)) (own_value s o t) (a.set_value_lem (set_for s p o) t (named p o l e).0) (own_legal o t m)))
+      (λ e. rw e (own_legal o t m))
 
   pub start_within : (p o : ℕ) (t : Sort) → p < count s programmes → o < count s objects → Within t (granted_minimum s p o t) (start_value s p o t) (granted_maximum s p o t)
   unfolding start_value granted_minimum granted_maximum
   start_within p o t l m =
-      (elim (names_set s p o) as (λ b. names_set s p o ≡ b → Within t (granted_minimum s p o t) (start_value s p o t) (granted_maximum s p o t)) [
-        | true ↦ λ e.
-            let n = named p o l e in
-            rw e (rw (owner_of o (set_for s p o) m n.0 n.1) at (a.set_within (set_for s p o) t n.0))
-        | false ↦ λ e. rw e (a.object_within o t m)
-      ]) refl
+      cases (names_set s p o)
+      (λ e.
+      let n = named p o l e in
+      rw e (rw (owner_of o (set_for s p o) m n.0 n.1) at (a.set_within (set_for s p o) t n.0)))
+      (λ e. rw e (a.object_within o t m))
 
   effective_legal : (o v : ℕ) (t : Sort) → o < count s objects → v < count s value_sets → LegalRange t (effective_minimum s o v t) (effective_maximum s o v t)
   unfolding effective_minimum effective_maximum
   effective_legal o v t l m =
-      (elim (eqb (field s value_sets v set_own) 1) as (λ b. eqb (field s value_sets v set_own) 1 ≡ b → LegalRange t (effective_minimum s o v t) (effective_maximum s o v t)) [
-        | true ↦ λ e. rw e (a.set_range_lem v t m)
-        | false ↦ λ e. rw e (a.object_range_lem o t l)
-      ]) refl
+      cases (eqb (field s value_sets v set_own) 1)
+      (λ e. rw e (a.set_range_lem v t m))
+      (λ e. rw e (a.object_range_lem o t l))
 
   pub granted_legal : (p o : ℕ) (t : Sort) → p < count s programmes → o < count s objects → LegalRange t (granted_minimum s p o t) (granted_maximum s p o t)
   unfolding granted_minimum granted_maximum
   granted_legal p o t l m =
-      (elim (names_set s p o) as (λ b. names_set s p o ≡ b → LegalRange t (granted_minimum s p o t) (granted_maximum s p o t)) [
-        | true ↦ λ e. rw e (effective_legal o (set_for s p o) t m (named p o l e).0)
-        | false ↦ λ e. rw e (a.object_range_lem o t m)
-      ]) refl
+      cases (names_set s p o)
+      (λ e. rw e (effective_legal o (set_for s p o) t m (named p o l e).0))
+      (λ e. rw e (a.object_range_lem o t m))
 
   -- 0 is in every range that is granted
   pub zero_within : (p o : ℕ) (t : Sort) → p < count s programmes → o < count s objects → Within t (granted_minimum s p o t) 0 (granted_maximum s p o t)

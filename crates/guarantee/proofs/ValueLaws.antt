@@ -6,6 +6,7 @@ use mathlib.Core.Logic.{◌⊎◌, inl, inr, ⊎_elim}
 use native.Mathlib.Omega.{arith}
 use lib.IntN.{pos}
 use borrow.Author.Tests.{not-true}
+use borrow.Table.Steps.{cases}
 use Rattle.sheet.specs.Words.{Sheet}
 use Rattle.sheet.specs.Layout.{count}
 use Rattle.sheet.specs.Fields.{programmes, objects}
@@ -50,47 +51,42 @@ module _ (s : Sheet) (a : AcceptedSheet s) (few : count s objects ≤ state_obje
   -- an object's gain: its start value, or legal in the granted range, or 0 where it is not included
   gain_cases : ((setting st o).gain ≡ (start_setting s p o).gain) ⊎ ((grants s p o Gains ≡ true) × (gain_fits s p o (setting st o).gain ≡ true))
   gain_cases =
-      (elim (includes s p o) as (λ b. includes s p o ≡ b → ((setting st o).gain ≡ (start_setting s p o).gain) ⊎ ((grants s p o Gains ≡ true) × (gain_fits s p o (setting st o).gain ≡ true))) [
-        | true ↦ λ e.
-            ⊎_elim
-            (λ q. inl (same_gain_lem (setting st o).gain (gain_of (start_value s p o Gains)) q ∙ sym (ap (λ (x : Setting). x.gain) (start_included s p o e))))
-            (λ q. inr (and_both (grants s p o Gains) (gain_fits s p o (setting st o).gain) q))
-            (or_either (same_gain (setting st o).gain (gain_of (start_value s p o Gains))) (grants s p o Gains && gain_fits s p o (setting st o).gain) (unfold sound_gain in (included_parts s st o e here).1))
-        | false ↦ λ e. inl ((resting_parts (setting st o) (rest_parts s st o e here)).1 ∙ sym (ap (λ (x : Setting). x.gain) (start_rest s p o e)))
-      ]) refl
+      cases (includes s p o)
+      (λ e.
+      ⊎_elim
+      (λ q. inl (same_gain_lem (setting st o).gain (gain_of (start_value s p o Gains)) q ∙ sym (ap (λ (x : Setting). x.gain) (start_included s p o e))))
+      (λ q. inr (and_both (grants s p o Gains) (gain_fits s p o (setting st o).gain) q))
+      (or_either (same_gain (setting st o).gain (gain_of (start_value s p o Gains))) (grants s p o Gains && gain_fits s p o (setting st o).gain) (unfold sound_gain in (included_parts s st o e here).1)))
+      (λ e. inl ((resting_parts (setting st o) (rest_parts s st o e here)).1 ∙ sym (ap (λ (x : Setting). x.gain) (start_rest s p o e))))
 
   offset_cases : ((setting st o).offset ≡ (start_setting s p o).offset) ⊎ ((grants s p o Offsets ≡ true) × (offset_fits s p o (setting st o).offset ≡ true))
   offset_cases =
-      (elim (includes s p o) as (λ b. includes s p o ≡ b → ((setting st o).offset ≡ (start_setting s p o).offset) ⊎ ((grants s p o Offsets ≡ true) × (offset_fits s p o (setting st o).offset ≡ true))) [
-        | true ↦ λ e.
-            ⊎_elim
-            (λ q. inl (same_offset_lem (setting st o).offset (signed_of (start_value s p o Offsets)) q ∙ sym (ap (λ (x : Setting). x.offset) (start_included s p o e))))
-            (λ q. inr (and_both (grants s p o Offsets) (offset_fits s p o (setting st o).offset) q))
-            (or_either (same_offset (setting st o).offset (signed_of (start_value s p o Offsets))) (grants s p o Offsets && offset_fits s p o (setting st o).offset) (unfold sound_offset in (included_parts s st o e here).2))
-        | false ↦ λ e. inl ((resting_parts (setting st o) (rest_parts s st o e here)).2 ∙ sym (ap (λ (x : Setting). x.offset) (start_rest s p o e)))
-      ]) refl
+      cases (includes s p o)
+      (λ e.
+      ⊎_elim
+      (λ q. inl (same_offset_lem (setting st o).offset (signed_of (start_value s p o Offsets)) q ∙ sym (ap (λ (x : Setting). x.offset) (start_included s p o e))))
+      (λ q. inr (and_both (grants s p o Offsets) (offset_fits s p o (setting st o).offset) q))
+      (or_either (same_offset (setting st o).offset (signed_of (start_value s p o Offsets))) (grants s p o Offsets && offset_fits s p o (setting st o).offset) (unfold sound_offset in (included_parts s st o e here).2)))
+      (λ e. inl ((resting_parts (setting st o) (rest_parts s st o e here)).2 ∙ sym (ap (λ (x : Setting). x.offset) (start_rest s p o e))))
 
   -- the start setting itself, included or not
   start_gain_legal : legal_gain (start_setting s p o).gain ≡ true
   start_gain_legal =
-      (elim (includes s p o) as (λ b. includes s p o ≡ b → legal_gain (start_setting s p o).gain ≡ true) [
-        | true ↦ λ e. rw (start_included s p o e) (unfold is_value in start_legal s a p o Gains p_index l)
-        | false ↦ λ e. rw (start_rest s p o e) (unfold legal_gain in refl)
-      ]) refl
+      cases (includes s p o)
+      (λ e. rw (start_included s p o e) (unfold is_value in start_legal s a p o Gains p_index l))
+      (λ e. rw (start_rest s p o e) (unfold legal_gain in refl))
 
   start_offset_legal : legal_offset (start_setting s p o).offset ≡ true
   start_offset_legal =
-      (elim (includes s p o) as (λ b. includes s p o ≡ b → legal_offset (start_setting s p o).offset ≡ true) [
-        | true ↦ λ e. rw (start_included s p o e) (unfold is_value in start_legal s a p o Offsets p_index l)
-        | false ↦ λ e. rw (start_rest s p o e) (unfold legal_offset offset_in_range in refl)
-      ]) refl
+      cases (includes s p o)
+      (λ e. rw (start_included s p o e) (unfold is_value in start_legal s a p o Offsets p_index l))
+      (λ e. rw (start_rest s p o e) (unfold legal_offset offset_in_range in refl))
 
   start_gain_within : is_absent (granted_minimum s p o Gains) ≡ false → gain_in_range (gain_of (granted_minimum s p o Gains)) (start_setting s p o).gain (gain_of (granted_maximum s p o Gains)) ≡ true
   start_gain_within g =
-      (elim (includes s p o) as (λ b. includes s p o ≡ b → gain_in_range (gain_of (granted_minimum s p o Gains)) (start_setting s p o).gain (gain_of (granted_maximum s p o Gains)) ≡ true) [
-        | true ↦ λ e. rw (start_included s p o e) (unfold in_range in start_within s a p o Gains p_index l g)
-        | false ↦ λ e. rw (start_rest s p o e) (zero_gain (zero_within s a p o Gains p_index l g))
-      ]) refl
+      cases (includes s p o)
+      (λ e. rw (start_included s p o e) (unfold in_range in start_within s a p o Gains p_index l g))
+      (λ e. rw (start_rest s p o e) (zero_gain (zero_within s a p o Gains p_index l g)))
     where
       zero_gain : in_range Gains (granted_minimum s p o Gains) 0 (granted_maximum s p o Gains) ≡ true → gain_in_range (gain_of (granted_minimum s p o Gains)) (Tenths (pos 0)) (gain_of (granted_maximum s p o Gains)) ≡ true
       zero_gain z = rw zero_is (unfold in_range in z)
@@ -100,10 +96,9 @@ module _ (s : Sheet) (a : AcceptedSheet s) (few : count s objects ≤ state_obje
 
   start_offset_within : is_absent (granted_minimum s p o Offsets) ≡ false → offset_in_range (signed_of (granted_minimum s p o Offsets)) (start_setting s p o).offset (signed_of (granted_maximum s p o Offsets)) ≡ true
   start_offset_within g =
-      (elim (includes s p o) as (λ b. includes s p o ≡ b → offset_in_range (signed_of (granted_minimum s p o Offsets)) (start_setting s p o).offset (signed_of (granted_maximum s p o Offsets)) ≡ true) [
-        | true ↦ λ e. rw (start_included s p o e) (unfold in_range in start_within s a p o Offsets p_index l g)
-        | false ↦ λ e. rw (start_rest s p o e) (zero_offset (zero_within s a p o Offsets p_index l g))
-      ]) refl
+      cases (includes s p o)
+      (λ e. rw (start_included s p o e) (unfold in_range in start_within s a p o Offsets p_index l g))
+      (λ e. rw (start_rest s p o e) (zero_offset (zero_within s a p o Offsets p_index l g)))
     where
       zero_offset : in_range Offsets (granted_minimum s p o Offsets) 0 (granted_maximum s p o Offsets) ≡ true → offset_in_range (signed_of (granted_minimum s p o Offsets)) (pos 0) (signed_of (granted_maximum s p o Offsets)) ≡ true
       zero_offset z = rw zero_is (unfold in_range in z)

@@ -4,14 +4,14 @@
 use Rattle.std.specs.Prelude.{ℕ, ◌*◌, ◌≡◌, refl, [], ◌∷◌, map, ℤ, pos, negsuc, Result, Ok, Err}
 use Rattle.values.specs.declared.Gain.{Gain}
 use Rattle.values.specs.declared.Gain.TheVariants.{Silent, Tenths}
-use Rattle.factors.specs.declared.Refusal.{Refusal}
-use Rattle.factors.specs.declared.Refusal.TheVariants.{FactorTooHigh}
+use Rattle.factors.specs.declared.FactorRefusal.{FactorRefusal}
+use Rattle.factors.specs.declared.FactorRefusal.TheVariants.{FactorTooHigh}
 use Rattle.factors.specs.Table.{entries}
 use Rattle.factors.specs.Decibels.{tenth_at}
 use Rattle.factors.specs.Conversion.{factor_too_high, least_tenth, factor_gain, conversion}
 
 -- -32768 for silence, the tenths, 34,000,000 for refusal 34
-unfoldable pub conversion_code : Result Gain Refusal → ℤ
+unfoldable pub conversion_code : Result Gain FactorRefusal → ℤ
 conversion_code (Ok Silent) = negsuc 32767
 conversion_code (Ok (Tenths z)) = z
 conversion_code (Err FactorTooHigh) = pos (1000000 * factor_too_high)

@@ -21,7 +21,8 @@ fn write_words(words: &[u16], buffer: &mut [u8])
     }
 }
 
-// The listing as bytes, and how many tracks it has, or why it is refused: 25, 27 and 32, in this order.
+// The listing as bytes, and how many tracks it has, or why it is refused: 25, 27 and 32, in this order. The words are in fixed memory, and
+// 28 are enough for each sheet that opens.
 fn write_listing(
     sheet: &[u8],
     langs: &[u8],
@@ -40,7 +41,7 @@ fn write_listing(
     Ok(entries)
 }
 
-// The number of tracks, or 25, 27 or 32 negated: any lengths, any bytes, any number.
+// The number of tracks, or 25, 27 or 32 negated, since the C interface hands out a number: any lengths, any bytes, any number.
 #[unsafe(no_mangle)]
 pub extern "C" fn sheet_start_listing(
     sheet: &[u8],

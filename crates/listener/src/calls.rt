@@ -24,7 +24,8 @@ use tables::marks::first_namers;
 use tables::reads::leader_by;
 use values::Gain;
 
-// The sheet and the list stand apart in all calls, and not in one struct: most functions need the sheet alone, and each contract names both.
+// The sheet and the list are two parameters in all calls. A struct of the two would be taken apart at once in each: `opens` alone reads the
+// list, what is called besides it takes the sheet alone, and the host calls get two slices; the equations would name the two all the same.
 
 // Whether the sheet is accepted under the lent list of languages, and not of level 0.
 pub fn opens(s: &[u8], langs: &[u8]) -> bool
@@ -129,7 +130,7 @@ fn value_answer<V: Value>(
     }
 }
 
-// "Choosing an object makes it active and the rest of its group inactive."
+// "Choosing an object makes it active and the rest of its group inactive." That the table has the leaders is a premise, as in `leader_by`.
 fn moved_setting(s: &[u8], leaders: &[u16], o: u16, q: u16, x: Setting) -> Setting
     ensures { Leaders (sheet_of s.now) leaders.now → result ≡ moved_from (sheet_of s.now) o q x }
 {
@@ -143,6 +144,7 @@ fn moved_setting(s: &[u8], leaders: &[u16], o: u16, q: u16, x: Setting) -> Setti
     }
 }
 
+// The loop goes by the objects' numbers: `iter_mut().enumerate()` would count the same ones, and `state.objects` be indexed all the same.
 fn moved(s: &[u8], state: &State, o: u16) -> State
     ensures { result ≡ moved (sheet_of s.now) state.now o }
 {
@@ -181,8 +183,8 @@ impl State {
         Reply { answer, state }
     }
 
-    // Stores a gain in an object, active or not.
-    // Two calls, as document 01 has them: what they share is in `value_answer` and `changed`.
+    // Stores a gain in an object, active or not. It and `set_offset` are two calls, as document 01 has them: what they share is in
+    // `value_answer` and `changed`, and what is left is the field.
     pub fn set_gain(self, s: &[u8], langs: &[u8], o: u16, gain: Gain) -> Reply
         ensures { result ≡ gain_set (sheet_of s.now) (words langs.now) self o gain }
     {
@@ -190,7 +192,7 @@ impl State {
         self.changed(answer, o, |x| Setting { gain, ..x })
     }
 
-    // Stores an offset in an object, active or not.
+    // Stores an offset in an object, active or not: a call beside `set_gain`, as told there.
     pub fn set_offset(self, s: &[u8], langs: &[u8], o: u16, offset: i16) -> Reply
         ensures { result ≡ offset_set (sheet_of s.now) (words langs.now) self o offset }
     {
@@ -209,7 +211,7 @@ impl State {
         ensures { (f : Setting → Setting) → ((x y : Setting) → F.post change x y → y ≡ f x) → result ≡ reply_by answer self (with_setting self o (f (setting self o))) }
     {
         let done = answer.is_ok();
-        let i = o as usize;
+        let i = usize::from(o);
         if done && i < STATE_OBJECTS {
             self.objects[i] = change(self.objects[i]);
         }

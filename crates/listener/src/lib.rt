@@ -12,7 +12,7 @@ pub mod sounding;
 pub mod writing;
 
 // One object's setting: active or not, its gain, its offset in tenths of a degree.
-#[derive(Clone, Copy)]
+#[derive(Clone, Copy, PartialEq)]
 pub struct Setting {
     pub active: bool,
     pub gain: Gain,
@@ -28,7 +28,7 @@ pub const STATE_END: u16 = STATE_OBJECTS as u16;
 // The most entries that a listing has: 28, at level 2.
 pub const MOST_ENTRIES: usize = 28;
 
-// "a programme, and for 84 objects active, gain, offset"
+// "a programme, and for 84 objects active, gain, offset": fixed memory, since the project has no heap.
 #[derive(Clone, Copy)]
 pub struct State {
     pub programme: u16,
@@ -48,7 +48,8 @@ pub enum Refusal {
     TooFewWords,
 }
 
-// What a call hands back: whether it is done, and the state, which a refused call hands back as it was given.
+// What a call hands back: whether it is done, and the state, which a refused call hands back as it was given. Not a
+// `Result<State, Refusal>`: a refused call hands back a state too.
 #[derive(Clone, Copy)]
 pub struct Reply {
     pub answer: Result<(), Refusal>,

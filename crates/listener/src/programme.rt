@@ -16,7 +16,7 @@ use values::Sort;
 use values::gains::gain_of;
 use values::signed::signed;
 
-// What choosing a programme gives an object.
+// What choosing a programme gives an object. That the tables are right is a premise, as in granted, whose functions read them.
 fn start_setting(s: &[u8], p: u16, tables: ProgrammeTables, o: u16) -> Setting
     ensures { ProgrammeTabled (sheet_of s.now) p tables.entry → result ≡ start_setting (sheet_of s.now) p o }
 {
@@ -31,7 +31,8 @@ fn start_setting(s: &[u8], p: u16, tables: ProgrammeTables, o: u16) -> Setting
     }
 }
 
-// A programme as it starts. What it doesn't include, as all numbers from n on, is at rest.
+// A programme as it starts. What it doesn't include, as all numbers from n on, is at rest. The loop goes by the objects' numbers, which the
+// sheet and the tables are read by.
 pub fn started(s: &[u8], p: u16) -> State
     ensures { result ≡ started (sheet_of s.now) p }
 {
@@ -45,7 +46,7 @@ pub fn started(s: &[u8], p: u16) -> State
     };
     let mut objects = [resting(); STATE_OBJECTS];
     for o in 0..n {
-        objects[o as usize] = start_setting(s, p, tables, o);
+        objects[usize::from(o)] = start_setting(s, p, tables, o);
     }
     State {
         programme: p,

@@ -1,4 +1,4 @@
-// Document 01's numbers of the listener's own refusals.
+// Document 01's numbers of the listener's own refusals, which are the declared ones.
 ghost use Rattle.std.specs.Prelude.{◌≡◌};
 ghost use Rattle.listener.specs.State.{refusal_number};
 

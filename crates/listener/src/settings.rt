@@ -5,7 +5,7 @@ ghost use Rattle.listener.specs.State.{is_resting, resting};
 use crate::Setting;
 use values::Gain;
 
-// "inactive, 0, 0"
+// "inactive, 0, 0". A function and no `Default`: it has a contract that gives it the name that the documents have for it.
 pub fn resting() -> Setting
     ensures { result ≡ resting }
 {
@@ -20,5 +20,5 @@ pub fn resting() -> Setting
 pub fn is_resting(x: Setting) -> bool
     ensures { result ≡ is_resting x }
 {
-    !x.active & (x.gain == Gain::Tenths(0)) & (x.offset == 0)
+    x == resting()
 }

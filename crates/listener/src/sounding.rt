@@ -19,8 +19,8 @@ use tables::Naming;
 use tables::marks::{first_namers, mark_at};
 use tables::reads::included_by;
 
-// Writes 1 for the objects that the programme includes, into a table of noughts. Gives one more than the highest number of one below `state_objects`,
-// 0 where there is none.
+// Writes 1 for the objects that the programme includes, into a table of noughts. Gives one more than the highest number of one below
+// `state_objects`, 0 where there is none.
 pub fn enter_included(s: &[u8], p: u16, marks: &mut [u16]) -> u16
     ensures { (length marks.new ≡ length marks.old) × (result ≤ state_objects) × ((o : ℕ) → result ≤ o → o < state_objects → includes (sheet_of s.now) p o ≡ false) × (Standing (λ x. 0) marks.old → Included (sheet_of s.now) p marks.new) }
 {
@@ -36,7 +36,7 @@ pub fn enter_included(s: &[u8], p: u16, marks: &mut [u16]) -> u16
     past
 }
 
-// One object of a sound state, by its setting.
+// One object of a sound state, by its setting. That the tables are right is a premise, as in granted, whose functions read them.
 fn sound_at(s: &[u8], p: u16, tables: ProgrammeTables, active: &[u16], o: u16, x: Setting) -> bool
     ensures { ProgrammeTabled (sheet_of s.now) p tables.entry → result ≡ flagged_sound (sheet_of s.now) p active.now o x }
 {
@@ -48,7 +48,8 @@ fn sound_at(s: &[u8], p: u16, tables: ProgrammeTables, active: &[u16], o: u16, x
 }
 
 // Whether a state is sound for the sheet. What the programme doesn't include is at rest, so it has no part in a group. The state is lent,
-// since a call that takes it by value copies it.
+// since a call that takes it by value copies it. Activity stands in a table of words beside the settings: granted, which is below the
+// listener, counts in tables the members of a group that are active, and knows no settings.
 pub fn sound(s: &[u8], state: &State) -> bool
     ensures { result ≡ sound (sheet_of s.now) state.now }
 {
@@ -66,14 +67,14 @@ pub fn sound(s: &[u8], state: &State) -> bool
     };
     let mut active: [u16; STATE_OBJECTS] = [0; STATE_OBJECTS];
     for o in 0..n {
-        active[o as usize] = u16::from(state.objects[o as usize].active);
+        active[usize::from(o)] = u16::from(state.objects[usize::from(o)].active);
     }
     let mut good = true;
     for o in 0..n {
-        good &= sound_at(s, p, tables, &active, o, state.objects[o as usize]);
+        good &= sound_at(s, p, tables, &active, o, state.objects[usize::from(o)]);
     }
     for o in n..STATE_END {
-        good &= is_resting(state.objects[o as usize]);
+        good &= is_resting(state.objects[usize::from(o)]);
     }
     good
 }

@@ -32,7 +32,7 @@ fn state_number(s: &[u8], state: &State) -> u64
 {
     let mut total: u64 = 0;
     for o in 0..STATE_END {
-        total += number_when(s, state.objects[o as usize].active, o);
+        total += number_when(s, state.objects[usize::from(o)].active, o);
     }
     total
 }
@@ -45,9 +45,9 @@ fn write_own(s: &[u8], o: u16, buffer: &mut [u16], at: usize) -> usize
 {
     let n = number(s, OBJECTS, o, TRACK_LIST);
     for i in 0..n {
-        buffer[at + i as usize] = entry(s, OBJECTS, o, TRACK_LIST, i);
+        buffer[at + usize::from(i)] = entry(s, OBJECTS, o, TRACK_LIST, i);
     }
-    at + n as usize
+    at + usize::from(n)
 }
 
 // Writes its children's.
@@ -78,13 +78,14 @@ fn write_state(s: &[u8], state: &State, buffer: &mut [u16])
 {
     let mut pos: usize = 0;
     for o in 0..STATE_END {
-        if state.objects[o as usize].active {
+        if state.objects[usize::from(o)].active {
             pos = write_object(s, o, buffer, pos);
         }
     }
 }
 
-// Writes the listing if the words are enough, and gives how many entries it has; a refused one writes nothing: 32.
+// Writes the listing if the words are enough, and gives how many entries it has; a refused one writes nothing: 32. No `From` makes a u64 of
+// a usize.
 fn write_listing(s: &[u8], state: &State, buffer: &mut [u16]) -> Result<u64, Refusal>
     ensures { (result ≡ listed_by (length (entries (sheet_of s.now) state.now)) (answer_by (too_few_words (sheet_of s.now) state.now (length buffer.old) ∷ []))) × (buffer.new ≡ buffered_by buffer.old (listed_tracks (sheet_of s.now) state.now) (answer_by (too_few_words (sheet_of s.now) state.now (length buffer.old) ∷ []))) }
 {
@@ -97,7 +98,8 @@ fn write_listing(s: &[u8], state: &State, buffer: &mut [u16]) -> Result<u64, Ref
 }
 
 impl State {
-    // Writes the tracks of the active objects and gives how many.
+    // Writes the tracks of the active objects and gives how many. A number and no part of the buffer: "later words stay", so the contract
+    // says what the whole buffer has, which a part that is handed out would keep lent.
     pub fn list(self, s: &[u8], langs: &[u8], buffer: &mut [u16]) -> Result<u64, Refusal>
         ensures { (result ≡ listed (sheet_of s.now) (words langs.now) self (length buffer.old)) × (buffer.new ≡ buffered (sheet_of s.now) (words langs.now) self buffer.old) }
     {

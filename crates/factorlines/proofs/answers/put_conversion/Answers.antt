@@ -2,8 +2,8 @@
 use mathlib.Core.Path.{◌≡◌, refl}
 use mathlib.Core.List.{◌++◌}
 use Rattle.std.specs.Prelude.{Err}
-use Rattle.factors.specs.declared.Refusal.{Refusal}
-use Rattle.factors.specs.declared.Refusal.TheVariants.{FactorTooHigh}
+use Rattle.factors.specs.declared.FactorRefusal.{FactorRefusal}
+use Rattle.factors.specs.declared.FactorRefusal.TheVariants.{FactorTooHigh}
 use Rattle.factors.specs.Conversion.{factor_too_high}
 use Rattle.text.specs.Bytes.{ascii}
 use Rattle.text.specs.Decimal.{decimal}
@@ -11,7 +11,7 @@ use Rattle.text.proofs.BufferLaws.{appends_more}
 use Rattle.factorlines.specs.FactorLines.{conversion_text}
 use Rattle.factorlines.proofs.answers.put_conversion.Goals as goal
 
-refused : (r : Refusal) → conversion_text (Err r) ≡ ascii "refused " ++ decimal factor_too_high
+refused : (r : FactorRefusal) → conversion_text (Err r) ≡ ascii "refused " ++ decimal factor_too_high
 unfolding conversion_text
 refused FactorTooHigh = refl
 

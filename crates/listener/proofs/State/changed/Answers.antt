@@ -12,10 +12,11 @@ returns g c = λ f h. reply_when c.args.answer c.args.answer c.args.self _ c.if-
     (elim c.if-done.branch [
       | then-done+then-i-lt-STATE_OBJECTS w ↦
           let d = sym c.is_ok-done.ensures.value ∙ w.if-done.true in
-          let x = h _ _ w.change.ensures ∙ ap f (element_setting c.args.self c.args.o w.if-i-lt-STATE_OBJECTS.true) in
-          rw d (w.self-is ∙ stored c.args.self c.args.o w.change.result w.if-i-lt-STATE_OBJECTS.true ∙ ap (λ (y : Setting). with_setting c.args.self c.args.o y) x)
+          let i = rw c.from-i.ensures at w.if-i-lt-STATE_OBJECTS.true in
+          let x = h _ _ (rw c.from-i.ensures at w.change.ensures) ∙ ap f (element_setting c.args.self c.args.o i) in
+          rw d (rw c.from-i.ensures at w.self-is ∙ stored c.args.self c.args.o w.change.result i ∙ ap (λ (y : Setting). with_setting c.args.self c.args.o y) x)
       | else-done w ↦ elim w.else-done.branch [
-        | else-done-via-then-done+else-i-lt-STATE_OBJECTS v ↦ let d = sym c.is_ok-done.ensures.value ∙ v.if-done.true in rw d (w.self-is ∙ unstored _ _ _ v.if-i-lt-STATE_OBJECTS.false)
+        | else-done-via-then-done+else-i-lt-STATE_OBJECTS v ↦ let d = sym c.is_ok-done.ensures.value ∙ v.if-done.true in rw d (w.self-is ∙ unstored _ _ _ (rw c.from-i.ensures at v.if-i-lt-STATE_OBJECTS.false))
         | else-done-via-else-done v ↦ let d = sym c.is_ok-done.ensures.value ∙ v.if-done.false in rw d w.self-is
       ]
     ])

@@ -12,14 +12,15 @@ use Rattle.listener.proofs.programme.started.Goals as goal
 pub loop-o-init : goal.loop-o-init
 loop-o-init c = rw c.resting-objects.ensures (begun_none _ _ _ _)
 
-pub bounds-objects-o : goal.bounds-objects-o
-bounds-objects-o c = omega (arith, c.loop-o-test.true, c.enter_included-n.ensures.1)
+pub bounds-objects-from : goal.bounds-objects-from
+bounds-objects-from c = omega (arith, c.from.ensures, c.loop-o-test.true, c.enter_included-n.ensures.1)
 
 pub loop-o-preserved : goal.loop-o-preserved
 loop-o-preserved c =
     let f = c.first_namers in let s = sheet_of c.args.s.now in
-    begun_more _ c.loop-o.invariant (omega (arith, c.loop-o-test.true, c.enter_included-n.ensures.1))
-    (c.start_setting.ensures (leaders_made s state_objects f.new.table f.ensures.1, c.enter_included-n.ensures.3 (λ x l. nought state_objects x)))
+    rw c.from.ensures
+    (begun_more _ c.loop-o.invariant (omega (arith, c.loop-o-test.true, c.enter_included-n.ensures.1))
+    (c.start_setting.ensures (leaders_made s state_objects f.new.table f.ensures.1, c.enter_included-n.ensures.3 (λ x l. nought state_objects x))))
 
 pub returns : goal.returns
 unfolding started

@@ -29,30 +29,31 @@ returns-then-count-p c = rw (le-ltb c.args.state.now.programme (count (sheet_of 
 pub loop-o-init : goal.loop-o-init
 loop-o-init c = begun_none _ _ _ _
 
-pub bounds-state-o : goal.bounds-state-o
-bounds-state-o c = omega (arith, c.loop-o-test.true, c.enter_included-n.ensures.1)
+pub bounds-state-from : goal.bounds-state-from
+bounds-state-from c = omega (arith, c.from.ensures, c.loop-o-test.true, c.enter_included-n.ensures.1)
 
-pub bounds-active-o : goal.bounds-active-o
-bounds-active-o c = omega (arith, c.loop-o-test.true, c.enter_included-n.ensures.1)
+pub bounds-active-from : goal.bounds-active-from
+bounds-active-from c = omega (arith, c.from-in-loop-o-2.ensures, c.loop-o-test.true, c.enter_included-n.ensures.1)
 
 pub loop-o-preserved : goal.loop-o-preserved
 unfolding is_active
 loop-o-preserved c =
     let l = c.loop-o in let i : l.o < state_objects = omega (arith, c.loop-o-test.true, c.enter_included-n.ensures.1) in
-    begun_more _ l.invariant i (c.from.ensures ∙ byte_cond _ ∙ ap (λ (x : Setting). cond x.active 1 0) (element_setting c.args.state.now l.o i))
+    rw c.from-in-loop-o-2.ensures
+    (begun_more _ l.invariant i (rw c.from.ensures at c.from-in-loop-o.ensures ∙ byte_cond _ ∙ ap (λ (x : Setting). cond x.active 1 0) (element_setting c.args.state.now l.o i)))
 
 pub loop-o-2-init : goal.loop-o-2-init
 unfolding every
 loop-o-2-init c = refl
 
-pub bounds-state-o-in-loop-o-2 : goal.bounds-state-o-in-loop-o-2
-bounds-state-o-in-loop-o-2 c = omega (arith, c.loop-o-2-test.true, c.enter_included-n.ensures.1)
+pub bounds-state-from-in-loop-o-2 : goal.bounds-state-from-in-loop-o-2
+bounds-state-from-in-loop-o-2 c = omega (arith, c.from-in-loop-o-2-2.ensures, c.loop-o-2-test.true, c.enter_included-n.ensures.1)
 
 pub loop-o-2-preserved : goal.loop-o-2-preserved
 unfolding every
 loop-o-2-preserved c =
     let l = c.loop-o-2 in let f = c.first_namers in let a = c.args in let i : l.o < state_objects = omega (arith, c.loop-o-2-test.true, c.enter_included-n.ensures.1) in
-    rw (add-one, l.invariant, c.sound_at-good.ensures (leaders_made (sheet_of a.s.now) state_objects f.new.table f.ensures.1, c.enter_included-n.ensures.3 (λ x l. nought state_objects x)), element_setting a.state.now l.o i)
+    rw (add-one, l.invariant, c.sound_at-good.ensures (leaders_made (sheet_of a.s.now) state_objects f.new.table f.ensures.1, c.enter_included-n.ensures.3 (λ x l. nought state_objects x)), c.from-in-loop-o-2-2.ensures, element_setting a.state.now l.o i)
 
 pub loop-o-3-init : goal.loop-o-3-init
 loop-o-3-init c = from_none _ _ _
@@ -61,7 +62,7 @@ pub loop-o-3-preserved : goal.loop-o-3-preserved
 unfolding every
 loop-o-3-preserved c =
     let l = c.loop-o-3 in let i = c.loop-o-3-test.true in let st = c.args.state.now in
-    rw (add-one, l.invariant, c.is_resting-good.ensures, element_setting st l.o i, le-ltb l.o c.enter_included-n.result l.auto.o)
+    rw (add-one, l.invariant, c.is_resting-good.ensures, c.from-in-loop-o-3.ensures, element_setting st l.o i, le-ltb l.o c.enter_included-n.result l.auto.o)
     (and_assoc c.loop-o-2.good (every (λ q. ltb q c.enter_included-n.result || is_resting (setting st q)) l.o) (is_resting (setting st l.o)))
 
 pub returns : goal.returns

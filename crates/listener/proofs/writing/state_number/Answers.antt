@@ -19,7 +19,7 @@ pub loop-o-preserved : goal.loop-o-preserved
 unfolding sum number_when
 loop-o-preserved c = (
   omega (arith, c.number_when-total.ensures.1),
-  let l = c.loop-o in rw (add-one, c.number_when-total.ensures.0, element_active c.args.state.now l.o c.loop-o-test.true, l.invariant.1),
+  let l = c.loop-o in rw (add-one, c.number_when-total.ensures.0, c.from.ensures, element_active c.args.state.now l.o c.loop-o-test.true, l.invariant.1),
 )
 
 pub returns : goal.returns

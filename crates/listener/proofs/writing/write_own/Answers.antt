@@ -38,10 +38,10 @@ bounds-buffer-at c = omega (arith, room_left _ _ _ _ _ _ _ _ c.loop-i.invariant 
 
 pub loop-i-preserved : goal.loop-i-preserved
 unfolding track_at
-loop-i-preserved c = let l = c.loop-i in written_more l.invariant _ _ c.loop-i-test.true (omega arith) (ap (λ (x : ℕ). set l.buffer (c.args.at + l.i) x) c.entry.ensures)
+loop-i-preserved c = let l = c.loop-i in written_more l.invariant _ _ c.loop-i-test.true (omega arith) (rw c.from.ensures (ap (λ (x : ℕ). set l.buffer (c.args.at + l.i) x) c.entry.ensures))
 
 pub shape_of-buffer : goal.shape_of-buffer
 shape_of-buffer c = same_long c.loop-i.invariant
 
 pub returns : goal.returns
-returns c = all_written _ _ _ _ _ _ _ c.loop-i.invariant (omega arith) c.number-n.ensures
+returns c = rw c.from-2.ensures (all_written _ _ _ _ _ _ _ c.loop-i.invariant (omega arith) c.number-n.ensures)
