@@ -12,7 +12,7 @@ pub mod sounding;
 pub mod writing;
 
 // One object's setting: active or not, its gain, its offset in tenths of a degree.
-#[derive(Clone, Copy, PartialEq)]
+#[derive(Clone, Copy)]
 pub struct Setting {
     pub active: bool,
     pub gain: Gain,

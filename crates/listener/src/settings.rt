@@ -5,7 +5,7 @@ ghost use Rattle.listener.specs.State.{is_resting, resting};
 use crate::Setting;
 use values::Gain;
 
-// "inactive, 0, 0". A function and no `Default`: it has a contract that gives it the name that the documents have for it.
+// "inactive, 0, 0". A function and no `Default` or constant: a contract gives it the name that the definitions have for it.
 pub fn resting() -> Setting
     ensures { result ≡ resting }
 {
@@ -16,9 +16,10 @@ pub fn resting() -> Setting
     }
 }
 
-// Whether a setting is "inactive, 0, 0".
+// Whether a setting is "inactive, 0, 0". Three tests without a branch: with a derived `==` to `resting()` a gain call on sheet A took 5,359
+// instructions (`tools/call-cost`), where it takes 4,892.
 pub fn is_resting(x: Setting) -> bool
     ensures { result ≡ is_resting x }
 {
-    x == resting()
+    !x.active & (x.gain == Gain::Tenths(0)) & (x.offset == 0)
 }
