@@ -4,6 +4,7 @@ use mathlib.Core.Path.{◌≡◌, refl, ap}
 use mathlib.Core.Bool.{true, false}
 use native.Mathlib.Omega.{arith}
 use borrow.Author.Tests.{leb-true, leb-false, le-leb, lt-leb, ltb-false, ne_eqb}
+use borrow.Table.Steps.{cases}
 use lib.Dec.{leb, ltb}
 use lib.IntN.{ℤ, pos, negsuc}
 use lib.Signed.{lt_z}
@@ -50,10 +51,9 @@ gain_legal (suc f) h = rw (tenths (suc f) (omega arith)) (least_tenth_lem (suc f
 -- a higher factor has no earlier place, and no lower gain
 no_earlier : (f g : ℕ) → f ≤ g → g ≤ most_factor → place_of f ≤ place_of g
 no_earlier f g h m =
-    (elim (leb (place_of f) (place_of g)) as (λ t. leb (place_of f) (place_of g) ≡ t → place_of f ≤ place_of g) [
-      | true ↦ λ q. leb-true _ _ q
-      | false ↦ λ q. absurd (omega (arith, h, not_below g m, entry_below f (omega (arith, h, m)) (place_of g) (leb-false _ _ q)))
-    ]) refl
+    cases (leb (place_of f) (place_of g))
+    (λ q. leb-true _ _ q)
+    (λ q. absurd (omega (arith, h, not_below g m, entry_below f (omega (arith, h, m)) (place_of g) (leb-false _ _ q))))
 
 pub no_lower : (f g : ℕ) → f ≤ g → g ≤ most_factor → at_most (factor_gain f) (factor_gain g) ≡ true
 unfolding factor_gain at_most least_tenth

@@ -4,7 +4,8 @@ use mathlib.Core.Path.{◌≡◌, refl}
 use mathlib.Core.Bool.{Bool, true, false, not, false≢true}
 use native.Mathlib.Omega.{arith}
 use native.Mathlib.Nat.{mul-le-mul_right, pow-le-pow_left, le_trans, lt_of_lt_of_le}
-use borrow.Author.Tests.{leb-true, leb-false}
+use borrow.Author.Tests.{leb-true, leb-false, not-true}
+use borrow.Table.Steps.{cases}
 use lib.Dec.{leb}
 use lib.IntN.{ℤ, negsuc}
 use lib.ListN.{get_or}
@@ -27,15 +28,11 @@ higher : (m n : ℕ) (d : ℤ) → m ≤ n → Above m d → Above n d
 higher m n d h a = lt_of_lt_of_le a (mul-le-mul_right (10 ^ 600) (pow-le-pow_left h 200))
 
 -- the test of an entry as a fact about powers
-not_within : (b : Bool) → not b ≡ true → b ≡ false
-not_within true h = absurd (false≢true h)
-not_within false h = refl
-
 largest_means : (n : ℕ) (d : ℤ) → is_largest n d ≡ true → (Within n d) × (Above (n + 1) d)
 unfolding is_largest is_within
 largest_means n d h =
     let t = and_parts (is_within n d) (not (is_within (n + 1) d)) h in
-    (leb-true _ _ t.0, leb-false _ _ (not_within (is_within (n + 1) d) t.1))
+    (leb-true _ _ t.0, leb-false _ _ (not-true _ t.1))
 
 entry_means : (k : ℕ) → k < 811 → (Within (get_or entries k 0) (tenth_at k)) × (Above (get_or entries k 0 + 1) (tenth_at k))
 entry_means k l = largest_means (get_or entries k 0) (tenth_at k) (entry_largest k l)
@@ -46,10 +43,9 @@ tenth_largest k l =
     let e = entry_at_lem k in let m = entry_means k l in
     record {
       within = rw e m.0;
-      largest = λ n w. rw e ((elim (leb n (get_or entries k 0)) as (λ t. leb n (get_or entries k 0) ≡ t → n ≤ get_or entries k 0) [
-        | true ↦ λ q. leb-true _ _ q
-        | false ↦ λ q. let a = higher (get_or entries k 0 + 1) n (tenth_at k) (omega (arith, leb-false _ _ q)) m.1 in absurd (omega (arith, w, a))
-      ]) refl);
+      largest = λ n w. rw e (cases (leb n (get_or entries k 0))
+          (λ q. leb-true _ _ q)
+          (λ q. let a = higher (get_or entries k 0 + 1) n (tenth_at k) (omega (arith, leb-false _ _ q)) m.1 in absurd (omega (arith, w, a))));
     }
 
 -- the last entry
@@ -64,10 +60,9 @@ place_of f = position_or_len (λ n. leb f n) entries
 module _ (f : ℕ) (most : f ≤ most_factor) where
   in_table : place_of f < 811
   in_table =
-      (elim (leb 811 (place_of f)) as (λ t. leb 811 (place_of f) ≡ t → place_of f < 811) [
-        | true ↦ λ q. absurd (omega (arith, most, last_entry, leb-false _ _ (fails_before_first (λ n. leb f n) entries 810 0 (omega (arith, leb-true _ _ q)))))
-        | false ↦ λ q. leb-false _ _ q
-      ]) refl
+      cases (leb 811 (place_of f))
+      (λ q. absurd (omega (arith, most, last_entry, leb-false _ _ (fails_before_first (λ n. leb f n) entries 810 0 (omega (arith, leb-true _ _ q))))))
+      (λ q. leb-false _ _ q)
 
   pub not_below : f ≤ get_or entries (place_of f) 0
   not_below = leb-true _ _ (passes_at_first (λ n. leb f n) entries 0 (rw all_there in_table))

@@ -4,11 +4,14 @@ use mathlib.Core.Path.{◌≡◌, refl, sym, ap, ap₂, ◌∙◌}
 use mathlib.Core.Bool.{Bool, true, false, true≢false, cond, not, ◌&&◌}
 use mathlib.Core.List.{List, [], ◌∷◌, ◌++◌, map}
 use native.Mathlib.Omega.{arith}
-use native.Mathlib.Nat.{le_of_suc-le-suc, add-zero}
+use native.Mathlib.Nat.{add-zero}
 use lib.Dec.{eqb, ltb}
 use lib.ListN.{length, get_or}
 use borrow.Author.Tests.{ltb-true, ltb-false, eqb-true, eqb-false, eq-eqb, ne_eqb, not-true}
 use borrow.Table.Steps.{cases}
+use Rattle.std.specs.Prelude.{All}
+use Rattle.std.proofs.lemmas.Bool.{and_right}
+use Rattle.std.proofs.lemmas.List.Elements.{All-nil, All-cons, All-append, All-get_or, All-map}
 use Rattle.sheet.specs.Words.{Sheet}
 use Rattle.sheet.specs.Layout.{count, field, number, entry}
 use Rattle.sheet.specs.Fields.{objects, packs, tracks, track_list, child_list, pack_channels, track_pack, track_ordinal}
@@ -26,25 +29,11 @@ use Rattle.listener.specs.Listing.{Entry, sounds, own_entries, object_entries, e
 use Rattle.guarantee.specs.Guarantee.{how_many_in, is_channel}
 use Rattle.guarantee.proofs.ListingLaws.{active_top, group_active}
 
--- every element of a list has P
-abbrev Each : {X : Type 0} → (X → Type 0) → List X → Type 0
-Each P [] = Unit {0}
-Each P (x ∷ xs) = P x × Each P xs
-
-module _ {X : Type 0} (P : X → Type 0) where
-  each_append : (xs ys : List X) → Each P xs → Each P ys → Each P (xs ++ ys)
-  each_append [] ys a b = b
-  each_append (x ∷ xs) ys a b = (a.0, each_append xs ys a.1 b)
-
-  each_concat : (f : ℕ → List X) (n : ℕ) → ((k : ℕ) → k < n → Each P (f k)) → Each P (concat_below f n)
-  unfolding concat_below
-  each_concat f zero h = tt
-  each_concat f (suc n) h = each_append (concat_below f n) (f n) (each_concat f n (λ k l. h k (omega arith))) (h n (omega arith))
-
-each_get_d : (xs : List Entry) (m i : ℕ) → Each (λ (e : Entry). e.track < m) xs → i < length (map (λ (e : Entry). e.track) xs) → get_or (map (λ (e : Entry). e.track) xs) i 0 < m
-each_get_d [] m i h l = absurd (omega arith)
-each_get_d (x ∷ xs) m zero h l = h.0
-each_get_d (x ∷ xs) m (suc i) h l = each_get_d xs m i h.1 (le_of_suc-le-suc l)
+-- every element of each list has P
+all_concat : {X : Type 0} (P : X → Type 0) (f : ℕ → List X) (n : ℕ) → ((k : ℕ) → k < n → All P (f k)) → All P (concat_below f n)
+unfolding concat_below
+all_concat P f zero h = All-nil P
+all_concat P f (suc n) h = All-append P (concat_below f n) (f n) (all_concat P f n (λ k l. h k (omega arith))) (h n (omega arith))
 
 -- counting in lists
 module _ {X : Type 0} (p : X → Bool) where
@@ -75,15 +64,18 @@ module _ {X : Type 0} (p : X → Bool) where
   count_when false xs = refl
 
 module _ (s : Sheet) (a : AcceptedSheet s) where
-  own_each : (o : ℕ) → o < count s objects → Each (λ (e : Entry). e.track < count s tracks) (own_entries s o)
-  unfolding own_entries tabulate
-  own_each o l = each_concat (λ (e : Entry). e.track < count s tracks) (λ i. record { object = o; track = track_at s o i } ∷ []) (number s objects o track_list) (λ i k. (a.track_index o i l k, tt))
+  abbrev There : Entry → Type 0
+  There e = e.track < count s tracks
 
-  object_each : (o : ℕ) → o < count s objects → Each (λ (e : Entry). e.track < count s tracks) (object_entries s o)
+  own_there : (o : ℕ) → o < count s objects → All There (own_entries s o)
+  unfolding own_entries tabulate
+  own_there o l = all_concat There (λ i. record { object = o; track = track_at s o i } ∷ []) (number s objects o track_list) (λ i k. All-cons There _ [] (a.track_index o i l k) (All-nil There))
+
+  object_there : (o : ℕ) → o < count s objects → All There (object_entries s o)
   unfolding object_entries
-  object_each o l =
-      each_append (λ (e : Entry). e.track < count s tracks) (own_entries s o) (concat_below (λ i. own_entries s (entry s objects o child_list i)) (number s objects o child_list)) (own_each o l)
-      (each_concat (λ (e : Entry). e.track < count s tracks) (λ i. own_entries s (entry s objects o child_list i)) (number s objects o child_list) (λ i k. own_each (entry s objects o child_list i) (a.child_index o i l k)))
+  object_there o l =
+      All-append There (own_entries s o) (concat_below (λ i. own_entries s (entry s objects o child_list i)) (number s objects o child_list)) (own_there o l)
+      (all_concat There (λ i. own_entries s (entry s objects o child_list i)) (number s objects o child_list) (λ i k. own_there (entry s objects o child_list i) (a.child_index o i l k)))
 
   -- an object's own entries have a channel of object o's pack once if it is o, and never else
   no_children_with_pack : (o : ℕ) → o < count s objects → has_pack s o ≡ true → has_children s o ≡ false
@@ -125,14 +117,9 @@ module _ (s : Sheet) (a : AcceptedSheet s) where
 -- a test for equality may be turned round
 swapped : (x y : ℕ) → eqb x y ≡ eqb y x
 swapped x y =
-    (elim (eqb y x) as (λ b. eqb y x ≡ b → eqb x y ≡ b) [
-      | true ↦ λ e. eq-eqb x y (sym (eqb-true y x e))
-      | false ↦ λ e. ne_eqb x y (λ z. eqb-false y x e (sym z))
-    ]) refl
-
-and_false : (b : Bool) → (b && false) ≡ false
-and_false true = refl
-and_false false = refl
+    cases (eqb y x)
+    (λ e. eq-eqb x y (sym (eqb-true y x e)) ∙ sym e)
+    (λ e. ne_eqb x y (λ z. eqb-false y x e (sym z)) ∙ sym e)
 
 -- what a list names never is not in it
 not_listed : (s : Sheet) (section k at x : ℕ) → times s section k at x ≡ 0 → lists s section k at x ≡ false
@@ -147,14 +134,14 @@ module _ (s : Sheet) (a : AcceptedSheet s) (few : count s objects ≤ state_obje
   pub tracks_exist : (i : ℕ) → i < length (listed_tracks s st) → get_or (listed_tracks s st) i 0 < count s tracks
   unfolding listed_tracks entries
   tracks_exist i l =
-      each_get_d (concat_below (λ o. cond (active st o) (object_entries s o) []) state_objects) (count s tracks) i
-      (each_concat (λ (e : Entry). e.track < count s tracks) (λ o. cond (active st o) (object_entries s o) []) state_objects (λ o k. of_object o k)) l
+      let below : ℕ → Type 0 = λ m. m < count s tracks in
+      All-get_or below _ i 0 l (All-map below (λ (e : Entry). e.track) _ (all_concat (There s a) (λ o. cond (active st o) (object_entries s o) []) state_objects of_object))
     where
-      of_object : (o : ℕ) → o < state_objects → Each (λ (e : Entry). e.track < count s tracks) (cond (active st o) (object_entries s o) [])
+      of_object : (o : ℕ) → o < state_objects → All (There s a) (cond (active st o) (object_entries s o) [])
       of_object o k =
           cases (active st o)
-          (λ e. rw e (object_each s a o (active_top s a few st h o k e).0))
-          (λ e. rw e tt)
+          (λ e. rw e (object_there s a o (active_top s a few st h o k e).0))
+          (λ e. rw e (All-nil (There s a)))
 
   -- how often a channel of object o is listed
   abbrev heard : ℕ → ℕ → ℕ
@@ -224,7 +211,7 @@ module _ (s : Sheet) (a : AcceptedSheet s) (few : count s objects ≤ state_obje
   unfolding sounds
   top_sounds o l e =
       rw (any_nowhere (λ q. active st q && lists s objects q child_list o) (count s objects)
-      (λ q k. rw (not_listed s objects q child_list o (top_no_child s a o q l k e)) (and_false (active st q)))) (or_false (active st o))
+      (λ q k. rw (not_listed s objects q child_list o (top_no_child s a o q l k e)) (and_right (active st q) false refl))) (or_false (active st o))
 
   -- exactly one member of each wholly included group sounds
   pub one_sounds : (l : ℕ) → l < count s objects → leader s l ≡ true → wholly_included s st.programme l ≡ true → how_many (λ i. sounds s st (member s l i)) (members s l) ≡ 1

@@ -6,6 +6,7 @@ use mathlib.Core.List.{List}
 use native.Mathlib.Omega.{arith}
 use native.Mathlib.Nat.{le_trans}
 use borrow.Author.Tests.{lt-ltb, le-ltb}
+use borrow.Table.Steps.{cases}
 use lib.Dec.{eqb, ltb, leb}
 use lib.IntN.{pos, ◌-ℤ◌}
 use lib.ListN.{length, take, replicate, length-map}
@@ -56,13 +57,11 @@ module _ (s : Sheet) (langs : List ℕ) (p bytes : ℕ) where
       → (start_number s p ≤ host_words → P (Ok tt) room) → P (start_answer s langs p host_words) (host_answer s langs p bytes)
   unfolding start_answer host_answer answer_by not_open no_programme too_few_words too_few_bytes start_number
   both P refused done =
-      (elim (opens s langs) as (λ b. opens s langs ≡ b → P (start_answer s langs p host_words) (host_answer s langs p bytes)) [
-        | true ↦ λ e. (elim (leb (count s programmes) p) as (λ b. leb (count s programmes) p ≡ b → P (start_answer s langs p host_words) (host_answer s langs p bytes)) [
-          | true ↦ λ f. rw (e, f) (refused NoProgramme)
-          | false ↦ λ f. let most : length (entries s (started s p)) ≤ host_words = le_trans (start_most s langs p e f) (words_most (level s)) in rw (e, f, le-ltb host_words (length (entries s (started s p))) most) (done most)
-        ]) refl
-        | false ↦ λ e. rw e (refused NotAccepted)
-      ]) refl
+      cases (opens s langs)
+      (λ e. cases (leb (count s programmes) p)
+      (λ f. rw (e, f) (refused NoProgramme))
+      (λ f. let most : length (entries s (started s p)) ≤ host_words = le_trans (start_most s langs p e f) (words_most (level s)) in rw (e, f, le-ltb host_words (length (entries s (started s p))) most) (done most)))
+      (λ e. rw e (refused NotAccepted))
 
   pub refused_both : (r : Refusal) → start_answer s langs p host_words ≡ Err r → host_answer s langs p bytes ≡ Err r
   refused_both r = both (λ x y. x ≡ Err r → y ≡ Err r) (λ q e. e) (λ most e. absurd (done_refused r (Ok tt) refl e))

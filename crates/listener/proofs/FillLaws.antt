@@ -10,6 +10,7 @@ use lib.ListN.{length, get_or, set, replicate, length-set, length-replicate, get
 use lib.Seq.{get_or-set_same, get_or-set_other, ext_get_or}
 use borrow.Author.Count.{below_none, below_more}
 use borrow.Author.Tests.{ltb-true, ltb-false}
+use borrow.Table.Steps.{cases}
 use Rattle.profile.specs.Counting.{tabulate}
 use Rattle.profile.proofs.ListLaws.{length_tabulate, get_d_tabulate}
 
@@ -60,7 +61,6 @@ module _ {X : Type 0} where
     where
       at : (k : ℕ) → k < n → get_or t k d ≡ f k
       at k m =
-          (elim (ltb k i) as (λ b. ltb k i ≡ b → get_or t k d ≡ f k) [
-            | true ↦ λ z. h.filled.right k (ltb-true k i z)
-            | false ↦ λ z. h.rest k (ltb-false k i z) m ∙ g k (ltb-false k i z) m
-          ]) refl
+          cases (ltb k i)
+          (λ z. h.filled.right k (ltb-true k i z))
+          (λ z. h.rest k (ltb-false k i z) m ∙ g k (ltb-false k i z) m)

@@ -5,6 +5,7 @@ use mathlib.Core.Bool.{Bool, true, false, cond, not, ◌&&◌}
 use mathlib.Core.List.{List}
 use native.Mathlib.Omega.{arith}
 use borrow.Author.Tests.{lt-ltb, ltb-true, ltb-false}
+use borrow.Table.Steps.{cases}
 use lib.Dec.{eqb, ltb}
 use lib.ListN.{length, get_or, replicate, get_or-eq_default}
 use Rattle.sheet.specs.Words.{Sheet}
@@ -62,10 +63,9 @@ module _ (s : Sheet) (st : State) where
   flags_active : (o : ℕ) → flagged active_flags o ≡ active st o
   unfolding flagged
   flags_active o =
-      (elim (ltb o state_objects) as (λ b. ltb o state_objects ≡ b → not (eqb (get_or active_flags o 0) 0) ≡ active st o) [
-        | true ↦ λ e. ap (λ (n : ℕ). not (eqb n 0)) (get_d_tabulate {X = ℕ} (λ q. cond (active st q) 1 0) state_objects o 0 (ltb-true o state_objects e)) ∙ flag (active st o)
-        | false ↦ λ e. ap (λ (n : ℕ). not (eqb n 0)) (get_or-eq_default active_flags 0 (past (ltb-false o state_objects e))) ∙ sym (past_active st o e)
-      ]) refl
+      cases (ltb o state_objects)
+      (λ e. ap (λ (n : ℕ). not (eqb n 0)) (get_d_tabulate {X = ℕ} (λ q. cond (active st q) 1 0) state_objects o 0 (ltb-true o state_objects e)) ∙ flag (active st o))
+      (λ e. ap (λ (n : ℕ). not (eqb n 0)) (get_or-eq_default active_flags 0 (past (ltb-false o state_objects e))) ∙ sym (past_active st o e))
     where
       past : state_objects ≤ o → length active_flags ≤ o
       past l = rw (length_tabulate {X = ℕ} (λ q. cond (active st q) 1 0) state_objects) l
