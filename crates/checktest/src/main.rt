@@ -3,14 +3,11 @@
 // (tools/store-sheets).
 #![tactic(auto)]
 
-use text::output::write_output;
 use text::sheets::tell_pairs;
-use verdicts::{VERDICT_ROOM, verdict_line};
+use verdicts::write_verdict;
 
 fn main(rt: HostRuntime) {
     tell_pairs(&rt, "checktest LANGS SHEET ..", b": ", |sheet, langs| {
-        let mut line = [0u8; VERDICT_ROOM];
-        let length = verdict_line(sheet, langs, &mut line);
-        write_output(&rt, &line[..length]);
+        write_verdict(&rt, sheet, langs)
     });
 }

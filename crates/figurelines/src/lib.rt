@@ -14,6 +14,7 @@ ghost use Rattle.text.specs.Decimal.{signed_decimal};
 use checker::search::check;
 use figures::by_verdict::figures_by;
 use figures::{Figure, FigureNumber, Figures, MOST_FIGURES};
+use text::output::write_output;
 use text::writing::Text;
 use values::signed::signed;
 use verdicts::put_verdict;
@@ -72,4 +73,12 @@ pub fn figures_text(sheet: &[u8], langs: &[u8], lines: &mut [u8; FIGURES_ROOM]) 
     let given = figures_by(sheet, verdict);
     put_figures(&mut text, &given.lines[..given.count.min(MOST_FIGURES)]);
     text.count
+}
+
+// Prints the line of a sheet's verdict under a list of languages and a line for each figure.
+pub fn write_figures<R: Print + Eprint>(rt: &R, sheet: &[u8], langs: &[u8]) {
+    let mut lines = [0u8; FIGURES_ROOM];
+    let length = figures_text(sheet, langs, &mut lines);
+    // a failure is told, and ends nothing
+    let _ = write_output(rt, &lines[..length]);
 }

@@ -3,14 +3,11 @@
 // implementation in bindings/rust (tools/store-figures).
 #![tactic(auto)]
 
-use figurelines::{FIGURES_ROOM, figures_text};
-use text::output::write_output;
+use figurelines::write_figures;
 use text::sheets::tell_pairs;
 
 fn main(rt: HostRuntime) {
     tell_pairs(&rt, "figurestest LANGS SHEET ..", b":\n", |sheet, langs| {
-        let mut lines = [0u8; FIGURES_ROOM];
-        let length = figures_text(sheet, langs, &mut lines);
-        write_output(&rt, &lines[..length]);
+        write_figures(&rt, sheet, langs)
     });
 }

@@ -21,12 +21,13 @@ fn answer_all<R: Input + Print + Eprint>(rt: &R) {
         match input.read(&mut read) {
             Ok(0) => {
                 let count = answer_last(&line, &mut answers);
-                write_output(rt, part(&answers, 0, count));
+                // a failure is told, and this is the end
+                let _ = write_output(rt, part(&answers, 0, count));
                 return;
             }
             Ok(n) => {
                 let count = answer_read(&mut line, &read[..n], &mut answers);
-                if !write_output(rt, part(&answers, 0, count)) {
+                if write_output(rt, part(&answers, 0, count)).is_err() {
                     return;
                 }
             }

@@ -7,15 +7,21 @@ use console::bench::{ANSWER_ROOM, answer_part, opened};
 use listener::State;
 use std::env::Env;
 use std::fs::Files;
-use std::io::{Input, Read};
-use text::lines::{ROOM, part};
-use text::output::{say_failure, write_output};
+use std::io::{Error, Input, Read};
+use text::lines::ROOM;
+use text::output::{say_failure, say_usage, write_output};
 use text::reading::{LANGS_ROOM, arg_count, argument_is, read_argument, read_langs};
 use text::writing::Text;
 
 // The bench goes on no more: the input ended, a read failed, or an answer could not be written.
 #[derive(Clone, Copy)]
 struct Ended;
+
+impl From<Error> for Ended {
+    fn from(_error: Error) -> Ended {
+        Ended
+    }
+}
 
 // What the bench is lent, the listener's state, the line that is being read, and the room for an answer.
 #[derive(Drop)]
@@ -43,11 +49,8 @@ impl<'a> Bench<'a> {
             self.answer,
         );
         self.state = answered.state;
-        if write_output(rt, part(self.answer, 0, answered.count)) {
-            Ok(())
-        } else {
-            Err(Ended)
-        }
+        write_output(rt, &self.answer[..answered.count])?;
+        Ok(())
     }
 
     // Answers the lines that end in what was read, and keeps the beginning of the next.
@@ -75,13 +78,10 @@ impl<'a> Bench<'a> {
         input: &mut I,
     ) -> Result<(), Ended> {
         let mut buffer = io::buffer();
-        match input.read(&mut buffer) {
-            Ok(0) => self.answer_last(rt),
-            Ok(n) => self.answer_read(rt, &buffer[..n]),
-            Err(error) => {
-                say_failure(rt, "standard input", error);
-                Err(Ended)
-            }
+        let read = input.read(&mut buffer);
+        match read.inspect_err(|error| say_failure(rt, "standard input", *error))? {
+            0 => self.answer_last(rt),
+            n => self.answer_read(rt, &buffer[..n]),
         }
     }
 }
@@ -91,7 +91,7 @@ impl<'a> Bench<'a> {
 fn answer_input<R: Input + Print + Eprint>(rt: &R, lent: Lent) {
     let mut answer = [0u8; ANSWER_ROOM];
     let start = opened(lent, &mut answer);
-    if !write_output(rt, &answer[..start.count]) {
+    if write_output(rt, &answer[..start.count]).is_err() {
         return;
     }
     let mut room = [0u8; ROOM];
@@ -109,10 +109,6 @@ fn answer_input<R: Input + Print + Eprint>(rt: &R, lent: Lent) {
     }
 }
 
-fn write_usage<R: Eprint>(rt: &R) {
-    let _ = eprintln!(rt; "usage: listen FILE");
-}
-
 // Reads the sheet that the argument names, and answers. The buffer is longer than any sheet, so a file that fills it is refused, whatever
 // follows.
 fn answer_under<R: Input + Env + Files + Print + Eprint>(rt: &R, langs: &[u8]) {
@@ -125,12 +121,8 @@ fn answer_under<R: Input + Env + Files + Print + Eprint>(rt: &R, langs: &[u8]) {
 }
 
 fn main(rt: HostRuntime) {
-    if arg_count(&rt) != 2 {
-        write_usage(&rt);
-        return;
-    }
-    if argument_is(&rt, 1, b"--help") {
-        write_usage(&rt);
+    if arg_count(&rt) != 2 || argument_is(&rt, 1, b"--help") {
+        say_usage(&rt, "listen FILE");
         return;
     }
     let mut langs = [0u8; LANGS_ROOM];

@@ -9,7 +9,7 @@ use console::Lent;
 use scripts::answer_script;
 use std::env::Env;
 use std::fs::Files;
-use text::output::write_output;
+use text::output::{say_usage, write_output};
 use text::reading::{LANGS_ROOM, arg_count, read_argument, refuse_argument, write_argument};
 
 // Runs the script that an argument names, on a sheet under a list of languages.
@@ -22,9 +22,10 @@ fn run_script<R: Env + Files + Print + Eprint>(rt: &R, lent: Lent, i: usize) {
         refuse_argument(rt, i, "longer than 65536 bytes");
         return;
     }
-    write_output(rt, b"script ");
+    // a failure is told, and ends nothing
+    let _ = write_output(rt, b"script ");
     write_argument(rt, i);
-    write_output(rt, b"\n");
+    let _ = write_output(rt, b"\n");
     answer_script(rt, lent, &script[..n]);
 }
 
@@ -50,7 +51,7 @@ fn run_triple<R: Env + Files + Print + Eprint>(rt: &R, h: usize, i: usize, j: us
 fn main(rt: HostRuntime) {
     let count = arg_count(&rt);
     if count % 3 != 1 {
-        let _ = eprintln!(rt; "usage: listentest LANGS SHEET SCRIPT ..");
+        say_usage(&rt, "listentest LANGS SHEET SCRIPT ..");
         return;
     }
     for k in 0..count / 3 {

@@ -4,27 +4,26 @@ use console::Lent;
 use console::answers::put_words;
 use console::bench::{ANSWER_ROOM, Answered, obey, opened};
 use listener::{Refusal, Setting, State};
+use std::fmt;
+use std::fmt::Write;
 use text::lines::{part, said};
 use text::output::write_output;
 use text::writing::Text;
 
 // As in `tracks 3 of 5 : 0 1 5 65535 65535`, or `refused 32 of ..`.
-fn put_listing(text: &mut Text, listing: Result<u64, Refusal>, words: &[u16]) {
+fn put_listing(text: &mut Text, listing: Result<u64, Refusal>, words: &[u16]) -> fmt::Result {
     match listing {
-        Ok(entries) => {
-            text.text(b"tracks ");
-            text.number(entries);
-        }
+        Ok(entries) => write!(text, "tracks {entries}")?,
         Err(refusal) => {
-            text.text(b"refused ");
-            text.number(u64::from(u16::from(refusal)));
+            let number = u16::from(refusal);
+            write!(text, "refused {number}")?;
         }
     }
-    text.text(b" of ");
-    text.number(words.len() as u64);
-    text.text(b" :");
+    let room = words.len();
+    write!(text, " of {room} :")?;
     put_words(text, words);
     text.text(b"\n");
+    Ok(())
 }
 
 // Lists into the first n words of a buffer of 64.
@@ -33,7 +32,8 @@ fn list_into(text: &mut Text, lent: Lent, state: State, n: usize) {
     match buffer.get_mut(..n) {
         Some(words) => {
             let listing = state.list(lent.sheet, lent.langs, words);
-            put_listing(text, listing, words);
+            // a `Text` takes each piece
+            let _ = put_listing(text, listing, words);
         }
         None => text.text(b"?\n"),
     }
@@ -62,9 +62,8 @@ fn take_test(text: &mut Text, lent: Lent, state: State, step: TestStep) -> State
             return State { programme, ..state };
         }
         TestStep::Lend(list) => {
-            text.text(b"lent ");
-            text.number((list.as_bytes().len() / 2) as u64);
-            text.text(b"\n");
+            let words = list.as_bytes().len() / 2;
+            let _ = writeln!(text, "lent {words}");
         }
     }
     state
@@ -86,37 +85,21 @@ fn take(lent: Lent, state: State, step: Step, answer: &mut [u8; ANSWER_ROOM]) ->
     }
 }
 
-// Answers a step under the script's own list, or else under the one that the opening was lent.
-fn take_under(
-    lent: Lent,
-    list: &Option<WordList>,
-    state: State,
-    step: Step,
-    answer: &mut [u8; ANSWER_ROOM],
-) -> Answered {
-    match list {
-        None => take(lent, state, step, answer),
-        Some(words) => {
-            let sheet = lent.sheet;
-            let langs = words.as_bytes();
-            take(Lent { sheet, langs }, state, step, answer)
-        }
-    }
-}
-
-// Opens the sheet, then answers each line of the script; what follows its last newline is a line too, unless it is empty. The script's own
-// list is the last that it lent.
+// Opens the sheet, then answers each line of the script; what follows its last newline is a line too, unless it is empty. A step is answered
+// under the last list that the script lent, or else under the one that the opening was lent.
 pub fn answer_script<R: Print + Eprint>(rt: &R, lent: Lent, script: &[u8]) {
     let mut answer = [0u8; ANSWER_ROOM];
     let mut answered = opened(lent, &mut answer);
-    write_output(rt, part(&answer, 0, answered.count));
+    // a failure is told, and ends nothing
+    let _ = write_output(rt, &answer[..answered.count]);
     let mut list = None;
     for line in script.split_inclusive(|byte| *byte == b'\n') {
         let step = step_of(said(line.strip_suffix(b"\n").unwrap_or(line)));
         if let Step::Test(TestStep::Lend(words)) = step {
             list = Some(words);
         }
-        answered = take_under(lent, &list, answered.state, step, &mut answer);
-        write_output(rt, part(&answer, 0, answered.count));
+        let langs = list.as_ref().map_or(lent.langs, WordList::as_bytes);
+        answered = take(Lent { langs, ..lent }, answered.state, step, &mut answer);
+        let _ = write_output(rt, part(&answer, 0, answered.count));
     }
 }

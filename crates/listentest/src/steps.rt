@@ -4,8 +4,9 @@
 // `lend` lends another list of languages to all that follows in the script: 0 to 64 words.
 use console::commands::{Command, command_of};
 use listener::Setting;
-use text::lines::{field, field_count, part, same};
+use text::lines::{field, field_count, part};
 use text::numbers::{gain_value_of, number_of, tenths_of};
+use text::writing::Text;
 
 // The most words that `lend` lends.
 const MOST_WORDS: usize = 64;
@@ -43,50 +44,41 @@ pub enum Step {
 
 // The step that a line says.
 pub fn step_of(line: &[u8]) -> Step {
-    let n = field_count(line);
-    if n == 1 && same(field(line, 0), b"open") {
+    if let (1, b"open") = (field_count(line), field(line, 0)) {
         return Step::Open;
     }
-    match test_step_of(line, n) {
+    match test_step_of(line) {
         Some(step) => Step::Test(step),
         None => Step::Bench(command_of(line)),
     }
 }
 
-fn test_step_of(line: &[u8], n: usize) -> Option<TestStep> {
-    let name = field(line, 0);
-    if n == 2 && same(name, b"list") {
-        return Some(TestStep::List(number_of(field(line, 1))?));
+fn test_step_of(line: &[u8]) -> Option<TestStep> {
+    match (field_count(line), field(line, 0), field(line, 1)) {
+        (2, b"list", room) => Some(TestStep::List(number_of(room)?)),
+        (n, b"lend", _) => Some(TestStep::Lend(words_of(line, n)?)),
+        (3, b"put", b"programme") => Some(TestStep::PutProgramme(number_of(field(line, 2))?)),
+        (6, b"put", b"object") => {
+            let o = number_of(field(line, 2))?;
+            Some(TestStep::PutObject(o, setting_of(line)?))
+        }
+        _ => None,
     }
-    if same(name, b"lend") {
-        return Some(TestStep::Lend(words_of(line, n)?));
-    }
-    if n == 3 && same(name, b"put") && same(field(line, 1), b"programme") {
-        return Some(TestStep::PutProgramme(number_of(field(line, 2))?));
-    }
-    if n == 6 && same(name, b"put") && same(field(line, 1), b"object") {
-        let o = number_of(field(line, 2))?;
-        return Some(TestStep::PutObject(o, setting_of(line)?));
-    }
-    None
 }
 
-// The words behind the first field.
+// The words behind the first of n fields.
 fn words_of(line: &[u8], n: usize) -> Option<WordList> {
-    let mut bytes = [0u8; 2 * MOST_WORDS];
     let words = n.checked_sub(1)?;
     if words > MOST_WORDS {
         return None;
     }
-    for k in 0..words {
-        let word = number_of(field(line, k as u8 + 1))?.to_be_bytes();
-        bytes[2 * k] = word[0];
-        bytes[2 * k + 1] = word[1];
+    let mut bytes = [0u8; 2 * MOST_WORDS];
+    let mut list = Text::new(&mut bytes);
+    for k in 0..words as u8 {
+        list.text(&number_of(field(line, k + 1))?.to_be_bytes());
     }
-    Some(WordList {
-        bytes,
-        count: 2 * words,
-    })
+    let count = list.count;
+    Some(WordList { bytes, count })
 }
 
 // The object's setting stands in the fields from 3 on.
@@ -99,11 +91,9 @@ fn setting_of(line: &[u8]) -> Option<Setting> {
 }
 
 fn activity_of(name: &[u8]) -> Option<bool> {
-    if same(name, b"active") {
-        return Some(true);
+    match name {
+        b"active" => Some(true),
+        b"inactive" => Some(false),
+        _ => None,
     }
-    if same(name, b"inactive") {
-        return Some(false);
-    }
-    None
 }

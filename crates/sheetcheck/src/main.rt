@@ -2,17 +2,12 @@
 // `accepted`, or a line like `rule 14 section 3 record 0`.
 #![tactic(auto)]
 
-use text::output::write_output;
 use text::sheets::tell_input;
-use verdicts::{VERDICT_ROOM, verdict_line};
+use verdicts::write_verdict;
 
 // The sheet's buffer is longer than any sheet, so an input that fills it breaks rule 1, whatever follows; and a list that fills its buffer
 // can't rise, and breaks rule 33 (`cut_input`, `cut_langs`, crates/verdicts/proofs/LongInput.antt). No file `langs` is an empty list. An
 // argument, or a read that fails, gives no verdict: standard error says why.
 fn main(rt: HostRuntime) {
-    tell_input(&rt, "sheetcheck <FILE", |sheet, langs| {
-        let mut line = [0u8; VERDICT_ROOM];
-        let length = verdict_line(sheet, langs, &mut line);
-        write_output(&rt, &line[..length]);
-    });
+    tell_input(&rt, "sheetcheck <FILE", |sheet, langs| write_verdict(&rt, sheet, langs));
 }

@@ -6,6 +6,7 @@ use crate::lines::same;
 use values::Gain;
 
 // A number from 0 to `most`.
+#[tactic(auto, using(crate::proofs::NumberLaws::digit_test, crate::proofs::NumberLaws::empty, crate::proofs::NumberLaws::stray, crate::proofs::NumberLaws::above, crate::proofs::NumberLaws::valued, crate::proofs::NumberLaws::judged, crate::proofs::NumberLaws::finished))]
 fn number_up_to(text: &[u8], most: u32) -> Option<u32>
     ensures { result ≡ cond (is_number most text.now) (Some (value 0 text.now)) None }
 {

@@ -15,7 +15,8 @@ use std::{fs, str};
 // A list of more words can't rise, so that so many bytes decide (`cut_langs`, crates/verdicts/proofs/LongInput.antt): 65,537 words.
 pub const LANGS_ROOM: usize = 131074;
 
-// A read that failed: why, and how many bytes were read before.
+// A read that failed: why, and how many bytes were read before. `read_input` promises of those what it promises of a whole input
+// (`bytes_read`), so the error alone would say less.
 #[derive(Clone, Copy)]
 pub struct ReadFailed {
     pub error: Error,
@@ -43,24 +44,18 @@ pub fn read_input<R: Read>(reader: &mut R, buffer: &mut [u8]) -> Result<usize, R
 
 // How many arguments the program was started with, its own name among them.
 pub fn arg_count<R: Env>(rt: &R) -> usize {
-    for i in 0..usize::MAX {
-        if let Err(FillError::NotPresent) = rt.arg(i, &mut []) {
-            return i;
-        }
-    }
-    usize::MAX
+    (0..usize::MAX)
+        .find(|i| matches!(rt.arg(*i, &mut []), Err(FillError::NotPresent)))
+        .unwrap_or(usize::MAX)
 }
 
 // An argument as text, which the name of a file has to be.
 fn argument_text<'a, R: Env>(rt: &R, i: usize, room: &'a mut [u8]) -> Result<&'a str, Error> {
-    match rt.arg(i, room) {
-        Ok(n) => match str::from_utf8(&room[..n]) {
-            Ok(name) => Ok(name),
-            Err(_) => Err(Error::from(ErrorKind::InvalidFilename)),
-        },
-        Err(FillError::NotPresent) => Err(Error::from(ErrorKind::InvalidInput)),
-        Err(FillError::TooLong) => Err(Error::from(ErrorKind::InvalidFilename)),
-    }
+    let n = rt.arg(i, room).map_err(|unfilled| match unfilled {
+        FillError::NotPresent => Error::from(ErrorKind::InvalidInput),
+        FillError::TooLong => Error::from(ErrorKind::InvalidFilename),
+    })?;
+    str::from_utf8(&room[..n]).map_err(|_| Error::from(ErrorKind::InvalidFilename))
 }
 
 // Says on standard error why an argument does not serve.
@@ -89,11 +84,7 @@ fn read_opened<R: Eprint, F: Read>(
 ) -> Result<usize, ReadFailed>
     ensures { IsPrefixLen (bytes_read result) buffer.new }
 {
-    let input = read_input(file, buffer);
-    if let Err(failed) = input {
-        say_failure(rt, name, failed.error);
-    }
-    input
+    read_input(file, buffer).inspect_err(|failed| say_failure(rt, name, failed.error))
 }
 
 // Reads the file that an argument names. Where that fails, standard error says why.
@@ -105,13 +96,9 @@ pub fn read_argument<R: Env + Files + Eprint>(
     ensures { IsPrefixLen (bytes_read result) buffer.new }
 {
     let mut room = io::buffer();
-    match argument_text(rt, i, &mut room) {
-        Ok(name) => match fs::open(rt, name) {
-            Ok(mut file) => read_opened(rt, name, &mut file, buffer),
-            Err(error) => Err(unread(rt, name, error)),
-        },
-        Err(error) => Err(unread(rt, "argument", error)),
-    }
+    let name = argument_text(rt, i, &mut room).map_err(|error| unread(rt, "argument", error))?;
+    let mut file = fs::open(rt, name).map_err(|error| unread(rt, name, error))?;
+    read_opened(rt, name, &mut file, buffer)
 }
 
 // Reads the file `langs` of the folder that the program runs in; where there is none, the list is empty. Where reading fails, standard
@@ -130,10 +117,7 @@ pub fn read_langs<R: Files + Eprint>(rt: &R, buffer: &mut [u8]) -> Result<usize,
 // Whether an argument is this word.
 pub fn argument_is<R: Env>(rt: &R, i: usize, word: &[u8]) -> bool {
     let mut room = io::buffer();
-    match rt.arg(i, &mut room) {
-        Ok(n) => same(&room[..n], word),
-        Err(_) => false,
-    }
+    matches!(rt.arg(i, &mut room), Ok(n) if same(&room[..n], word))
 }
 
 // Writes an argument to standard output, as it was given.

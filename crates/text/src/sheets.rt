@@ -1,5 +1,5 @@
 // Programs that are lent a sheet and a list of languages, and hand both to `tell`, which writes what they say of them.
-use crate::output::{say_failure, write_output};
+use crate::output::{say_failure, say_usage, write_output};
 use crate::reading::{
     LANGS_ROOM, arg_count, read_argument, read_input, read_langs, write_argument,
 };
@@ -17,7 +17,7 @@ pub fn tell_input<R: Input + Env + Files + Print + Eprint, F: Fn(&[u8], &[u8])>(
     requires { F.IsAlwaysCallable tell }
 {
     if arg_count(rt) > 1 {
-        let _ = eprintln!(rt; "usage: {usage}");
+        say_usage(rt, usage);
         return;
     }
     let mut langs = [0u8; LANGS_ROOM];
@@ -50,7 +50,8 @@ fn tell_files<R: Env + Files + Print + Eprint, F: Fn(&[u8], &[u8])>(
         return;
     };
     write_argument(rt, sheet_at);
-    write_output(rt, behind_name);
+    // a failure is told, and ends nothing
+    let _ = write_output(rt, behind_name);
     tell(&sheet[..count], &langs[..list]);
 }
 
@@ -65,7 +66,7 @@ pub fn tell_pairs<R: Env + Files + Print + Eprint, F: Fn(&[u8], &[u8])>(
 {
     let n = arg_count(rt);
     if n % 2 == 0 {
-        let _ = eprintln!(rt; "usage: {usage}");
+        say_usage(rt, usage);
         return;
     }
     for i in 0..n / 2 {

@@ -5,16 +5,19 @@ ghost use Rattle.text.specs.Decimal.{decimal, gain_text, signed_decimal};
 ghost use Rattle.text.specs.Lines.{part};
 
 use crate::lines::part;
+use std::fmt;
 use values::Gain;
 
-// A text in a lent buffer: its first `count` bytes.
+// A text in a lent buffer: its first `count` bytes. No heap in this project, so the count stands beside the buffer.
 #[derive(Drop)]
 pub struct Text<'a> {
     pub buffer: &'a mut [u8],
     pub count: usize,
 }
 
-// Methods in place of `write!`: that may answer an error, after which its contract says nothing of the bytes, and these say each of them.
+// These methods can't fail, and say each byte, also where there is no room for all. `write!` says what it wrote under `OnOk` alone, since a
+// `Display` may answer an error whatever the writer does: with `write!(self, "{n}")` as the body of `number`, its `Appends` stays open, of
+// which a part is that the buffer is still the same.
 impl<'a> Text<'a> {
     // No text yet.
     pub fn new(buffer: &'a mut [u8]) -> Text<'a>
@@ -32,6 +35,7 @@ impl<'a> Text<'a> {
         part(self.buffer, 0, self.count)
     }
 
+    #[tactic(auto, unfolding(crate::specs::Buffer::put_text, crate::specs::Buffer::put_byte))]
     pub fn byte(&mut self, byte: u8)
         ensures { Appends self.old (byte ∷ []) self.new }
     {
@@ -41,6 +45,7 @@ impl<'a> Text<'a> {
         }
     }
 
+    #[tactic(auto, using(crate::proofs::BufferLaws::appends_none))]
     pub fn text(&mut self, text: &[u8])
         ensures { Appends self.old text.now self.new }
     {
@@ -50,6 +55,7 @@ impl<'a> Text<'a> {
     }
 
     // A number in decimal.
+    #[tactic(auto, using(crate::proofs::DecimalLaws::decimal_digits))]
     pub fn number(&mut self, n: u64)
         ensures { Appends self.old (decimal n) self.new }
     {
@@ -69,6 +75,7 @@ impl<'a> Text<'a> {
     }
 
     // `silence`, or the number of tenths.
+    #[tactic(auto, unfolding(crate::specs::Decimal::gain_text))]
     pub fn gain(&mut self, gain: Gain)
         ensures { Appends self.old (gain_text gain) self.new }
     {
@@ -76,5 +83,15 @@ impl<'a> Text<'a> {
             Gain::Silent => self.text(b"silence"),
             Gain::Tenths(z) => self.signed(z),
         }
+    }
+}
+
+// `write!`, for programs whose printing has no contract.
+impl fmt::Write for Text<'_> {
+    ghost write_str_gives = { Appends };
+
+    fn write_str(&mut self, text: &str) -> fmt::Result {
+        self.text(text.as_bytes());
+        Ok(())
     }
 }

@@ -8,6 +8,7 @@ ghost use Rattle.text.specs.Buffer.{Appends, TextFilled};
 
 use checker::search::check;
 use profile::Verdict;
+use text::output::write_output;
 use text::writing::Text;
 
 // More room than any line of a verdict takes.
@@ -40,4 +41,12 @@ pub fn verdict_line(sheet: &[u8], langs: &[u8], line: &mut [u8; VERDICT_ROOM]) -
     let mut text = Text::new(line);
     put_verdict(&mut text, check(sheet, langs));
     text.count
+}
+
+// Prints the line of a sheet's verdict under a list of languages.
+pub fn write_verdict<R: Print + Eprint>(rt: &R, sheet: &[u8], langs: &[u8]) {
+    let mut line = [0u8; VERDICT_ROOM];
+    let length = verdict_line(sheet, langs, &mut line);
+    // a failure is told, and ends nothing
+    let _ = write_output(rt, &line[..length]);
 }
