@@ -18,7 +18,8 @@ use text::writing::Text;
 // More room than any answer takes: a state's has a line for each of its 84 objects.
 pub const ANSWER_ROOM: usize = 8192;
 
-// The listener's state after a command, and the length of the answer. The answer stands in an array that the caller lends: no heap.
+// The listener's state after a command, and the length of the answer. The answer stands in an array that the caller lends: no heap. No slice of
+// it in place of the length: the contracts speak of the whole array, and so say what stands behind the answer too.
 #[derive(Clone, Copy)]
 pub struct Answered {
     pub state: State,
@@ -89,7 +90,8 @@ pub fn obey(
     }
 }
 
-// Adds what was read to the line, and answers the line if it is whole.
+// Adds what was read to the line, and answers the line if it is whole. `whole` is as in `answered_part`, of which `cut_anywhere` says that it
+// doesn't matter how a line is cut into reads.
 #[tactic(auto, unfolding(crate::specs::Bench::answered_part, crate::specs::Bench::answered_line))]
 pub fn answer_part(
     lent: Lent,

@@ -36,6 +36,9 @@ pub fn command_of(line: &[u8]) -> Option<Command>
     }
 }
 
+// A name is told by `same`, as in the definitions. `match name { b"list" => .., b"state" => .., _ => .. }` was tried: it asks for a proof for
+// each byte of the names, 13 here, which the check doesn't find.
+
 // `list` and `state`.
 #[tactic(auto, unfolding(crate::specs::Commands::alone))]
 fn alone(name: &[u8]) -> Option<Command>

@@ -1,5 +1,5 @@
 -- The lines of figures, one behind the other, and that they have room. Assumes nothing.
-use Rattle.std.proofs.Common.{◌≡◌, ℕ, min, ◌*◌, ◌≤◌, List, [], ◌∷◌, length, map, take, length-append, arith}
+use Rattle.std.proofs.Common.{◌*◌, ◌≤◌, List, [], ◌∷◌, ℕ, length, map, length-append, arith}
 use Rattle.figures.specs.declared.Figure.{Figure}
 use Rattle.figures.specs.Clashes.{printed}
 use Rattle.text.specs.Bytes.{join}
@@ -8,9 +8,7 @@ use Rattle.text.proofs.BytesLaws.{join_length, none_length}
 use Rattle.sheet.specs.Words.{Sheet}
 use Rattle.profile.specs.Verdict.{verdict}
 use Rattle.verdicts.proofs.LengthLaws.{verdict_fits}
-use Rattle.figures.specs.declared.Figures.{Figures}
-use Rattle.figures.specs.Lists.{most_figures, FiguresGiven}
-use Rattle.figures.proofs.GivenLaws.{given_list}
+use Rattle.figures.specs.Lists.{most_figures}
 use Rattle.figures.specs.Figures.{figures}
 use Rattle.figurelines.specs.FigureLines.{figure_line, figures_text}
 
@@ -28,7 +26,3 @@ lines_fit (x ∷ xs) = simp join_length (omega (arith, line_fits x, lines_fit xs
 pub text_fits : (s : Sheet) (langs : List ℕ) → length (figures s langs) ≤ most_figures → length (figures_text s langs) ≤ 2048
 unfolding figures_text
 text_fits s langs h = simp length-append (omega (arith, verdict_fits (verdict s langs), lines_fit (figures s langs)))
-
--- all figures that are given are told
-pub all_told : (xs : List Figure) (given : Figures) (n : ℕ) → FiguresGiven xs given → length xs ≤ most_figures → n ≡ min given.count most_figures → take n given.lines ≡ xs
-all_told xs given n g h e = let m : n ≡ given.count = omega (arith, e, g.number, h) in rw m (given_list xs given g)

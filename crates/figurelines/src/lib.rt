@@ -13,7 +13,7 @@ ghost use Rattle.text.specs.Decimal.{signed_decimal};
 
 use checker::search::check;
 use figures::by_verdict::figures_by;
-use figures::{Figure, FigureNumber, Figures, MOST_FIGURES};
+use figures::{Figure, FigureNumber, Figures};
 use text::output::write_output;
 use text::writing::Text;
 use values::signed::signed;
@@ -63,7 +63,8 @@ pub fn figures(sheet: &[u8], langs: &[u8]) -> Figures
     figures_by(sheet, check(sheet, langs))
 }
 
-// Writes the line of a sheet's verdict under a list of languages and a line for each figure into a lent buffer, and gives their length.
+// Writes the line of a sheet's verdict under a list of languages and a line for each figure into a lent buffer, and gives their length. No slice
+// of the buffer in its place: the contract speaks of the whole buffer, and so says what stands behind the lines too.
 pub fn figures_text(sheet: &[u8], langs: &[u8], lines: &mut [u8; FIGURES_ROOM]) -> usize
     ensures { TextFilled lines.old (figures_text (sheet_of sheet.now) (words langs.now)) result lines.new }
 {
@@ -71,7 +72,7 @@ pub fn figures_text(sheet: &[u8], langs: &[u8], lines: &mut [u8; FIGURES_ROOM]) 
     let verdict = check(sheet, langs);
     put_verdict(&mut text, verdict);
     let given = figures_by(sheet, verdict);
-    put_figures(&mut text, &given.lines[..given.count.min(MOST_FIGURES)]);
+    put_figures(&mut text, given.as_slice());
     text.count
 }
 

@@ -34,7 +34,8 @@ pub fn put_verdict(text: &mut Text, verdict: Verdict)
     }
 }
 
-// Writes the line of a sheet's verdict under a list of languages into a lent buffer, and gives its length.
+// Writes the line of a sheet's verdict under a list of languages into a lent buffer, and gives its length. No slice of the buffer in its place:
+// the contract speaks of the whole buffer, and so says what stands behind the line too.
 pub fn verdict_line(sheet: &[u8], langs: &[u8], line: &mut [u8; VERDICT_ROOM]) -> usize
     ensures { TextFilled line.old (verdict_line (checked sheet.now langs.now)) result line.new }
 {
