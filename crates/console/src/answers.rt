@@ -11,6 +11,7 @@ use text::writing::Text;
 use values::Gain;
 
 // `done`, or as in `refused 28`.
+#[tactic(auto, unfolding(crate::specs::Answers::answer_line))]
 pub fn put_answer(text: &mut Text, answer: Result<(), Refusal>)
     ensures { Appends text.old (answer_line answer) text.new }
 {
@@ -25,6 +26,7 @@ pub fn put_answer(text: &mut Text, answer: Result<(), Refusal>)
 }
 
 // Each word behind a space.
+#[tactic(auto, unfolding(crate::specs::Answers::words_text), using(text::proofs::BufferLaws::appends_none))]
 pub fn put_words(text: &mut Text, words: &[u16])
     ensures { Appends text.old (words_text words.now) text.new }
 {
@@ -81,6 +83,7 @@ fn put_values(text: &mut Text, gain: Gain, offset: i16)
 }
 
 // As in `object 3 active gain -60 offset 0`; an object at rest has no line.
+#[tactic(auto, unfolding(crate::specs::Answers::object_line), using(text::proofs::BufferLaws::appends_none))]
 fn put_setting(text: &mut Text, o: u16, x: Setting)
     ensures { Appends text.old (object_line o x) text.new }
 {
@@ -92,6 +95,7 @@ fn put_setting(text: &mut Text, o: u16, x: Setting)
 }
 
 // Each object that is not at rest.
+#[tactic(auto, unfolding(profile::specs::Counting::concat_below, crate::specs::Answers::object_lines), using(text::proofs::BufferLaws::appends_none))]
 fn put_objects(text: &mut Text, state: State)
     ensures { Appends text.old (object_lines state) text.new }
 {

@@ -25,6 +25,7 @@ pub enum Command {
 }
 
 // The command that a line says, if it is one.
+#[tactic(auto, unfolding(crate::specs::Commands::command_of, crate::specs::Commands::with_number, crate::specs::Commands::with_value), using(crate::proofs::CommandLaws::one_field, crate::proofs::CommandLaws::two_fields, crate::proofs::CommandLaws::three_fields, crate::proofs::CommandLaws::other_fields))]
 pub fn command_of(line: &[u8]) -> Option<Command>
     ensures { result ≡ command_of line.now }
 {

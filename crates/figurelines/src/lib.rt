@@ -25,6 +25,7 @@ pub const FIGURES_ROOM: usize = 2048;
 // Functions over a `Text`, and no `impl Display`: the reason stands at `Text` (crates/text/src/writing.rt).
 
 // The number of a figure: a word with its sign, a kind or a share as it is.
+#[tactic(auto, unfolding(text::specs::Decimal::signed_decimal))]
 fn put_figure_number(text: &mut Text, number: FigureNumber)
     ensures { Appends text.old (signed_decimal (printed number)) text.new }
 {
@@ -48,6 +49,7 @@ fn put_figure(text: &mut Text, figure: Figure)
 }
 
 // A line for each figure.
+#[tactic(auto, unfolding(text::specs::Bytes::join), using(text::proofs::BufferLaws::appends_none))]
 fn put_figures(text: &mut Text, figures: &[Figure])
     ensures { Appends text.old (join (map figure_line figures.now)) text.new }
 {
@@ -57,6 +59,7 @@ fn put_figures(text: &mut Text, figures: &[Figure])
 }
 
 // The figures of a sheet under a list of languages: those of its refusal by 18, 20 or 24, none for any other verdict.
+#[tactic(auto, unfolding(figures::specs::Figures::figures, checker::specs::Checked::checked), using(figures::proofs::MostLaws::figures_most, figures::proofs::GivenLaws::first_given))]
 pub fn figures(sheet: &[u8], langs: &[u8]) -> Figures
     ensures { FiguresGiven (figures (sheet_of sheet.now) (words langs.now)) result }
 {

@@ -17,6 +17,7 @@ pub const VERDICT_ROOM: usize = 128;
 // Functions over a `Text`, and no `impl Display`: the reason stands at `Text` (crates/text/src/writing.rt).
 
 // `accepted`, or the rule with its place as in `rule 14 section 3 record 0`, and the line's end.
+#[tactic(auto, unfolding(crate::specs::VerdictLine::verdict_line))]
 pub fn put_verdict(text: &mut Text, verdict: Verdict)
     ensures { Appends text.old (verdict_line verdict) text.new }
 {

@@ -1,13 +1,8 @@
-use Rattle.text.specs.Bytes.{join}
-use Rattle.text.proofs.BufferLaws.{appends_none, appends_more}
+use Rattle.text.proofs.BufferLaws.{appends_more}
 use Rattle.text.proofs.BytesLaws.{joined_more}
 use Rattle.figures.specs.Clashes.{no_figure}
 use Rattle.figurelines.specs.FigureLines.{figure_line}
 use Rattle.figurelines.proofs.put_figures.Goals as goal
-
-pub loop-figure-init : goal.loop-figure-init
-unfolding join
-loop-figure-init c = appends_none c.args.text.now
 
 pub loop-figure-preserved : goal.loop-figure-preserved
 loop-figure-preserved c =

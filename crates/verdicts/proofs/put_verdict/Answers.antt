@@ -3,10 +3,6 @@ use Rattle.verdicts.specs.VerdictLine.{verdict_line}
 use Rattle.text.proofs.BufferLaws.{appends_join, appends_last}
 use Rattle.verdicts.proofs.put_verdict.Goals as goal
 
-pub returns-in-Accepted : goal.returns-in-Accepted
-unfolding verdict_line
-returns-in-Accepted c = rw c.in-Accepted.is c.text.ensures
-
 pub returns-in-Broken : goal.returns-in-Broken
 unfolding verdict_line
 returns-in-Broken c =

@@ -3,13 +3,9 @@ use mathlib.Core.Path.{◌≡◌, sym, ◌∙◌}
 use mir.Syntax.{w16}
 use mir.Val.{to_z, of_z}
 use borrow.Author.Rules.{rules}
-use Rattle.text.proofs.BufferLaws.{appends_none, appends_join, appends_last}
+use Rattle.text.proofs.BufferLaws.{appends_join, appends_last}
 use Rattle.console.specs.Answers.{setting_line, object_line}
 use Rattle.console.proofs.answers.put_setting.Goals as goal
-
-pub returns-then-is_resting : goal.returns-then-is_resting
-unfolding object_line
-returns-then-is_resting c = rw (sym c.is_resting.ensures ∙ c.if-is_resting.true) (appends_none c.args.text.now)
 
 pub returns : goal.returns
 unfolding object_line setting_line

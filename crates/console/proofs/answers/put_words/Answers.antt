@@ -1,11 +1,6 @@
-use Rattle.text.proofs.BufferLaws.{appends_none, appends_more}
-use Rattle.console.specs.Answers.{words_text}
+use Rattle.text.proofs.BufferLaws.{appends_more}
 use Rattle.console.proofs.PutLaws.{words_more}
 use Rattle.console.proofs.answers.put_words.Goals as goal
-
-pub loop-word-init : goal.loop-word-init
-unfolding words_text
-loop-word-init c = appends_none c.args.text.now
 
 pub loop-word-preserved : goal.loop-word-preserved
 loop-word-preserved c =
