@@ -8,7 +8,7 @@ use listener::State;
 use std::env::Env;
 use std::fs::Files;
 use std::io::{Error, Input, Read};
-use text::lines::ROOM;
+use text::lines::{ROOM, part};
 use text::output::{say_failure, say_usage, write_output};
 use text::reading::{LANGS_ROOM, arg_count, argument_is, read_argument, read_langs};
 use text::writing::Text;
@@ -49,7 +49,7 @@ impl<'a> Bench<'a> {
             self.answer,
         );
         self.state = answered.state;
-        write_output(rt, &self.answer[..answered.count])?;
+        write_output(rt, part(self.answer, 0, answered.count))?;
         Ok(())
     }
 
