@@ -9,5 +9,9 @@ use verdicts::write_verdict;
 // can't rise, and breaks rule 33 (`cut_input`, `cut_langs`, crates/verdicts/proofs/LongInput.antt). No file `langs` is an empty list. An
 // argument, or a read that fails, gives no verdict: standard error says why.
 fn main(rt: HostRuntime) {
-    tell_input(&rt, "sheetcheck <FILE", |sheet, langs| write_verdict(&rt, sheet, langs));
+    tell_input(
+        &rt,
+        "sheetcheck <FILE",
+        |sheet, langs| write_verdict(&rt, sheet, langs),
+    );
 }

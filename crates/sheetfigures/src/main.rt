@@ -9,5 +9,9 @@ use text::sheets::tell_input;
 // can't rise, and breaks rule 33; neither has figures (`cut_figures`, `cut_figures_langs`, crates/figurelines/proofs/LongInput.antt). No file
 // `langs` is an empty list. An argument, or a read that fails, gives no verdict: standard error says why.
 fn main(rt: HostRuntime) {
-    tell_input(&rt, "sheetfigures <FILE", |sheet, langs| write_figures(&rt, sheet, langs));
+    tell_input(
+        &rt,
+        "sheetfigures <FILE",
+        |sheet, langs| write_figures(&rt, sheet, langs),
+    );
 }
