@@ -1,7 +1,7 @@
 -- Nothing exceeds a limit. Assumes nothing.
 use Prim.Native.Nat.{ℕ}
 use mathlib.Core.Path.{◌≡◌}
-use mathlib.Core.Bool.{Bool, false, not, ◌&&◌}
+use mathlib.Core.Bool.{false, not}
 use Rattle.std.proofs.Math.Bool.{and-false}
 use native.Mathlib.Omega.{arith}
 use lib.Dec.{eqb}

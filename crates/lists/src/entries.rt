@@ -45,6 +45,7 @@ pub fn any_twice(s: &[u8], entries: Entries) -> bool
 }
 
 // Whether the entries are good languages and each is above the one before; then none comes twice.
+#[tactic(auto, unfolding(profile::specs::Counting::any, profile::specs::Counting::two_of), using(crate::proofs::RisingLaws::below_none))]
 pub fn labels_rise(s: &[u8], entries: Entries, langs: &Languages) -> bool
     ensures { result ≡ true → (any (no_language_at (sheet_of s.now) langs.now entries.base entries.list.first) entries.list.count ≡ false) × (two_of (same_at (sheet_of s.now) entries.base entries.list.first) entries.list.count ≡ false) }
 {

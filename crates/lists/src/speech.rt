@@ -42,6 +42,7 @@ impl Speech {
     }
 
     // Whether they break a rule, where there are no labels.
+    #[tactic(auto, using(crate::proofs::SpeechLaws::no_labels))]
     fn breaks_without_labels(self, s: &[u8], langs: &Languages) -> bool
         ensures { result ≡ speech_broken (sheet_of s.now) langs.now self.language self.labels.first 0 self.loudness }
     {
@@ -54,6 +55,7 @@ impl Speech {
     }
 
     // Whether they break a rule.
+    #[tactic(auto, unfolding(crate::specs::steps::Speech::speech_broken))]
     fn breaks(self, s: &[u8], langs: &Languages) -> bool
         ensures { result ≡ speech_broken (sheet_of s.now) langs.now self.language self.labels.first self.labels.count self.loudness }
     {
@@ -95,6 +97,7 @@ pub fn content_breaks(s: &[u8], langs: &Languages, k: u16) -> bool
 }
 
 // The content list and the set list of a programme.
+#[tactic(auto, unfolding(crate::specs::steps::Speech::programme_lists_broken, profile::specs::Rules::outside))]
 fn programme_lists_break(s: &[u8], contents: Span, sets: Span) -> bool
     ensures { result ≡ programme_lists_broken (sheet_of s.now) contents.first contents.count sets.first sets.count }
 {

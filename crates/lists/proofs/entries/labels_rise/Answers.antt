@@ -1,16 +1,12 @@
-use Rattle.std.proofs.Common.{◌<◌, ◌≡◌, refl, sym, ap, ◌∙◌, not, leb, arith}
+use Rattle.std.proofs.Common.{◌<◌, refl, sym, not, leb}
 use native.Mathlib.Numerals.{add-one}
 use borrow.Author.Tests.{leb-false}
 use Rattle.sheet.specs.Words.{sheet_of}
-use Rattle.profile.specs.Counting.{any, two_of}
+use Rattle.profile.specs.Counting.{any}
 use Rattle.profile.proofs.BoolLaws.{or_none}
 use Rattle.lists.specs.steps.Entries.{entry_at, no_language_at, same_at}
-use Rattle.lists.proofs.RisingLaws.{below_none, below_more, not_earlier}
+use Rattle.lists.proofs.RisingLaws.{below_more, not_earlier}
 use Rattle.lists.proofs.entries.labels_rise.Goals as goal
-
-pub loop-i-init : goal.loop-i-init
-unfolding any
-loop-i-init c = (below_none (entry_at (sheet_of c.args.s.now) c.args.entries.base c.args.entries.list.first) 0, refl, refl)
 
 pub loop-i-preserved : goal.loop-i-preserved
 unfolding any no_language_at same_at entry_at
@@ -22,7 +18,3 @@ loop-i-preserved c =
       rw (add-one, l.invariant.1, sym x.ensures, sym c.good.ensures, p.1) refl,
       rw (add-one, l.invariant.2, not_earlier entry l.i l.last l.invariant.0 h) refl,
     )
-
-pub returns : goal.returns
-unfolding two_of
-returns c = let e : c.loop-i.i ≡ c.args.entries.list.count = omega arith in λ z. (sym (ap (any _) e) ∙ c.loop-i.invariant.1, sym (ap (any _) e) ∙ c.loop-i.invariant.2)
