@@ -28,6 +28,7 @@ use tables::reads::{look, top_by};
 use values::Sort;
 
 // Whether a list or span of so many entries is above a limit.
+#[tactic(auto, using(lists::proofs::LimitLaws::no_excess))]
 fn exceeding(s: &[u8], column: u8, n: u16) -> bool
     ensures { result ≡ exceeds (sheet_of s.now) column n }
 {
@@ -68,6 +69,7 @@ impl ObjectValues {
 
     // The offset: rules 6, 17 and 18, and 16 but for the sets. Most have none. It alone needs a pack with front 1, so that gains have no
     // function like it.
+    #[tactic(auto, unfolding(crate::specs::steps::Objects::offsets_broken), using(crate::proofs::ObjectLaws::no_offset, crate::proofs::ObjectLaws::some_offset))]
     fn offsets_break(self) -> bool
         ensures { result ≡ offsets_broken self }
     {
@@ -122,6 +124,7 @@ impl<'a> ObjectWords<'a> {
     }
 
     // Its values.
+    #[tactic(auto, unfolding(crate::specs::steps::Objects::object_values, crate::specs::steps::Objects::is_front, profile::specs::Relations::has_front_pack, profile::specs::Relations::has_objects_pack, profile::specs::Relations::has_pack))]
     fn values(&self) -> ObjectValues
         ensures { result ≡ object_values (sheet_of self.now.s.now) self.now.o }
     {
@@ -134,6 +137,7 @@ impl<'a> ObjectWords<'a> {
     }
 
     // Without a pack: it has children and no tracks, and each child is an object with a pack of kind 3.
+    #[tactic(auto, unfolding(crate::specs::steps::Objects::children_broken))]
     fn children_break(&self) -> bool
         ensures { result ≡ children_broken (sheet_of self.now.s.now) self.now.o }
     {
@@ -144,6 +148,7 @@ impl<'a> ObjectWords<'a> {
     }
 
     // With a pack: it has no children, and its tracks are the pack's channels in their order.
+    #[tactic(auto, unfolding(crate::specs::steps::Objects::tracks_broken))]
     fn tracks_break(&self, pack: u16) -> bool
         ensures { result ≡ tracks_broken (sheet_of self.now.s.now) self.now.o pack }
     {
@@ -167,6 +172,7 @@ impl<'a> ObjectWords<'a> {
 
     // Whether it has no complements, no sets, interact 0 and no gain, offset or range, as most children and backgrounds: it keeps rules 15
     // to 20.
+    #[tactic(auto, unfolding(crate::specs::steps::Objects::is_plain))]
     fn is_plain(&self) -> bool
         ensures { result ≡ is_plain (sheet_of self.now.s.now) self.now.o }
     {
@@ -190,6 +196,7 @@ impl<'a> ObjectWords<'a> {
 }
 
 // Whether an object that isn't top may break rule 15.
+#[tactic(auto, unfolding(profile::specs::Rules::rule15))]
 fn child_breaks(s: &[u8], tops: &[u16], o: u16) -> bool
     ensures { result ≡ false → Tops (sheet_of s.now) tops.now → rule15 (sheet_of s.now) objects o ≡ false }
 {

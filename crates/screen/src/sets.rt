@@ -80,6 +80,7 @@ fn words_of_set_break(own: u16, gains: Values, offsets: Values, v: ObjectValues)
 
 // Whether the set whose words begin at an index may break rule 6, 16, 17 or 18 as a set of an object with these values. Most sets have
 // no more than a gain.
+#[tactic(auto, unfolding(crate::specs::steps::Values::set_broken), using(crate::proofs::SetLaws::only_gain))]
 fn set_breaks(s: &[u8], at: u32, v: ObjectValues) -> bool
     ensures { result ≡ false → set_broken (sheet_of s.now) v at ≡ false }
 {
@@ -96,6 +97,7 @@ fn set_breaks(s: &[u8], at: u32, v: ObjectValues) -> bool
 }
 
 // Whether one of the sets of a span does.
+#[tactic(auto, unfolding(profile::specs::Counting::any), using(profile::proofs::BoolLaws::or_none))]
 pub fn any_set_breaks(s: &[u8], sets: Span, v: ObjectValues) -> bool
     ensures { result ≡ false → any (λ i. set_broken (sheet_of s.now) v (start (sheet_of s.now) value_sets (sets.first + i))) sets.count ≡ false }
 {

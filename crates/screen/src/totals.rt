@@ -49,6 +49,7 @@ impl SheetTotals {
     }
 
     // The totals of all objects.
+    #[tactic(auto, unfolding(profile::specs::Counting::how_many, profile::specs::Counting::sum))]
     fn of_sheet(s: &[u8], tables: &ObjectTables) -> SheetTotals
         ensures { ObjectsTabled (sheet_of s.now) tables.now → TotalsTo (sheet_of s.now) (count (sheet_of s.now) objects) result }
     {
@@ -65,6 +66,7 @@ impl SheetTotals {
 }
 
 // Whether the whole sheet may break rule 23 or 24, which level 0 can't.
+#[tactic(auto, unfolding(profile::specs::Rules::rule23, profile::specs::Rules::rule24, profile::specs::Limits::exceeds))]
 pub fn totals_break(s: &[u8], tables: &ObjectTables) -> bool
     ensures { result ≡ false → ObjectsTabled (sheet_of s.now) tables.now → (rule23 (sheet_of s.now) 0 0 ≡ false) × (rule24 (sheet_of s.now) 0 0 ≡ false) }
 {

@@ -1,16 +1,9 @@
 -- Level 0 has no limits. Assumes nothing.
-use Rattle.std.proofs.Common.{◌≡◌, sym, ◌∙◌}
-use Rattle.sheet.specs.Words.{sheet_of}
-use Rattle.sheet.specs.Layout.{level}
-use Rattle.profile.specs.Limits.{exceeds}
+use Rattle.std.proofs.Common.{sym, ◌∙◌}
 use Rattle.profile.specs.Relations.{groups, units, counted_tracks}
 use Rattle.profile.specs.Rules.{rule23, rule24}
 use Rattle.profile.proofs.BoolLaws.{or_none_3}
 use Rattle.screen.proofs.totals.totals_break.Goals as goal
-
-pub returns-then-level-eq0 : goal.returns-then-level-eq0
-unfolding rule23 rule24 exceeds
-returns-then-level-eq0 c = λ e t. let z : level (sheet_of c.args.s.now) ≡ 0 = sym c.level.ensures ∙ c.if-level-eq0.true in (simp z, simp z)
 
 pub returns : goal.returns
 unfolding rule23 rule24 groups units counted_tracks
