@@ -1,5 +1,6 @@
 // The programmes one after the other, by the rows of the groups or by the leaders of their objects. That the table of owners is right, and
-// what the pass rests on (`Owners`, `GroupsGround`, and what `KeptFrom` names), are premises: a public function asks nothing of its callers.
+// what the pass rests on (`Owners`, `GroupsGround`, and what `KeptFrom` names), are premises: a public function asks nothing of its
+// callers.
 ghost use Rattle.std.specs.Prelude.{◌-◌, ◌<◌, is_some, length, true, ◌≡◌};
 ghost use Rattle.grouping.specs.steps.Groups.{GroupsGround, ProgrammesKept};
 ghost use Rattle.inclusion.specs.steps.Entering.{Begins};

@@ -26,8 +26,8 @@ pub struct SetTables<'a> {
     pub alike: &'a [u16],
 }
 
-// The groups as rows in two lent lists: the first `count` places of each have a leader and one of its complements. There is no heap here for a
-// `Vec` of pairs, and the two lists are tables that the caller has for other things too.
+// The groups as rows in two lent lists: the first `count` places of each have a leader and one of its complements. There is no heap here
+// for a `Vec` of pairs, and the two lists are tables that the caller has for other things too.
 #[derive(Drop)]
 pub struct Rows<'a> {
     pub leading: &'a mut [u16],

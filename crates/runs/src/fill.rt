@@ -34,8 +34,8 @@ pub fn fill_next<F: Fn(u16) -> bool>(s: &[u8], test: F, table: &mut [u16])
     }
 }
 
-// Keeps an index as the least one of a key, and gives the one kept before. `see` of the rules does the same with 1: a function for both would
-// be public, and so without the `requires` that has no index tested in the two loops.
+// Keeps an index as the least one of a key, and gives the one kept before. `see` of the rules does the same with 1: a function for both
+// would be public, and so without the `requires` that has no index tested in the two loops.
 #[tactic(auto, using(tables::proofs::MarkLaws::set_standing))]
 fn keep(later: &mut [u16], e: u16, x: u16) -> u16
     requires { length later.old ≡ 65536 }
@@ -53,8 +53,8 @@ pub fn fill_repeats<F: Fn(u16) -> u16>(s: &[u8], key: F, table: &mut [u16])
     requires { F.IsAlwaysCallable key }
     ensures { (f : ℕ → ℕ) → NumbersBelow 65536 (F.post key) f → (length table.new ≡ length table.old) × KeyRight (sheet_of s.now) f table.new }
 {
-    // 65535, which is past the last reference of any sheet, for none: an `Option` of a word takes two words, and this table has one for each of
-    // 65,536 keys on the stack
+    // 65535, which is past the last reference of any sheet, for none: an `Option` of a word takes two words, and this table has one for
+    // each of 65,536 keys on the stack
     let mut later: [u16; 65536] = [65535; 65536];
     let mut next: u16 = 65535;
     for y in (0..count(s, REFERENCES)).rev() {

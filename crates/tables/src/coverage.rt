@@ -25,8 +25,7 @@ fn run_begin(s: &[u8], kind: Naming, q: u16) -> u16
         Naming::ContentObjects => field(s, CONTENTS, q, CONTENT_OBJECT),
         Naming::Children => field(s, OBJECTS, q, CHILD_LIST),
         Naming::Complements => field(s, OBJECTS, q, COMPLEMENT_LIST),
-        Naming::ContentLists => field(s, PROGRAMMES, q, CONTENT_LIST),
-        Naming::Included => field(s, PROGRAMMES, q, CONTENT_LIST),
+        Naming::ContentLists | Naming::Included => field(s, PROGRAMMES, q, CONTENT_LIST),
         Naming::SetLists => field(s, PROGRAMMES, q, SET_LIST),
         Naming::SetSpans => field(s, OBJECTS, q, SET_SPAN),
     }
@@ -45,13 +44,11 @@ fn named_at(s: &[u8], kind: Naming, y: u16) -> u16
     ensures { result ≡ named_at (sheet_of s.now) kind y }
 {
     match kind {
-        Naming::ContentObjects => y,
-        Naming::Children => reference(s, u32::from(y)),
-        Naming::Complements => reference(s, u32::from(y)),
-        Naming::ContentLists => reference(s, u32::from(y)),
+        Naming::ContentObjects | Naming::SetSpans => y,
+        Naming::Children | Naming::Complements | Naming::ContentLists | Naming::SetLists => {
+            reference(s, u32::from(y))
+        }
         Naming::Included => field(s, CONTENTS, reference(s, u32::from(y)), CONTENT_OBJECT),
-        Naming::SetLists => reference(s, u32::from(y)),
-        Naming::SetSpans => y,
     }
 }
 

@@ -15,12 +15,8 @@ pub fn namers(s: &[u8], kind: Naming) -> u16
 {
     match kind {
         Naming::ContentObjects => count(s, CONTENTS),
-        Naming::Children => count(s, OBJECTS),
-        Naming::Complements => count(s, OBJECTS),
-        Naming::ContentLists => count(s, PROGRAMMES),
-        Naming::Included => count(s, PROGRAMMES),
-        Naming::SetLists => count(s, PROGRAMMES),
-        Naming::SetSpans => count(s, OBJECTS),
+        Naming::Children | Naming::Complements | Naming::SetSpans => count(s, OBJECTS),
+        Naming::ContentLists | Naming::Included | Naming::SetLists => count(s, PROGRAMMES),
     }
 }
 
@@ -32,8 +28,7 @@ pub fn items(s: &[u8], kind: Naming, q: u16) -> u16
         Naming::ContentObjects => 1,
         Naming::Children => number(s, OBJECTS, q, CHILD_LIST),
         Naming::Complements => number(s, OBJECTS, q, COMPLEMENT_LIST),
-        Naming::ContentLists => number(s, PROGRAMMES, q, CONTENT_LIST),
-        Naming::Included => number(s, PROGRAMMES, q, CONTENT_LIST),
+        Naming::ContentLists | Naming::Included => number(s, PROGRAMMES, q, CONTENT_LIST),
         Naming::SetLists => number(s, PROGRAMMES, q, SET_LIST),
         Naming::SetSpans => number(s, OBJECTS, q, SET_SPAN),
     }

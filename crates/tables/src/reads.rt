@@ -105,7 +105,8 @@ pub fn included_by(s: &[u8], p: u16, marks: &[u16], o: u16) -> bool
     }
 }
 
-// Whether some place is marked.
+// Whether some place is marked. `any` ends at the first that is, and so takes six instructions for each place that isn't: this has no
+// branch, and takes less than one.
 fn any_marked(places: &[u16]) -> bool
     ensures { result ≡ any (λ k. not (eqb (get_or places.now k 0) 0)) (length places.now) }
 {
@@ -128,7 +129,8 @@ pub fn names_set_by(s: &[u8], p: u16, sets: &[u16], o: u16) -> bool
     }
 }
 
-// Whether the first n places of a table have 1.
+// Whether the first n places of a table have 1. No `all`, as above: for the 2,240 value sets of the largest honest sheet it would take
+// 13,000 instructions, and this takes 1,200.
 pub fn all_once(table: &[u16], n: u16) -> bool
     ensures { result ≡ true → (x : ℕ) → x < n → (x < length table.now) × (get_or table.now x 0 ≡ 1) }
 {
