@@ -43,10 +43,12 @@ impl Value for Gain {
 
     const SORT: Sort = Sort::Gains;
 
+    #[tactic(auto, unfolding(crate::specs::steps::NamedSet::is_gain), using(crate::proofs::SameLaws::eq_gain))]
     fn is_word(self, word: u16) -> bool {
         self == gain_of(word)
     }
 
+    #[tactic(auto, unfolding(crate::specs::steps::NamedSet::gain_within))]
     fn within(self, range: Range) -> bool {
         let low = gain_of(range.minimum);
         let high = gain_of(range.maximum);
@@ -67,6 +69,7 @@ impl Value for i16 {
         self == signed(word)
     }
 
+    #[tactic(auto, unfolding(crate::specs::steps::NamedSet::offset_within))]
     fn within(self, range: Range) -> bool {
         let low = signed(range.minimum);
         let high = signed(range.maximum);
@@ -85,6 +88,7 @@ impl Range {
 }
 
 // "its start value or legal in its range"
+#[tactic(auto, unfolding(crate::specs::steps::NamedSet::sound_by))]
 fn sound_value<V: Value>(s: &[u8], o: u16, named: Option<u16>, value: V) -> bool
     ensures { result ≡ sound_by (sheet_of s.now) o named V.SORT V.is_word V.within value }
 {

@@ -58,6 +58,7 @@ pub fn start_by(s: &[u8], o: u16, named: Option<u16>, sort: Sort) -> u16
 }
 
 // The start value of an object that a programme includes.
+#[tactic(auto, using(crate::proofs::NamedLaws::start_named))]
 pub fn start_value(s: &[u8], p: u16, o: u16, sort: Sort) -> u16
     ensures { result ≡ start_value (sheet_of s.now) p o sort }
 {
@@ -87,6 +88,7 @@ pub fn range_by(s: &[u8], o: u16, named: Option<u16>, sort: Sort) -> Range
 }
 
 // The range that the sheet grants the object.
+#[tactic(auto, using(crate::proofs::NamedLaws::range_named))]
 pub fn granted_range(s: &[u8], p: u16, o: u16, sort: Sort) -> Range
     ensures { result ≡ granted_range (sheet_of s.now) p o sort }
 {
@@ -106,6 +108,7 @@ pub fn in_whole_group(s: &[u8], p: u16, o: u16) -> bool
 
 impl<'a> ProgrammeTables<'a> {
     // "Active are included objects, but of a wholly included group the leader only."
+    #[tactic(auto, unfolding(crate::specs::Granted::starts_active))]
     pub fn starts_active(&self, s: &[u8], p: u16, o: u16) -> bool
         ensures { ProgrammeTabled (sheet_of s.now) p self.now → result ≡ starts_active (sheet_of s.now) p o }
     {
