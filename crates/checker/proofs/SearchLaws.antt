@@ -11,7 +11,6 @@ use Rattle.std.proofs.Common.{Some, None}
 use Rattle.std.proofs.lemmas.Option.{cond_some, none-some}
 use Rattle.sheet.specs.Words.{Sheet}
 use Rattle.profile.specs.declared.Place.{Place}
-use Rattle.profile.specs.declared.Verdict.{Verdict}
 use Rattle.profile.specs.declared.Verdict.TheVariants.{Accepted, Broken}
 use Rattle.profile.specs.Counting.{lowest, lowest_from}
 use Rattle.profile.specs.Verdict.{breaks, subjects, place_at, broken_record, section_broken, broken_section, rule_broken, broken_position, broken_at, verdict, section_count, rules, rule_count, rule_at, number_at, position}

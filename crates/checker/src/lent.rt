@@ -19,6 +19,7 @@ use tables::marks::{count_namings, first_namers};
 // The first table that a rule is lent for the records of a section. Rules are numbers, as in document 01: a caller may ask with any. Two
 // functions, since each table is filled, and has its fact in the contract of `breaks`, by itself: one for both would give a pair that each
 // of these takes apart.
+#[tactic(auto, unfolding(crate::specs::steps::Tables::first_table))]
 pub fn first_table(rule: u8, section: u8) -> Table
     ensures { result ≡ first_table rule section }
 {
@@ -49,6 +50,7 @@ pub fn first_table(rule: u8, section: u8) -> Table
 }
 
 // The second one.
+#[tactic(auto, unfolding(crate::specs::steps::Tables::second_table))]
 pub fn second_table(rule: u8, section: u8) -> Table
     ensures { result ≡ second_table rule section }
 {
@@ -72,6 +74,7 @@ fn ordinal_at(s: &[u8], y: u16) -> u16
 
 // Fills a table of noughts. That it has noughts is a premise: a public function asks nothing of its caller, and a type for a table of
 // noughts would be left with the first word that is written.
+#[tactic(auto, using(screen::proofs::NoughtLaws::counts_made, screen::proofs::NoughtLaws::spans_made, screen::proofs::NoughtLaws::named_made))]
 pub fn fill_table(s: &[u8], langs: &Languages, which: Table, table: &mut [u16])
     ensures { (length table.new ≡ length table.old) × (Standing (λ x. 0) table.old → Right (sheet_of s.now) langs.now which table.new) }
 {

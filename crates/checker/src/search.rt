@@ -123,6 +123,7 @@ fn by_lists(s: &[u8], langs: &Languages, asked: Asked, n: u16) -> u16
 // The lowest of n records of a section that breaks a rule, or n. A small sheet is searched without tables. The programmes before `kept`
 // keep rules 21 and 22, and rule 21 comes where rule 19 is kept. One arm for the rules, by document 01's numbers, that are lent the same
 // kinds of tables: an enum of these ways would only move the numbers into the function that picks one.
+#[tactic(auto, using(crate::proofs::GroupLaws::unbroken_21, crate::proofs::GroupLaws::unbroken_22))]
 fn lowest_broken(s: &[u8], langs: &Languages, asked: Asked, n: u16, kept: u16) -> u16
     requires { KeptBelow (sheet_of s.now) kept × (asked.rule ≡ 21 → GroupsApart (sheet_of s.now)) }
     ensures { result ≡ lowest (breaks (sheet_of s.now) langs.now asked.rule asked.section) n }
@@ -236,6 +237,7 @@ fn verdict_under(sheet: &[u8], langs: &Languages) -> Verdict
 }
 
 // The verdict on a lent sheet, under a lent list of languages: any length, any bytes.
+#[tactic(auto, unfolding(crate::specs::Checked::checked))]
 pub fn check(sheet: &[u8], langs: &[u8]) -> Verdict
     ensures { result ≡ checked sheet.now langs.now }
 {

@@ -142,6 +142,7 @@ impl SubjectKind {
 // records (docs/SPEED.md). One arm a rule, so it is longer than other functions: halves of it would take the same parameters and pick by
 // the rule's number twice. That the tables are right is a premise: a public function asks nothing of its caller.
 #[inline(always)]
+#[tactic(auto, unfolding(profile::specs::Verdict::breaks, profile::specs::Rules::rule33, crate::specs::steps::Tables::first_table, crate::specs::steps::Tables::second_table))]
 pub fn breaks(
     s: &[u8],
     langs: &Languages,

@@ -10,14 +10,8 @@ use Rattle.inclusion.proofs.AlikeLaws.{alike_empty}
 use Rattle.checker.proofs.GroupLaws.{pairs_kept}
 use Rattle.checker.proofs.groups.grouped_programmes.Goals as goal
 
-pub returns-then-n-from : goal.returns-then-n-from
-returns-then-n-from c = λ kept apart p l. (kept p l).1
-
 pub returns-then-groups_of_two : goal.returns-then-groups_of_two
 returns-then-groups_of_two c = λ kept apart p l. pairs_kept (sheet_of c.args.s.now) p (c.groups_of_two.ensures c.if-groups_of_two.true)
-
-pub returns-then-m-gt2048 : goal.returns-then-m-gt2048
-returns-then-m-gt2048 c = λ kept apart p l. (kept p l).1
 
 pub returns : goal.returns
 returns c =

@@ -10,12 +10,6 @@ use Rattle.tables.proofs.MarkLaws.{nought}
 use Rattle.checker.proofs.SearchLaws.{firsts_made}
 use Rattle.checker.proofs.groups.kept_programmes.Goals as goal
 
-pub returns-then-m-gt2048 : goal.returns-then-m-gt2048
-returns-then-m-gt2048 c = λ apart p l. absurd (omega (arith, l))
-
-pub returns-then-not-sets_once : goal.returns-then-not-sets_once
-returns-then-not-sets_once c = λ apart p l. absurd (omega (arith, l))
-
 pub returns : goal.returns
 returns c =
     λ apart.

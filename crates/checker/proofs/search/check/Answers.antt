@@ -1,18 +1,11 @@
 -- Under a list that rises, or not. Assumes nothing.
 use mathlib.Core.Path.{sym, ◌∙◌}
-use Rattle.std.proofs.lemmas.Option.{cond_some}
 use Rattle.sheet.specs.Words.{sheet_of, words}
 use Rattle.profile.specs.Languages.{is_rising}
 use Rattle.profile.proofs.HeaderLaws.{not_rising}
 use Rattle.checker.specs.Checked.{checked}
 use Rattle.checker.proofs.SearchLaws.{none_lent}
 use Rattle.checker.proofs.search.check.Goals as goal
-
-pub returns-in-Some : goal.returns-in-Some
-unfolding checked
-returns-in-Some c =
-    let lent = cond_some (is_rising (words c.args.langs.now)) (words c.args.langs.now) c.in-Some.list (sym c.lent.ensures ∙ c.in-Some.is) in
-    rw lent.1 c.verdict_under.ensures
 
 pub returns-in-None : goal.returns-in-None
 unfolding checked

@@ -1,13 +1,10 @@
 use Rattle.std.proofs.Common.{get_or, arith}
-use borrow.Author.Count.{below_none, below_more}
+use borrow.Author.Count.{below_more}
 use Rattle.sheet.specs.Words.{sheet_of}
 use Rattle.checker.specs.declared.SubjectKind.TheVariants.{Nothing}
 use Rattle.checker.proofs.SubjectLaws.{all_subjects}
 use Rattle.checker.proofs.SearchLaws.{section_none, rule_found, rule_none}
 use Rattle.checker.proofs.search.rule_place.Goals as goal
-
-pub loop-section-init : goal.loop-section-init
-loop-section-init c = below_none _
 
 pub returns-then-k-n : goal.returns-then-k-n
 returns-then-k-n c =
