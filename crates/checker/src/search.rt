@@ -158,26 +158,16 @@ fn rule_place(s: &[u8], langs: &Languages, rule: u8, kept: u16) -> Option<Place>
     None
 }
 
-// How many programmes are known to keep rules 21 and 22, when a rule comes: before rule 21 one pass tells. It is a function of its own,
-// since the check loses what an `if` in the loop would make of `kept` where its ways join.
-fn kept_at(s: &[u8], rule: u8, kept: u16) -> u16
-    requires { KeptBelow (sheet_of s.now) kept × (rule ≡ 21 → GroupsApart (sheet_of s.now)) }
-    ensures { KeptBelow (sheet_of s.now) result }
-{
-    if rule == 21 {
-        return kept_programmes(s);
-    }
-    kept
-}
-
-// The verdict by the search: the rules in their order.
+// The verdict by the search: the rules in their order. Before rule 21 one pass tells how many programmes keep it and rule 22.
 #[inline(never)]
 fn first_broken(sheet: &[u8], langs: &Languages) -> Verdict
     ensures { result ≡ verdict (sheet_of sheet.now) langs.now }
 {
     let mut kept: u16 = 0;
     for rule in RULES {
-        kept = kept_at(sheet, rule, kept);
+        if rule == 21 {
+            kept = kept_programmes(sheet);
+        }
         if let Some(place) = rule_place(sheet, langs, rule, kept) {
             return Verdict::Broken(rule, place);
         }
