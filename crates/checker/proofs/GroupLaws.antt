@@ -1,9 +1,9 @@
 -- Rules 21 and 22 by the pass over the programmes. Assumes nothing.
-use Prim.Native.Nat.{ℕ, suc, ◌+◌, ◌<◌, ◌≤◌}
+use Prim.Native.Nat.{ℕ, suc, ◌<◌, ◌≤◌}
 use mathlib.Core.Path.{◌≡◌, refl, sym, ap, ◌∙◌}
 use mathlib.Core.Bool.{Bool, false, not, true, true≢false, ◌&&◌}
 use mathlib.Core.List.{List}
-use borrow.Author.Tests.{eq-eqb, eqb-false, eqb-true}
+use borrow.Author.Tests.{eq-eqb, eqb-false}
 use native.Mathlib.Omega.{arith}
 use lib.Dec.{eqb, ltb}
 use lib.ListN.{length, get_or}
@@ -76,11 +76,3 @@ unfolding rule21 leader wholly_included included members
 pairs_kept s p few =
     any_nowhere (λ l. leader s l && not (eqb (included s p l) 0) && not (eqb (included s p l) 1) && not (wholly_included s p l)) (count s objects)
     (λ l h. one_or_all (number s objects l complement_list) (included s p l) (few l h) (how_many_le (λ i. includes s p (member s l i)) (suc (number s objects l complement_list))))
-
--- the objects passed
-pub each_more : (f : ℕ → ℕ) (i : ℕ) → ((k : ℕ) → k < i → f k ≤ 1) → f i ≤ 1 → (k : ℕ) → k < i + 1 → f k ≤ 1
-each_more f i h e k l =
-    (elim (eqb k i) as (λ b. eqb k i ≡ b → f k ≤ 1) [
-      | true ↦ λ q. let z : f k ≡ f i = ap f (eqb-true k i q) in omega (arith, z, e)
-      | false ↦ λ q. h k (omega (arith, l, eqb-false k i q))
-    ]) refl

@@ -2,7 +2,7 @@
 use Prim.Native.Nat.{ℕ, ◌<◌, ◌≤◌}
 use mathlib.Core.Path.{◌≡◌, refl, sym, ap, ◌∙◌}
 use mathlib.Core.Bool.{Bool, true, false, cond}
-use mathlib.Core.List.{List, []}
+use mathlib.Core.List.{List}
 use native.Mathlib.Omega.{arith}
 use borrow.Author.Tests.{lt-ltb, le-ltb}
 use lib.Dec.{ltb}
@@ -20,10 +20,7 @@ use Rattle.grouping.specs.steps.Groups.{GroupsApart}
 use Rattle.checker.proofs.GroupLaws.{groups_apart}
 use Rattle.tables.specs.declared.Naming.{Naming}
 use Rattle.tables.specs.steps.Marks.{Standing, first_by}
-use Rattle.checker.specs.declared.Table.{Table}
-use Rattle.checker.specs.declared.Table.TheVariants.{Nothing, Named, Spanned, Listed, Tops, Complements, Owners, Leaders, Lacking, Languages, Repeats, Strays, Ordinals}
 use Rattle.checker.specs.steps.Rows.{rule_place}
-use Rattle.checker.specs.steps.Tables.{Right}
 
 -- what is lent only where a test holds was not lent
 pub none_lent : {A : Type 0} (b : Bool) (x : A) → cond b (Some x) None ≡ None → b ≡ false
@@ -82,22 +79,6 @@ module _ (s : Sheet) (langs : List ℕ) where
   pub verdict_none : ((j : ℕ) → j < rule_count → rule_broken s langs (number_at j) ≡ false) → Accepted ≡ verdict s langs
   unfolding verdict broken_position
   verdict_none none = rw (finds_none (λ j. rule_broken s langs (number_at j)) rule_count none) refl
-
-  -- an empty table is right
-  pub empty_right : (which : Table) → Right s langs which []
-  empty_right Nothing = tt
-  empty_right Named = λ x l. absurd (omega arith)
-  empty_right Spanned = λ x l. absurd (omega arith)
-  empty_right Listed = λ x l. absurd (omega arith)
-  empty_right Tops = λ x l. absurd (omega arith)
-  empty_right Complements = λ x l. absurd (omega arith)
-  empty_right Owners = λ x l. absurd (omega arith)
-  empty_right Leaders = λ x l. absurd (omega arith)
-  empty_right (Lacking target) = λ x l. absurd (omega arith)
-  empty_right Languages = λ x l. absurd (omega arith)
-  empty_right Repeats = λ x l. absurd (omega arith)
-  empty_right Strays = λ x l. absurd (omega arith)
-  empty_right Ordinals = λ x l. absurd (omega arith)
 
 -- the first that names each, where a table had noughts
 pub firsts_made : (s : Sheet) (t₀ t : List ℕ) → Standing (λ x. 0) t₀ → length t ≡ length t₀ → (kind : Naming) → Standing (λ x. first_by s kind x (get_or t₀ x 0)) t → Standing (λ x. first_by s kind x 0) t
