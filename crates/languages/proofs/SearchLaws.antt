@@ -14,7 +14,7 @@ use Rattle.std.proofs.lemmas.Map.Lookups.{exact_unsigned}
 use Rattle.std.proofs.lemmas.List.Sorted.{searchable_from_sorted}
 use borrow.Author.Tests.{eq-eqb, ne_eqb, ltb-true, ltb-false}
 use Rattle.sheet.specs.Words.{words}
-use Rattle.sheet.proofs.WordLaws.{how_many_lem}
+use Rattle.sheet.proofs.WordLaws.{how_many_lem, pair_word}
 use Rattle.profile.specs.Languages.{is_listed, is_rising}
 use Rattle.profile.proofs.RisingLaws.{rising_later}
 use Rattle.profile.proofs.SumLaws.{any_one, any_nowhere}
@@ -22,15 +22,6 @@ use Rattle.profile.proofs.SumLaws.{any_one, any_nowhere}
 -- the number of two bytes
 abbrev key : List ℕ → ℕ
 key = from_be_bytes w16
-
--- the pair at a place is the word there
-pair_word : (n : ℕ) (bytes : List ℕ) (k : ℕ) (d : List ℕ) → n + n ≤ length bytes → k < n → key (get_or (first_chunks 2 n bytes) k d) ≡ get_or (words bytes) k 0
-unfolding words
-pair_word zero bytes k d l h = absurd (omega arith)
-pair_word (suc n) (high ∷ low ∷ bytes) zero d l h = omega arith
-pair_word (suc n) (high ∷ low ∷ bytes) (suc k) d l h = pair_word n bytes k d (omega arith) (omega arith)
-pair_word (suc n) (high ∷ []) k d l h = absurd (omega arith)
-pair_word (suc n) [] k d l h = absurd (omega arith)
 
 pairs_long : (n : ℕ) (bytes : List ℕ) → length (first_chunks 2 n bytes) ≡ n
 pairs_long zero bytes = refl

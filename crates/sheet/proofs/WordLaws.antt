@@ -4,6 +4,8 @@ use mathlib.Core.Path.{◌≡◌, refl}
 use mathlib.Core.List.{List, [], ◌∷◌}
 use native.Mathlib.Omega.{arith}
 use lib.ListN.{length, get_or}
+use Rattle.std.specs.Simd.{first_chunks}
+use Rattle.std.specs.Int.{from_be_bytes, w16}
 use Rattle.sheet.specs.Words.{words}
 
 twice : (i : ℕ) → 2 * suc i ≡ suc (suc (2 * i))
@@ -42,3 +44,16 @@ words_fit [] h i = omega arith
 words_fit (a ∷ []) h i = omega arith
 words_fit (a ∷ b ∷ more) h zero = omega (arith, h 0, h 1)
 words_fit (a ∷ b ∷ more) h (suc i) = words_fit more (λ j. h (suc (suc j))) i
+
+-- the pair at a place is the word there
+pub pair_word : (n : ℕ) (bytes : List ℕ) (i : ℕ) (d : List ℕ) → n + n ≤ length bytes → i < n → from_be_bytes w16 (get_or (first_chunks 2 n bytes) i d) ≡ get_or (words bytes) i 0
+unfolding words
+pair_word zero bytes i d l h = absurd (omega arith)
+pair_word (suc n) (high ∷ low ∷ bytes) zero d l h = omega arith
+pair_word (suc n) (high ∷ low ∷ bytes) (suc i) d l h = pair_word n bytes i d (omega arith) (omega arith)
+pair_word (suc n) (high ∷ []) i d l h = absurd (omega arith)
+pair_word (suc n) [] i d l h = absurd (omega arith)
+
+-- the same of all pairs that the bytes have
+pub word_of_pair : (bytes : List ℕ) (i : ℕ) (d : List ℕ) → i < length bytes / 2 → get_or (get_or (first_chunks 2 (length bytes / 2) bytes) i d) 0 0 * 256 + get_or (get_or (first_chunks 2 (length bytes / 2) bytes) i d) 1 0 ≡ get_or (words bytes) i 0
+word_of_pair bytes i d h = pair_word (length bytes / 2) bytes i d (omega arith) h

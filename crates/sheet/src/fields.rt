@@ -34,6 +34,7 @@ pub const CONTENT_LOUDNESS: u8 = 4;
 
 pub const OBJECT_PACK: u8 = 0;
 
+// "pack (65535 = none)": the word of the sheet.
 pub const NO_PACK: u16 = 65535;
 
 pub const TRACK_LIST: u8 = 1;
@@ -60,7 +61,7 @@ pub const SET_SPAN: u8 = 14;
 
 pub const PACK_KIND: u8 = 0;
 
-// "kind (1 DirectSpeakers, 3 Objects)"
+// "kind (1 DirectSpeakers, 3 Objects)": a kind is a word of the sheet and may be any number, which rule 6 refuses.
 pub const KIND_DIRECT_SPEAKERS: u16 = 1;
 
 pub const KIND_OBJECTS: u16 = 3;

@@ -7,7 +7,7 @@ ghost use Rattle.sheet.specs.Words.{sheet_of};
 use crate::fields::REFERENCES;
 use crate::words::word;
 
-// Words of a record, by section.
+// Words of a record, by section, in a table, as the definition has them.
 const RECORD_WORDS: [u8; 8] = [16, 8, 5, 16, 3, 2, 1, 7];
 
 pub fn edition(s: &[u8]) -> u16
@@ -45,7 +45,7 @@ pub fn record_words(section: u8) -> u8
     RECORD_WORDS.get(usize::from(section)).copied().unwrap_or(0)
 }
 
-// The index of record k, where records of `words` words begin at `from`.
+// The index of record k, where records of `words` words begin at `from`. A u32 becomes a usize by `as`: std has no `From` for the two.
 #[tactic(auto, using(crate::proofs::IndexLaws::records_fit))]
 fn record_index(from: u16, k: u32, words: u8) -> usize
     ensures { (result ≡ from + k * words) × (result < 2199023255552) }
@@ -73,8 +73,8 @@ pub fn end(s: &[u8], section: u8) -> usize
     }
 }
 
-// The word at position `at` of a record whose number may be past 65535. `field` is the same for the numbers that words give, so that callers
-// have no conversion to write; one of any type that becomes a u32 would say no more.
+// The word at position `at` of a record whose number may be past 65535, as a sum of two words may be. `field` is the same for a number
+// that is a word. One function for both would take any type that becomes a u32, and its contract would have to say which number that is.
 #[tactic(auto, unfolding(crate::specs::Layout::field))]
 pub fn wide_field(s: &[u8], section: u8, k: u32, at: u8) -> u16
     ensures { result ≡ field (sheet_of s.now) section k at }

@@ -29,11 +29,18 @@ impl Span {
         }
     }
 
+    // The index after its last.
+    pub fn end(self) -> u32
+        ensures { result ≡ self.first + self.count }
+    {
+        u32::from(self.first) + u32::from(self.count)
+    }
+
     // Whether it ends beyond a section of so many records.
     pub fn is_beyond(self, many: u16) -> bool
         ensures { result ≡ ltb many (self.first + self.count) }
     {
-        u32::from(many) < u32::from(self.first) + u32::from(self.count)
+        u32::from(many) < self.end()
     }
 
     // The list's entries, which stand in section 6.
@@ -48,7 +55,8 @@ impl Span {
     }
 }
 
-// The entries of a list in a section whose offset is `base`, which is read once for all of them.
+// The entries of a list in a section whose offset is `base`, which is read once for all of them. The sheet stands beside them, as beside all
+// else that is read from it.
 #[derive(Clone, Copy)]
 pub struct Entries {
     pub base: u16,

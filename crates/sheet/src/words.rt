@@ -3,14 +3,14 @@ ghost use Rattle.std.specs.Prelude.{◌*◌, ◌+◌, ◌≡◌};
 ghost use Rattle.sheet.specs.Words.{sheet_of, word, word_count};
 
 // The word at an index, or 0 past the end.
-#[tactic(auto, unfolding(crate::specs::Words::sheet_of, crate::specs::Words::word), using(crate::proofs::WordLaws::at, crate::proofs::WordLaws::past))]
+#[tactic(auto, unfolding(crate::specs::Words::sheet_of, crate::specs::Words::word), using(crate::proofs::WordLaws::past))]
 pub fn word(s: &[u8], i: usize) -> u16
     ensures { result ≡ word (sheet_of s.now) i }
 {
-    if i < s.len() / 2 {
-        u16::from_be_bytes([s[2 * i], s[2 * i + 1]])
-    } else {
-        0
+    let (words, _) = s.as_chunks::<2>();
+    match words.get(i) {
+        Some(bytes) => u16::from_be_bytes(*bytes),
+        None => 0,
     }
 }
 
