@@ -63,7 +63,8 @@ fn gain_breaks(gains: Values, v: ObjectValues) -> bool
         | own_leaves(Sort::Offsets, v.offsets)
 }
 
-// A set with any words.
+// A set with any words. That an offset or its range is present is written out: by `!offsets.none_present()`, which `set_breaks` asked before,
+// a sheet of 4,660 sets took 8 % more instructions in the screening.
 #[tactic(auto, unfolding(crate::specs::steps::Values::set_words_broken))]
 fn words_of_set_break(own: u16, gains: Values, offsets: Values, v: ObjectValues) -> bool
     ensures { result ≡ set_words_broken own gains offsets v }
@@ -73,7 +74,7 @@ fn words_of_set_break(own: u16, gains: Values, offsets: Values, v: ObjectValues)
         | offsets.bad_words(Sort::Offsets)
         | (own == 0) & (gains.has_range() | offsets.has_range())
         | (v.interact == 0) & (own == 1)
-        | !offsets.none_present() & !v.front
+        | (!is_absent(offsets.value) | offsets.has_range()) & !v.front
         | value_leaves(Sort::Gains, own == 1, gains, v.gains)
         | value_leaves(Sort::Offsets, own == 1, offsets, v.offsets)
 }
