@@ -3,46 +3,42 @@
 #![tactic(auto)]
 
 use factorlines::reading::{ANSWERS_ROOM, READ_ROOM, answer_last, answer_read};
-use std::io::{Input, Read};
+use std::io::Error;
+use text::answering::{Answering, answer_input};
 use text::lines::{ROOM, part};
-use text::output::{say_failure, write_output};
+use text::output::{say_usage, write_output};
 use text::reading::arg_count;
 use text::writing::Text;
 
-// Answers until the input ends, a read fails or an answer can't be written. A proved loop has to end, and nothing says that the input
-// does: so this one counts its turns, to a number that no run comes to.
-fn answer_all<R: Input + Print + Eprint>(rt: &R) {
-    let mut input = rt.reader();
-    let mut read = [0u8; READ_ROOM];
-    let mut room = [0u8; ROOM];
-    let mut line = Text::new(&mut room);
-    let mut answers = [0u8; ANSWERS_ROOM];
-    for _ in 0..u64::MAX {
-        match input.read(&mut read) {
-            Ok(0) => {
-                let count = answer_last(&line, &mut answers);
-                // a failure is told, and this is the end
-                let _ = write_output(rt, part(&answers, 0, count));
-                return;
-            }
-            Ok(n) => {
-                let count = answer_read(&mut line, &read[..n], &mut answers);
-                if write_output(rt, part(&answers, 0, count)).is_err() {
-                    return;
-                }
-            }
-            Err(error) => {
-                say_failure(rt, "standard input", error);
-                return;
-            }
-        }
+// The line that is being read, and the room for answers.
+#[derive(Drop)]
+struct Converter<'a> {
+    line: Text<'a>,
+    answers: &'a mut [u8; ANSWERS_ROOM],
+}
+
+impl<'a> Answering for Converter<'a> {
+    fn answer_read<R: Print + Eprint>(&mut self, rt: &R, read: &[u8]) -> Result<(), Error> {
+        let count = answer_read(&mut self.line, read, self.answers);
+        write_output(rt, part(self.answers, 0, count))
+    }
+
+    fn answer_last<R: Print + Eprint>(&mut self, rt: &R) -> Result<(), Error> {
+        let count = answer_last(&self.line, self.answers);
+        write_output(rt, part(self.answers, 0, count))
     }
 }
 
 fn main(rt: HostRuntime) {
     if arg_count(&rt) > 1 {
-        let _ = eprintln!(rt; "usage: gaintenths <FILE");
+        say_usage(&rt, "gaintenths <FILE");
         return;
     }
-    answer_all(&rt);
+    let mut room = [0u8; ROOM];
+    let mut answers = [0u8; ANSWERS_ROOM];
+    let mut converter = Converter {
+        line: Text::new(&mut room),
+        answers: &mut answers,
+    };
+    answer_input(&rt, &mut [0u8; READ_ROOM], &mut converter);
 }

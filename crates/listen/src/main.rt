@@ -7,21 +7,12 @@ use console::bench::{ANSWER_ROOM, answer_part, opened};
 use listener::State;
 use std::env::Env;
 use std::fs::Files;
-use std::io::{Error, Input, Read};
+use std::io::{Error, Input};
+use text::answering::{Answering, answer_input};
 use text::lines::{ROOM, part};
-use text::output::{say_failure, say_usage, write_output};
+use text::output::{say_usage, write_output};
 use text::reading::{LANGS_ROOM, arg_count, argument_is, read_argument, read_langs};
 use text::writing::Text;
-
-// The bench goes on no more: the input ended, a read failed, or an answer could not be written.
-#[derive(Clone, Copy)]
-struct Ended;
-
-impl From<Error> for Ended {
-    fn from(_error: Error) -> Ended {
-        Ended
-    }
-}
 
 // What the bench is lent, the listener's state, the line that is being read, and the room for an answer.
 #[derive(Drop)]
@@ -39,7 +30,7 @@ impl<'a> Bench<'a> {
         rt: &R,
         more: &[u8],
         whole: bool,
-    ) -> Result<(), Ended> {
+    ) -> Result<(), Error> {
         let answered = answer_part(
             self.lent,
             self.state,
@@ -49,12 +40,13 @@ impl<'a> Bench<'a> {
             self.answer,
         );
         self.state = answered.state;
-        write_output(rt, part(self.answer, 0, answered.count))?;
-        Ok(())
+        write_output(rt, part(self.answer, 0, answered.count))
     }
+}
 
+impl<'a> Answering for Bench<'a> {
     // Answers the lines that end in what was read, and keeps the beginning of the next.
-    fn answer_read<R: Print + Eprint>(&mut self, rt: &R, read: &[u8]) -> Result<(), Ended> {
+    fn answer_read<R: Print + Eprint>(&mut self, rt: &R, read: &[u8]) -> Result<(), Error> {
         for part in read.split_inclusive(|byte| *byte == b'\n') {
             match part.strip_suffix(b"\n") {
                 Some(line) => self.write_answer(rt, line, true)?,
@@ -65,30 +57,14 @@ impl<'a> Bench<'a> {
     }
 
     // At the end of the input a line without a newline is answered, unless it is empty.
-    fn answer_last<R: Print + Eprint>(&mut self, rt: &R) -> Result<(), Ended> {
+    fn answer_last<R: Print + Eprint>(&mut self, rt: &R) -> Result<(), Error> {
         let whole = self.line.count > 0;
-        self.write_answer(rt, b"", whole)?;
-        Err(Ended)
-    }
-
-    // Reads what is there, and answers it before more is read.
-    fn answer_some<R: Print + Eprint, I: Read>(
-        &mut self,
-        rt: &R,
-        input: &mut I,
-    ) -> Result<(), Ended> {
-        let mut buffer = io::buffer();
-        let read = input.read(&mut buffer);
-        match read.inspect_err(|error| say_failure(rt, "standard input", *error))? {
-            0 => self.answer_last(rt),
-            n => self.answer_read(rt, &buffer[..n]),
-        }
+        self.write_answer(rt, b"", whole)
     }
 }
 
-// Opens the sheet, and answers until the input ends. A proved loop has to end, and nothing says that the input does: so this one counts its
-// turns, to a number that no run comes to.
-fn answer_input<R: Input + Print + Eprint>(rt: &R, lent: Lent) {
+// Opens the sheet, and answers until the input ends.
+fn answer_lines<R: Input + Print + Eprint>(rt: &R, lent: Lent) {
     let mut answer = [0u8; ANSWER_ROOM];
     let start = opened(lent, &mut answer);
     if write_output(rt, &answer[..start.count]).is_err() {
@@ -101,12 +77,7 @@ fn answer_input<R: Input + Print + Eprint>(rt: &R, lent: Lent) {
         line: Text::new(&mut room),
         answer: &mut answer,
     };
-    let mut input = rt.reader();
-    for _ in 0..u64::MAX {
-        if bench.answer_some(rt, &mut input).is_err() {
-            return;
-        }
-    }
+    answer_input(rt, &mut io::buffer(), &mut bench);
 }
 
 // Reads the sheet that the argument names, and answers. The buffer is longer than any sheet, so a file that fills it is refused, whatever
@@ -117,7 +88,7 @@ fn answer_under<R: Input + Env + Files + Print + Eprint>(rt: &R, langs: &[u8]) {
         return;
     };
     let sheet = &buffer[..count];
-    answer_input(rt, Lent { sheet, langs });
+    answer_lines(rt, Lent { sheet, langs });
 }
 
 fn main(rt: HostRuntime) {
