@@ -48,7 +48,7 @@ impl<'a> Languages<'a> {
         }
     }
 
-    // "strictly rising": so is each list of this type.
+    // "strictly rising": so is each list of this type. The read of a field brings the type's invariant into the proof.
     pub fn rises(&self) -> bool
         ensures { result ≡ is_rising self.now }
     {

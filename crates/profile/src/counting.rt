@@ -45,7 +45,8 @@ pub fn how_many<F: Fn(u16) -> bool>(n: u16, test: F) -> u16
     found
 }
 
-// The lowest number below n that passes, or n.
+// The lowest number below n that passes, or n: a number and no `Option`, as the definition has it, by which verdicts and relations compare it
+// with n.
 pub fn lowest<F: Fn(u16) -> bool>(n: u16, test: F) -> u16
     requires { F.IsAlwaysCallable test }
     ensures { (p : ℕ → Bool) → ComputesBelow n (F.post test) p → result ≡ lowest p n }

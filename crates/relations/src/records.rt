@@ -32,7 +32,7 @@ pub fn complement(s: &[u8], o: u16) -> bool
     )
 }
 
-// The object whose set v is, the number of objects where there is none.
+// The object whose set v is, the number of objects where there is none, as in the definition.
 #[tactic(auto, unfolding(profile::specs::Relations::owner))]
 pub fn owner(s: &[u8], v: u16) -> u16
     ensures { result ≡ owner (sheet_of s.now) v }

@@ -26,7 +26,8 @@ pub struct Positions {
     pub maximum: u8,
 }
 
-// A value of one sort with its range: three words, each of which may be absent.
+// A value of one sort with its range: three words, each of which may be absent. They stay words, as in the definitions `bad_words` and
+// `leaves`: an `Option` for each would be made at each read of a sheet and taken apart in each contract.
 #[derive(Clone, Copy)]
 pub struct Values {
     pub value: u16,
@@ -101,7 +102,7 @@ impl Values {
         !(is_absent(self.value) | is_value(sort, self.value))
             | !(low | is_minimum(sort, self.minimum))
             | !(high | is_maximum(sort, self.maximum))
-            | (low & !high | !low & high)
+            | (low != high)
     }
 
     // The value leaves the range, which has no bounds where it is absent.
@@ -126,8 +127,8 @@ fn values_in(s: &[u8], section: u8, k: u16, at: Positions) -> Values
     }
 }
 
-// The words of an object and of a value set, under the names of the definitions: each hands `values_in` the section and the positions that go
-// together, which one function for both would ask its callers to bring.
+// The words of an object and of a value set: each hands `values_in` the section and the positions that go together, which one function for
+// both would ask its callers to bring.
 
 // An object's own.
 pub fn object_values(s: &[u8], o: u16, sort: Sort) -> Values

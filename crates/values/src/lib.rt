@@ -16,7 +16,8 @@ pub enum Gain {
     Tenths(i16),
 }
 
-// What a value or a range is of.
+// What a value or a range is of: an argument, and no trait with two types, since words of either sort are u16 and the definitions of the
+// rules take the sort as an argument.
 #[derive(Clone, Copy)]
 pub enum Sort {
     Gains,

@@ -1,4 +1,5 @@
-// The words of either sort.
+// The words of either sort. Each function is the definition of its name. Words stay words, 32767 for absent, and are no `Option`: so the
+// definitions take them, as they stand in a sheet.
 ghost use Rattle.std.specs.Prelude.{◌≡◌};
 ghost use Rattle.values.specs.Values.{
   is_absent,
@@ -29,6 +30,9 @@ pub fn or_else(w: u16, other: u16) -> u16
 {
     if is_absent(w) { other } else { w }
 }
+
+// A legal value, minimum and maximum: each a definition over one of gains and one of offsets; one function for all three would take which of
+// the six to ask.
 
 // A legal value of that sort.
 #[tactic(auto, unfolding(crate::specs::Values::is_value))]
