@@ -78,10 +78,6 @@ pub member_suc : (s : Sheet) (l i : ℕ) → member s l (suc i) ≡ entry s obje
 unfolding member
 member_suc s l i = refl
 
-pub members_number : (s : Sheet) (l : ℕ) → members s l ≡ suc (number s objects l complement_list)
-unfolding members
-members_number s l = refl
-
 -- whoever has a leader for its leader is one of the members
 pub member_of : (s : Sheet) (q : ℕ) → leader s (leader_of s q) ≡ true → (i : ℕ) × (i < members s (leader_of s q)) × (member s (leader_of s q) i ≡ q)
 unfolding members
