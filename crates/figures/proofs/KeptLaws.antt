@@ -1,6 +1,6 @@
 -- What a sheet has that is refused: the rules before the broken one are kept. Assumes nothing.
 use Prim.Native.Nat.{ℕ, ◌<◌}
-use mathlib.Core.Path.{◌≡◌, refl, sym, ap, ◌∙◌}
+use mathlib.Core.Path.{◌≡◌, refl, ap, ◌∙◌}
 use mathlib.Core.Bool.{Bool, true, false, not, ◌&&◌, ◌||◌}
 use mathlib.Core.Logic.{inl}
 use mathlib.Core.List.{List}
@@ -12,15 +12,15 @@ use Rattle.sheet.specs.Layout.{count, field, number, entry}
 use Rattle.sheet.specs.Fields.{objects, tracks, packs, value_sets, track_list, child_list, complement_list, interact, set_own}
 use Rattle.values.specs.declared.Sort.{Sort}
 use Rattle.values.specs.declared.Sort.TheVariants.{Gains, Offsets}
-use Rattle.values.specs.Values.{is_absent, is_value, is_minimum, is_maximum}
 use Rattle.profile.specs.declared.Place.{Place}
 use Rattle.profile.specs.declared.Verdict.TheVariants.{Broken}
 use Rattle.profile.specs.Counting.{how_many, any, lowest, lowest_from}
 use Rattle.profile.specs.Relations.{pack_of, has_pack, has_set, owner, object_minimum, object_maximum, set_minimum, set_maximum}
-use Rattle.profile.specs.Rules.{rule5, rule6, rule11, lacks, list_lacks, bad_words, bad_object, bad_object_words, bad_set, bad_set_words, set_range}
+use Rattle.profile.specs.Rules.{rule5, rule6, rule11, lacks, list_lacks, bad_object, bad_object_words, bad_set, bad_set_words, set_range}
 use Rattle.profile.specs.Verdict.{verdict, breaks, subjects, subject_kind, position, number_at, rule_at, rule_count, rules}
 use Rattle.profile.specs.AcceptedSheet.{LegalRange}
-use Rattle.profile.proofs.BoolLaws.{or_false, or_none_3, or_none_4, together}
+use Rattle.profile.proofs.AcceptedLaws.{legal_range}
+use Rattle.profile.proofs.BoolLaws.{or_false, or_none_3, or_none_4}
 use Rattle.profile.proofs.CountingLaws.{any_none, any_how_many, finds}
 use Rattle.profile.proofs.GroupLaws.{any_witness}
 use Rattle.profile.proofs.VerdictLaws.{broken_first}
@@ -37,14 +37,6 @@ eleven_eighteen = omega arith
 pub five_twenty : position 5 < position 20
 unfolding position lowest lowest_from number_at rule_at rule_count rules
 five_twenty = omega arith
-
--- a range that rule 6 has not refused
-legal_range : (t : Sort) (w lo hi : ℕ) → bad_words t w lo hi ≡ false → LegalRange t lo hi
-unfolding bad_words
-legal_range t w lo hi e present =
-    let parts = or_none_4 (not (is_absent w || is_value t w)) (not (is_absent lo || is_minimum t lo)) (not (is_absent hi || is_maximum t hi)) (is_absent lo && not (is_absent hi) || not (is_absent lo) && is_absent hi) e in
-    let same = together (is_absent lo) (is_absent hi) parts.3 in
-    (rw present at (not-false _ parts.1), rw (sym same ∙ present) at (not-false _ parts.2))
 
 -- an entry that the target section does not lack
 in_section : (s : Sheet) (target section k at i : ℕ) → list_lacks s target section k at ≡ false → i < number s section k at → entry s section k at i < count s target

@@ -1,5 +1,5 @@
 -- The word of silence is that of the least number, so one order of numbers tells which bound a value leaves. Assumes nothing.
-use Rattle.std.proofs.Common.{ℕ, ◌<◌, ◌≡◌, refl, sym, ap, ◌∙◌, Bool, cond, not, ℤ, pos, negsuc, arith}
+use Rattle.std.proofs.Common.{ℕ, ◌<◌, ◌≡◌, refl, sym, ap, ◌∙◌, Bool, cond, not, ℤ, arith}
 use Rattle.std.proofs.lemmas.Int.{ints}
 use lib.Signed.{le_z, lt_z}
 use Rattle.sheet.specs.Words.{Sheet}

@@ -2,30 +2,20 @@
 use Rattle.std.proofs.Common.{arith}
 use Rattle.std.proofs.lemmas.Int.{ints}
 use mathlib.Core.Path.{◌≡◌, refl, sym, ap, ◌∙◌}
-use mathlib.Core.Bool.{true, false, ◌&&◌, true≢false}
-use native.Mathlib.Nat.{le_refl, le_antisymm}
-use borrow.Author.Tests.{leb-true, le-leb, eqb-true, eqb-false}
+use mathlib.Core.Bool.{true, false, ◌&&◌}
+use borrow.Author.Tests.{eqb-true, eqb-false}
 use lib.Dec.{eqb}
-use lib.IntN.{ℤ, pos, negsuc}
+use lib.IntN.{ℤ}
 use lib.Signed.{le_z}
 use mir.Syntax.{w16}
 use mir.Val.{to_z, of_z}
 use Rattle.profile.proofs.BoolLaws.{and_both}
 use Rattle.values.specs.Gain.{at_most}
+use Rattle.values.proofs.Order.{le_z_refl, le_z_antisym}
 use Rattle.values.specs.declared.Gain.{Gain}
 use Rattle.values.specs.declared.Gain.TheVariants.{Silent, Tenths}
 use Rattle.values.specs.contracts.GainPartialEq.TheImpl.{eq-value}
 use Rattle.granted.specs.Fitting.{same_gain}
-
-le_self : (x : ℤ) → le_z x x ≡ true
-le_self (pos n) = le-leb n n (le_refl n)
-le_self (negsuc n) = le-leb n n (le_refl n)
-
-le_both : (x y : ℤ) → le_z x y ≡ true → le_z y x ≡ true → x ≡ y
-le_both (pos a) (pos b) e f = ap pos (le_antisymm (leb-true a b e) (leb-true b a f))
-le_both (pos a) (negsuc b) e f = absurd (true≢false (sym e))
-le_both (negsuc a) (pos b) e f = absurd (true≢false (sym f))
-le_both (negsuc a) (negsuc b) e f = ap negsuc (le_antisymm (leb-true a b f) (leb-true b a e))
 
 pub same_bits : (x y : ℤ) → to_z w16 (of_z w16 x) ≡ x → to_z w16 (of_z w16 y) ≡ y → eqb (of_z w16 x) (of_z w16 y) ≡ (le_z x y && le_z y x)
 same_bits x y p q =
@@ -35,12 +25,12 @@ same_bits x y p q =
     ]) refl
   where
     alike : x ≡ y → true ≡ (le_z x y && le_z y x)
-    alike z = rw (z, le_self y) refl
+    alike z = rw (z, le_z_refl y) refl
 
     apart : (x ≡ y → ⊥) → false ≡ (le_z x y && le_z y x)
     apart n =
         (elim (le_z x y && le_z y x) as (λ b. (le_z x y && le_z y x) ≡ b → false ≡ b) [
-          | true ↦ λ f. let parts = and_both (le_z x y) (le_z y x) f in absurd (n (le_both x y parts.0 parts.1))
+          | true ↦ λ f. let parts = and_both (le_z x y) (le_z y x) f in absurd (n (le_z_antisym x y parts.0 parts.1))
           | false ↦ λ f. refl
         ]) refl
 

@@ -28,7 +28,8 @@ use Rattle.grouping.specs.steps.Passing.{Passing, same_list, same_lists}
 use Rattle.inclusion.proofs.CountLaws.{Apart, two_counted}
 use Rattle.tables.proofs.TableLaws.{any_below}
 use Rattle.grouping.proofs.MemberLaws.{one_owner}
-use Rattle.inclusion.proofs.PassLaws.{past, sets_alike}
+use Rattle.profile.proofs.SetLaws.{sets_alike}
+use Rattle.inclusion.proofs.PassLaws.{past}
 
 -- one at most, or all
 one_or_all : (c n : ℕ) (b : Bool) → (leb c 1 || eqb c n && b) ≡ true → (true && not (eqb c 0) && not (eqb c 1) && not (eqb c n)) ≡ false

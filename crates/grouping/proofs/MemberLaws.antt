@@ -14,15 +14,10 @@ use Rattle.profile.specs.Relations.{lists, times, top, leader, complement, membe
 use Rattle.profile.specs.Rules.{bad_complement, rule19}
 use Rattle.profile.proofs.BoolLaws.{or_none_3}
 use Rattle.profile.proofs.CountingLaws.{any_none, any_how_many, lowest_holds, finds}
-use Rattle.profile.proofs.GroupLaws.{any_witness, lists_witness, lists_times, own_leader, leader_lists}
-use Rattle.profile.proofs.SumLaws.{sum_one, how_many_sum, how_many_shift}
+use Rattle.profile.proofs.GroupLaws.{members_counted, any_witness, lists_witness, lists_times, own_leader, leader_lists}
+use Rattle.profile.proofs.SumLaws.{sum_one, how_many_sum}
 use Rattle.inclusion.proofs.CountLaws.{Apart, sum_pair, exchange}
 use Rattle.tables.proofs.TableLaws.{eqb_turned}
-
--- how often an object is among the members: as the leader, and in its list
-members_counted : (s : Sheet) (l o : ℕ) → how_many (λ i. eqb (member s l i) o) (members s l) ≡ cond (eqb l o) 1 0 + times s objects l complement_list o
-unfolding members member times
-members_counted s l o = how_many_shift (λ i. eqb (member s l i) o) (number s objects l complement_list)
 
 -- no list has an object that is no complement
 unlisted : (s : Sheet) (o l : ℕ) → complement s o ≡ false → l < count s objects → times s objects l complement_list o ≡ 0

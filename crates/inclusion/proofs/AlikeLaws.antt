@@ -12,7 +12,8 @@ use Rattle.profile.specs.Rules.{sets_differ}
 use Rattle.tables.specs.steps.Marks.{Standing}
 use Rattle.tables.specs.steps.Right.{told}
 use Rattle.inclusion.specs.steps.Alike.{Alike, representative}
-use Rattle.inclusion.proofs.PassLaws.{past, sets_own}
+use Rattle.profile.proofs.SetLaws.{sets_own}
+use Rattle.inclusion.proofs.PassLaws.{past}
 
 -- one more than a number tells it
 one_more : (v u : ℕ) → told v (u + 1) ≡ u

@@ -23,7 +23,8 @@ use Rattle.profile.specs.Rules.{owner_at, sets_differ}
 use Rattle.profile.proofs.BoolLaws.{or_none, or_either, or_true}
 use Rattle.profile.proofs.CountingLaws.{any_none}
 use Rattle.profile.proofs.GroupLaws.{any_witness, member_zero}
-use Rattle.profile.proofs.SumLaws.{any_nowhere, how_many_shift}
+use Rattle.profile.proofs.SetLaws.{same_sets, sets_own}
+use Rattle.profile.proofs.SumLaws.{how_many_shift}
 use Rattle.tables.specs.declared.Naming.TheVariants.{SetSpans}
 use Rattle.tables.specs.steps.Marks.{Standing, first_by}
 use Rattle.tables.specs.steps.Right.{Owners, told}
@@ -160,23 +161,6 @@ sets_more s alike owners p j v c u t₀ t t' owns set small e some stands same l
           (stands ∙ ap (representative alike) set) same long before.noted now.0 now.1 now.2;
       inside = below_more (λ k. named_set s p k < count s value_sets) j before.inside (rw (sym set) small);
     }
-
-module _ (s : Sheet) where
-  -- sets that do not differ have the same words
-  same_words : (u v f : ℕ) → sets_differ s u v ≡ false → f < 7 → field s value_sets u (set_gain + f) ≡ field s value_sets v (set_gain + f)
-  unfolding sets_differ
-  same_words u v f e l = eqb-true _ _ (not-false _ (any_none (λ g. not (eqb (field s value_sets u (set_gain + g)) (field s value_sets v (set_gain + g)))) 7 e f l))
-
-  same_sets : (u v : ℕ) → ((f : ℕ) → f < 7 → field s value_sets u (set_gain + f) ≡ field s value_sets v (set_gain + f)) → sets_differ s u v ≡ false
-  unfolding sets_differ
-  same_sets u v h = any_nowhere (λ g. not (eqb (field s value_sets u (set_gain + g)) (field s value_sets v (set_gain + g)))) 7 (λ f l. ap not (eq-eqb _ _ (h f l)))
-
-  -- sets with the words of one and the same
-  pub sets_alike : (w u v : ℕ) → sets_differ s w u ≡ false → sets_differ s w v ≡ false → sets_differ s u v ≡ false
-  sets_alike w u v a b = same_sets u v (λ f l. sym (same_words w u f a l) ∙ same_words w v f b l)
-
-  pub sets_own : (u : ℕ) → sets_differ s u u ≡ false
-  sets_own u = same_sets u u (λ f l. refl)
 
 -- an entry of the programme's content list, and of its set list
 pub object_entry : (s : Sheet) (sections : SectionOffsets) (from p i : ℕ) → Begins s sections → from ≡ field s programmes p content_list → object_from s sections from i ≡ object_at s p i

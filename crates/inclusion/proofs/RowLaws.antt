@@ -22,7 +22,8 @@ use Rattle.profile.proofs.SumLaws.{how_many_eq}
 use Rattle.inclusion.specs.steps.Groups.{GroupKept, PairKept, group_whole, many_in, sets_in}
 use Rattle.inclusion.specs.declared.Rows.{Rows}
 use Rattle.inclusion.specs.steps.Rows.{HasListed, HasRow, OnlyComplement, RowAdded, RowKept, RowsComplete, SameLists}
-use Rattle.inclusion.proofs.PassLaws.{pair_group, sets_own}
+use Rattle.profile.proofs.SetLaws.{sets_own}
+use Rattle.inclusion.proofs.PassLaws.{pair_group}
 
 -- the same lists
 pub same_lists : (rows : Rows) → SameLists rows rows

@@ -25,7 +25,7 @@ pub fn representative(alike: &[u16], v: u16) -> u16
 
 // The first set with the words of v among the sets of a span, of which 8 at most are tried; v where there is none. Section 7 begins at
 // `base`.
-#[tactic(auto, using(crate::proofs::PassLaws::sets_own))]
+#[tactic(auto, using(profile::proofs::SetLaws::sets_own))]
 fn first_alike(s: &[u8], base: u16, span: Span, v: u16) -> u16
     ensures { (v < 65535 → result < 65535) × (base ≡ offset (sheet_of s.now) value_sets → sets_differ (sheet_of s.now) result v ≡ false) }
 {
@@ -38,7 +38,7 @@ fn first_alike(s: &[u8], base: u16, span: Span, v: u16) -> u16
 }
 
 // The same with the span of the object that stands for the owner of v, the leader of its group.
-#[tactic(auto, using(crate::proofs::PassLaws::sets_own))]
+#[tactic(auto, using(profile::proofs::SetLaws::sets_own))]
 fn leader_alike(s: &[u8], base: u16, tables: &GroupTables, v: u16) -> u16
     ensures { (v < 65535 → result < 65535) × (base ≡ offset (sheet_of s.now) value_sets → sets_differ (sheet_of s.now) result v ≡ false) }
 {

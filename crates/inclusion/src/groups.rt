@@ -20,7 +20,7 @@ use sheet::layout::{count, entry, number};
 use sheet::spans::{Entries, Span};
 
 // Whether the sets of two members may differ, by what the table has for them; either may have none.
-#[tactic(auto, using(crate::proofs::PassLaws::sets_own))]
+#[tactic(auto, using(profile::proofs::SetLaws::sets_own))]
 fn noted_differ(s: &[u8], sets: u16, e: u16, c: u16) -> bool
     ensures { result ≡ false → sets ≡ offset (sheet_of s.now) value_sets → 1 < e → 1 < c → sets_differ (sheet_of s.now) (e - 2) (c - 2) ≡ false }
 {

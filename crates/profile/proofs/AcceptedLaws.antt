@@ -32,7 +32,7 @@ legal_words t w lo hi e =
     let parts = or_none_4 (not (is_absent w || is_value t w)) (not (is_absent lo || is_minimum t lo)) (not (is_absent hi || is_maximum t hi)) (is_absent lo && not (is_absent hi) || not (is_absent lo) && is_absent hi) e in
     (not-false _ parts.0, not-false _ parts.1, not-false _ parts.2, together (is_absent lo) (is_absent hi) parts.3)
 
-legal_range : (t : Sort) (w lo hi : ℕ) → bad_words t w lo hi ≡ false → LegalRange t lo hi
+pub legal_range : (t : Sort) (w lo hi : ℕ) → bad_words t w lo hi ≡ false → LegalRange t lo hi
 legal_range t w lo hi e present =
     let legal = legal_words t w lo hi e in
     (rw present at legal.1, rw (sym legal.3 ∙ present) at legal.2)

@@ -101,7 +101,7 @@ no_leader s q h =
     ]) refl
 
 -- how often an object is among the members: as the leader, and in its list
-members_counted : (s : Sheet) (l o : ℕ) → how_many (λ i. eqb (member s l i) o) (members s l) ≡ cond (eqb l o) 1 0 + times s objects l complement_list o
+pub members_counted : (s : Sheet) (l o : ℕ) → how_many (λ i. eqb (member s l i) o) (members s l) ≡ cond (eqb l o) 1 0 + times s objects l complement_list o
 unfolding members member times
 members_counted s l o = how_many_shift (λ i. eqb (member s l i) o) (number s objects l complement_list)
 

@@ -3,6 +3,7 @@ pub mod CountingLaws
 pub mod GroupLaws
 pub mod ListLaws
 mod PlaceLaws
+pub mod SetLaws
 pub mod SumLaws
 pub mod RisingLaws
 pub mod VerdictLaws

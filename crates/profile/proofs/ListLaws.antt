@@ -11,7 +11,7 @@ use lib.Seq.{get_or_at}
 use Rattle.profile.specs.Counting.{sum, every, concat_below, tabulate}
 use Rattle.profile.proofs.BoolLaws.{and_both}
 
-sum_ones : (n : ℕ) → sum (λ k. 1) n ≡ n
+pub sum_ones : (n : ℕ) → sum (λ k. 1) n ≡ n
 unfolding sum
 sum_ones zero = refl
 sum_ones (suc n) = omega (arith, sum_ones n)

@@ -1,47 +1,26 @@
 -- Value sets that agree in their seven words, and a table of the first of each group. Assumes nothing.
 use Prim.Native.Nat.{ℕ, suc, ◌+◌, ◌-◌, ◌<◌}
 use mathlib.Core.Path.{◌≡◌, refl, sym, ap, ◌∙◌}
-use mathlib.Core.Bool.{Bool, true, false, cond, not, ◌&&◌, true≢false}
+use mathlib.Core.Bool.{Bool, true, false, cond, ◌&&◌, true≢false}
 use mathlib.Core.List.{List}
 use mathlib.Core.Logic.{◌⊎◌, ⊎_elim, inl, inr}
 use native.Mathlib.Omega.{arith}
 use native.Mathlib.Numerals.{add-one}
 use native.Mathlib.Nat.{eq-or-lt_of_le, eq-zero-or-pos}
 use borrow.Author.Count.{below_more}
-use borrow.Author.Tests.{ltb-true, ltb-false, eqb-true, eq-eqb, ne_eqb, not-false}
+use borrow.Author.Tests.{ltb-true, ltb-false, eqb-true, eq-eqb, ne_eqb}
 use lib.Dec.{eqb, ltb}
 use lib.ListN.{length, get_or, set, replicate, length-set}
 use Rattle.sheet.specs.Words.{Sheet}
-use Rattle.sheet.specs.Layout.{field}
-use Rattle.sheet.specs.Fields.{value_sets, set_gain}
 use Rattle.profile.specs.Counting.{any}
 use Rattle.profile.specs.Rules.{sets_differ}
 use Rattle.profile.proofs.BoolLaws.{and_second}
 use Rattle.profile.proofs.CountingLaws.{any_none}
+use Rattle.profile.proofs.SetLaws.{sets_own, sets_alike, sets_through}
 use Rattle.profile.proofs.SumLaws.{any_nowhere, any_one}
 use Rattle.tables.specs.steps.Marks.{Standing}
 use Rattle.tables.specs.steps.Right.{told}
 use Rattle.tables.proofs.MarkLaws.{set_standing, nought}
-
--- sets that do not differ have the same words
-module _ (s : Sheet) where
-  same_words : (u v f : ℕ) → sets_differ s u v ≡ false → f < 7 → field s value_sets u (set_gain + f) ≡ field s value_sets v (set_gain + f)
-  unfolding sets_differ
-  same_words u v f e l = eqb-true _ _ (not-false _ (any_none (λ g. not (eqb (field s value_sets u (set_gain + g)) (field s value_sets v (set_gain + g)))) 7 e f l))
-
-  same_sets : (u v : ℕ) → ((f : ℕ) → f < 7 → field s value_sets u (set_gain + f) ≡ field s value_sets v (set_gain + f)) → sets_differ s u v ≡ false
-  unfolding sets_differ
-  same_sets u v h = any_nowhere (λ g. not (eqb (field s value_sets u (set_gain + g)) (field s value_sets v (set_gain + g)))) 7 (λ f l. ap not (eq-eqb _ _ (h f l)))
-
-  pub differ_self : (u : ℕ) → sets_differ s u u ≡ false
-  differ_self u = same_sets u u (λ f l. refl)
-
-  -- both agree with a third
-  pub differ_both : (u v w : ℕ) → sets_differ s u v ≡ false → sets_differ s u w ≡ false → sets_differ s v w ≡ false
-  differ_both u v w e f = same_sets v w (λ g l. sym (same_words u v g e l) ∙ same_words u w g f l)
-
-  pub differ_through : (u v w : ℕ) → sets_differ s u v ≡ false → sets_differ s v w ≡ false → sets_differ s u w ≡ false
-  differ_through u v w e f = same_sets u w (λ g l. same_words u v g e l ∙ same_words v w g f l)
 
 -- one place of the table, written or not
 pub first_written : (t : List ℕ) (y j : ℕ) → get_or t y 0 ≡ 0 → Standing (λ z. cond (eqb y z) (suc j) (get_or t z 0)) (set t y (j + 1))
@@ -116,11 +95,11 @@ module _ (s : Sheet) (e g : ℕ → ℕ) where
                     (elim (ltb r i) as (λ b. ltb r i ≡ b → sets_differ s (e i) (e j) ≡ false) [
                       | true ↦ λ k.
                           let m : r < i = ltb-true r i k in
-                          differ_both s (e r) (e i) (e j) (and_second (eqb (g r) (g i)) (sets_differ s (e r) (e i)) (any_none (λ q. differ q i) i (agree i l) r m) (eq-eqb (g r) (g i) (one.1 ∙ sym gi))) d
+                          sets_alike s (e r) (e i) (e j) (and_second (eqb (g r) (g i)) (sets_differ s (e r) (e i)) (any_none (λ q. differ q i) i (agree i l) r m) (eq-eqb (g r) (g i) (one.1 ∙ sym gi))) d
                       | false ↦ λ k.
                           ⊎_elim
                           (λ q. ap (λ (z : ℕ). sets_differ s (e z) (e j)) q ∙ d)
-                          (λ m. differ_through s (e i) (e r) (e j) (and_second (eqb (g i) (g r)) (sets_differ s (e i) (e r)) (any_none (λ q. differ q r) r (agree r one.0) i m) (eq-eqb (g i) (g r) (gi ∙ sym one.1))) d)
+                          (λ m. sets_through s (e i) (e r) (e j) (and_second (eqb (g i) (g r)) (sets_differ s (e i) (e r)) (any_none (λ q. differ q r) r (agree r one.0) i m) (eq-eqb (g i) (g r) (gi ∙ sym one.1))) d)
                           (eq-or-lt_of_le (ltb-false r i k))
                     ]) refl
                 | false ↦ λ h. refl
@@ -133,6 +112,6 @@ module _ (s : Sheet) (e g : ℕ → ℕ) where
       pub found_next : sets_differ s (e r) (e j) ≡ true → any (λ i. differ i j) j ≡ true
       found_next d =
           ⊎_elim
-          (λ none. absurd (true≢false (sym d ∙ ap (λ (z : ℕ). sets_differ s (e z) (e j)) none.0 ∙ differ_self s (e j))))
+          (λ none. absurd (true≢false (sym d ∙ ap (λ (z : ℕ). sets_differ s (e z) (e j)) none.0 ∙ sets_own s (e j))))
           (λ one. any_one (λ i. differ i j) j r one.0 (rw (eq-eqb (g r) (g j) one.1) d))
           place

@@ -11,12 +11,8 @@ use Rattle.profile.specs.Counting.{any, how_many, sum, two_of}
 use Rattle.profile.proofs.BoolLaws.{or_none}
 use Rattle.profile.proofs.CountingLaws.{any_none, any_how_many}
 use Rattle.profile.proofs.GroupLaws.{any_witness}
+use Rattle.profile.proofs.ListLaws.{sum_ones}
 use Rattle.profile.proofs.SumLaws.{when, sum_le, sum_eq, sum_swap, sum_two, sum_at, sum_past, how_many_sum, how_many_all, any_nowhere}
-
-sum_ones : (n : ℕ) → sum (λ k. 1) n ≡ n
-unfolding sum
-sum_ones zero = refl
-sum_ones (suc n) = omega (arith, sum_ones n)
 
 -- one number's places among 0 to n - 1
 places : (k n : ℕ) → sum (λ c. when (eqb k c) 1) n ≡ cond (ltb k n) 1 0
