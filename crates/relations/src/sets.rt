@@ -154,7 +154,7 @@ pub fn has_set(s: &[u8], o: u16, v: u16) -> bool
     ensures { result ≡ has_set (sheet_of s.now) o v }
 {
     let span = Span::at(s, OBJECTS, o, SET_SPAN);
-    (span.first <= v) & (u32::from(v) < u32::from(span.first) + u32::from(span.count))
+    (span.first <= v) & (u32::from(v) < span.end())
 }
 
 // An object's own value, 0 where it is absent.
