@@ -5,7 +5,7 @@ ghost use Rattle.runs.specs.steps.Runs.{ordinal_at};
 ghost use Rattle.sheet.specs.Words.{sheet_of};
 ghost use Rattle.tables.specs.steps.Marks.{Standing};
 
-use crate::Table;
+use crate::{Asked, Table};
 use languages::list::Languages;
 use relations::objects::lacks;
 use rules::lists::{first_target, second_target};
@@ -16,52 +16,53 @@ use tables::Naming;
 use tables::coverage::count_covered;
 use tables::marks::{count_namings, first_namers};
 
-// The first table that a rule is lent for the records of a section. Rules are numbers, as in document 01: a caller may ask with any. Two
-// functions, since each table is filled, and has its fact in the contract of `breaks`, by itself: one for both would give a pair that each
-// of these takes apart.
-#[tactic(auto, unfolding(crate::specs::steps::Tables::first_table))]
-pub fn first_table(rule: u8, section: u8) -> Table
-    ensures { result ≡ first_table rule section }
-{
-    match rule {
-        5 => Table::Lacking(first_target(section)),
-        6 => Table::Languages,
-        9 => Table::Repeats,
-        11 => if section == OBJECTS {
-            Table::Named
-        } else {
-            Table::Spanned
-        },
-        12 => if section == PROGRAMMES {
-            Table::Repeats
-        } else {
-            Table::Listed
-        },
-        14 => Table::Strays,
-        15 => Table::Tops,
-        17 => Table::Owners,
-        18 => Table::Owners,
-        19 => Table::Tops,
-        22 => Table::Owners,
-        23 => Table::Tops,
-        24 => Table::Tops,
-        _ => Table::Nothing,
+impl Asked {
+    // The first table that the rule is lent for the records of the section. Two methods, since each table is filled, and has its fact in the
+    // contract of `breaks`, by itself: one for both would give a pair that each of these takes apart.
+    #[tactic(auto, unfolding(crate::specs::steps::Tables::first_table))]
+    pub fn first_table(self) -> Table
+        ensures { result ≡ first_table self.rule self.section }
+    {
+        match self.rule {
+            5 => Table::Lacking(first_target(self.section)),
+            6 => Table::Languages,
+            9 => Table::Repeats,
+            11 => if self.section == OBJECTS {
+                Table::Named
+            } else {
+                Table::Spanned
+            },
+            12 => if self.section == PROGRAMMES {
+                Table::Repeats
+            } else {
+                Table::Listed
+            },
+            14 => Table::Strays,
+            15 => Table::Tops,
+            17 => Table::Owners,
+            18 => Table::Owners,
+            19 => Table::Tops,
+            22 => Table::Owners,
+            23 => Table::Tops,
+            24 => Table::Tops,
+            _ => Table::Nothing,
+        }
     }
-}
 
-// The second one.
-#[tactic(auto, unfolding(crate::specs::steps::Tables::second_table))]
-pub fn second_table(rule: u8, section: u8) -> Table
-    ensures { result ≡ second_table rule section }
-{
-    match rule {
-        5 => Table::Lacking(second_target(section)),
-        14 => Table::Ordinals,
-        19 => Table::Complements,
-        22 => Table::Leaders,
-        23 => Table::Complements,
-        24 => Table::Complements,
-        _ => Table::Nothing,
+    // The second one.
+    #[tactic(auto, unfolding(crate::specs::steps::Tables::second_table))]
+    pub fn second_table(self) -> Table
+        ensures { result ≡ second_table self.rule self.section }
+    {
+        match self.rule {
+            5 => Table::Lacking(second_target(self.section)),
+            14 => Table::Ordinals,
+            19 => Table::Complements,
+            22 => Table::Leaders,
+            23 => Table::Complements,
+            24 => Table::Complements,
+            _ => Table::Nothing,
+        }
     }
 }
 

@@ -11,7 +11,7 @@ ghost use Rattle.profile.specs.declared.Verdict.TheVariants.{Accepted};
 ghost use Rattle.sheet.specs.Words.{sheet_of};
 
 use crate::groups::{grouped_programmes, kept_programmes};
-use crate::lent::{fill_table, first_table, second_table};
+use crate::lent::fill_table;
 use crate::subjects::{RULES, breaks, subject_kinds};
 use crate::{Asked, LentTables};
 use languages::list::Languages;
@@ -69,14 +69,9 @@ fn tabled_below<const FIRST: usize, const SECOND: usize, const MARKS: usize>(
     ensures { result ≡ lowest (breaks (sheet_of s.now) langs.now asked.rule asked.section) records.end }
 {
     let mut first = [0; FIRST];
-    fill_table(s, langs, first_table(asked.rule, asked.section), &mut first);
+    fill_table(s, langs, asked.first_table(), &mut first);
     let mut second = [0; SECOND];
-    fill_table(
-        s,
-        langs,
-        second_table(asked.rule, asked.section),
-        &mut second,
-    );
+    fill_table(s, langs, asked.second_table(), &mut second);
     let mut marks = [0; MARKS];
     let tables = LentTables {
         first: &first,
