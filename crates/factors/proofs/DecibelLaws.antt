@@ -1,7 +1,7 @@
 -- What the table's rule says of all factors. Assumes nothing.
 use Prim.Native.Nat.{ℕ, ◌+◌, ◌*◌, ◌-◌, ◌^◌, ◌<◌, ◌≤◌}
 use mathlib.Core.Path.{◌≡◌, refl}
-use mathlib.Core.Bool.{Bool, true, false, not, false≢true}
+use mathlib.Core.Bool.{true, not}
 use native.Mathlib.Omega.{arith}
 use native.Mathlib.Nat.{mul-le-mul_right, pow-le-pow_left, le_trans, lt_of_lt_of_le}
 use borrow.Author.Tests.{leb-true, leb-false, not-true}

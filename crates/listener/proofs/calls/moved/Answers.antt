@@ -1,5 +1,4 @@
-use mathlib.Core.Path.{refl, ap, ◌∙◌}
-use borrow.Author.Count.{below_none}
+use mathlib.Core.Path.{ap, ◌∙◌}
 use native.Mathlib.Omega.{arith}
 use Rattle.sheet.specs.Words.{sheet_of}
 use Rattle.listener.specs.State.{state_objects}
@@ -8,9 +7,6 @@ use Rattle.listener.specs.steps.Settings.{moved_from}
 use Rattle.listener.proofs.FillLaws.{filled_more, filled_all}
 use Rattle.listener.proofs.StepLaws.{leaders_made, element_setting}
 use Rattle.listener.proofs.calls.moved.Goals as goal
-
-pub loop-q-init : goal.loop-q-init
-loop-q-init c = record { long = refl; right = below_none _ }
 
 pub loop-q-preserved : goal.loop-q-preserved
 unfolding moved_setting moved_from

@@ -12,9 +12,6 @@ use Rattle.listener.proofs.programme.started.Goals as goal
 pub loop-o-init : goal.loop-o-init
 loop-o-init c = rw c.resting-objects.ensures (begun_none _ _ _ _)
 
-pub bounds-objects-from : goal.bounds-objects-from
-bounds-objects-from c = omega (arith, c.from.ensures, c.loop-o-test.true, c.enter_included-n.ensures.1)
-
 pub loop-o-preserved : goal.loop-o-preserved
 loop-o-preserved c =
     let f = c.first_namers in let s = sheet_of c.args.s.now in

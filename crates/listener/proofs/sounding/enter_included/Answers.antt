@@ -39,9 +39,6 @@ loop-i-preserved c =
       items_more (λ x. 1) a.marks.now l.marks c.mark_at.new.table m.0 g l.i c.from.result (c.from.ensures ∙ named) l.invariant.3 m.1,
     )
 
-pub shape_of-marks : goal.shape_of-marks
-shape_of-marks c = c.loop-i.invariant.2
-
 pub returns : goal.returns
 unfolding includes times_by
 returns c =

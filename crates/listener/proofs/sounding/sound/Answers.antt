@@ -29,12 +29,6 @@ returns-then-count-p c = rw (le-ltb c.args.state.now.programme (count (sheet_of 
 pub loop-o-init : goal.loop-o-init
 loop-o-init c = begun_none _ _ _ _
 
-pub bounds-state-from : goal.bounds-state-from
-bounds-state-from c = omega (arith, c.from.ensures, c.loop-o-test.true, c.enter_included-n.ensures.1)
-
-pub bounds-active-from : goal.bounds-active-from
-bounds-active-from c = omega (arith, c.from-in-loop-o-2.ensures, c.loop-o-test.true, c.enter_included-n.ensures.1)
-
 pub loop-o-preserved : goal.loop-o-preserved
 unfolding is_active
 loop-o-preserved c =
@@ -45,9 +39,6 @@ loop-o-preserved c =
 pub loop-o-2-init : goal.loop-o-2-init
 unfolding every
 loop-o-2-init c = refl
-
-pub bounds-state-from-in-loop-o-2 : goal.bounds-state-from-in-loop-o-2
-bounds-state-from-in-loop-o-2 c = omega (arith, c.from-in-loop-o-2-2.ensures, c.loop-o-2-test.true, c.enter_included-n.ensures.1)
 
 pub loop-o-2-preserved : goal.loop-o-2-preserved
 unfolding every

@@ -12,9 +12,6 @@ pub loop-o-init : goal.loop-o-init
 unfolding sum
 loop-o-init c = (search rules, refl)
 
-pub overflow_add-total : goal.overflow_add-total
-overflow_add-total c = omega (arith, c.number_when-total.ensures.1)
-
 pub loop-o-preserved : goal.loop-o-preserved
 unfolding sum number_when
 loop-o-preserved c = (

@@ -5,7 +5,7 @@ use lib.ListN.{length}
 use lib.Seq.{sets}
 use Rattle.sheet.specs.Words.{sheet_of}
 use Rattle.listener.specs.steps.Tracks.{own_tracks, child_tracks}
-use Rattle.listener.proofs.WrittenLaws.{written_none, written_more, room, same_long, written_all}
+use Rattle.listener.proofs.WrittenLaws.{written_none, written_more, room, written_all}
 use Rattle.listener.proofs.writing.write_children.Goals as goal
 
 pub loop-i-init : goal.loop-i-init
@@ -19,9 +19,6 @@ pub loop-i-preserved : goal.loop-i-preserved
 loop-i-preserved c =
     let w = c.write_own-pos.ensures in let e = c.entry.ensures in let l = c.loop-i in let s = sheet_of c.args.s.now in
     written_more l.invariant _ _ c.loop-i-test.true (w.0 ∙ ap (λ (x : ℕ). l.pos + length (own_tracks s x)) e) (w.1 ∙ ap (λ (x : ℕ). sets l.buffer l.pos (own_tracks s x)) e)
-
-pub shape_of-buffer : goal.shape_of-buffer
-shape_of-buffer c = same_long c.loop-i.invariant
 
 pub returns : goal.returns
 unfolding child_tracks

@@ -22,9 +22,6 @@ pub write_children-requires : goal.write_children-requires
 write_children-requires c =
     omega (arith, both (sheet_of c.args.s.now) c.args.o, c.requires, c.write_own-pos.ensures.0, ap length c.write_own-pos.ensures.1, length-sets c.args.buffer.now c.args.at (own_tracks (sheet_of c.args.s.now) c.args.o))
 
-pub shape_of-buffer : goal.shape_of-buffer
-shape_of-buffer c = ap length c.write_children.ensures.1 ∙ simp length-sets (ap length c.write_own-pos.ensures.1 ∙ simp length-sets)
-
 pub returns : goal.returns
 unfolding object_tracks
 returns c =

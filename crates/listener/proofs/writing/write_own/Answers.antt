@@ -10,7 +10,7 @@ use Rattle.sheet.specs.Fields.{objects, track_list}
 use Rattle.profile.specs.Counting.{tabulate}
 use Rattle.profile.specs.Relations.{track_at}
 use Rattle.listener.specs.steps.Tracks.{own_tracks}
-use Rattle.listener.proofs.WrittenLaws.{Written, written_none, written_more, room, same_long, written_all}
+use Rattle.listener.proofs.WrittenLaws.{Written, written_none, written_more, room, written_all}
 use Rattle.listener.proofs.writing.write_own.Goals as goal
 
 -- there is room for the next track
@@ -27,21 +27,12 @@ all_written s o n from out₀ out k w e f = let t = written_all w e in rw (← f
 pub loop-i-init : goal.loop-i-init
 loop-i-init c = let z : c.args.at + 0 ≡ c.args.at = omega arith in rw z (written_none _ _ _ _)
 
-pub overflow_add-buffer : goal.overflow_add-buffer
-overflow_add-buffer c = omega (arith, room_left _ _ _ _ _ _ _ _ c.loop-i.invariant c.loop-i-test.true c.number-n.ensures c.requires, same_long c.loop-i.invariant)
-
-pub offset_bounds-buffer-at : goal.offset_bounds-buffer-at
-offset_bounds-buffer-at c = omega (arith, room_left _ _ _ _ _ _ _ _ c.loop-i.invariant c.loop-i-test.true c.number-n.ensures c.requires, same_long c.loop-i.invariant)
-
 pub bounds-buffer-at : goal.bounds-buffer-at
 bounds-buffer-at c = omega (arith, room_left _ _ _ _ _ _ _ _ c.loop-i.invariant c.loop-i-test.true c.number-n.ensures c.requires)
 
 pub loop-i-preserved : goal.loop-i-preserved
 unfolding track_at
 loop-i-preserved c = let l = c.loop-i in written_more l.invariant _ _ c.loop-i-test.true (omega arith) (rw c.from.ensures (ap (λ (x : ℕ). set l.buffer (c.args.at + l.i) x) c.entry.ensures))
-
-pub shape_of-buffer : goal.shape_of-buffer
-shape_of-buffer c = same_long c.loop-i.invariant
 
 pub returns : goal.returns
 returns c = rw c.from-2.ensures (all_written _ _ _ _ _ _ _ c.loop-i.invariant (omega arith) c.number-n.ensures)
