@@ -130,14 +130,6 @@ module _ (s : Sheet) (p : ℕ) (t : List ℕ) (apart : GroupsApart s) (entries :
         ]) refl
       ]) refl
 
--- what stands in a place of a table lies inside it
-pub lies_inside : (h : List ℕ) (l : ℕ) → 0 < get_or h l 0 → l < length h
-lies_inside h l some =
-    (elim (ltb l (length h)) as (λ b. ltb l (length h) ≡ b → l < length h) [
-      | true ↦ λ e. ltb-true l (length h) e
-      | false ↦ λ e. absurd (omega (arith, some, past h l (ltb-false l (length h) e)))
-    ]) refl
-
 -- nothing stands in the table once the places of what the programme includes have 0
 module _ (s : Sheet) (p : ℕ) (t t' : List ℕ) (long : length t' ≡ length t) (tells : (x : ℕ) → includes s p x ≡ not (eqb (get_or t x 0) 0))
     (now : Standing (λ x. repeat (λ (c : ℕ). 0) (times_by s Included p x) (get_or t x 0)) t') where

@@ -100,9 +100,6 @@ looked t x =
     ]) refl
 
 module _ (f e : ℕ → ℕ) (t₀ : List ℕ) where
-  pub noted_none : Noted f e 0 t₀ t₀
-  noted_none = (λ k l. absurd (omega arith), λ k l. absurd (omega arith), λ k l. absurd (omega arith), λ k l. absurd (omega arith), λ x l h. refl)
-
   -- one place more
   module _ (t t' : List ℕ) (n y v : ℕ) (q : y ≡ f n) (r : v ≡ e n) (same : length t ≡ length t₀) (long : length t' ≡ length t)
       (before : Noted f e n t₀ t) (inside : y < length t) (stood : get_or t y 0 ≡ 1) (now : Standing (λ z. cond (eqb y z) (v + 2) (get_or t z 0)) t') where
@@ -146,11 +143,7 @@ owner_read s owners v c right e some =
       | false ↦ λ h. absurd (some (e ∙ sym (past owners v (ltb-false v (length owners) h))))
     ]) refl
 
--- the sets that a programme names
-pub sets_none : (s : Sheet) (alike : List ℕ) (p : ℕ) (t : List ℕ) → SetsNotedTo s alike p 0 t t
-sets_none s alike p t = record { noted = noted_none (owner_at s p) (λ j. representative alike (named_set s p j)) t; inside = λ j l. absurd (omega arith) }
-
--- one more
+-- one more of the sets that a programme names
 pub sets_more : (s : Sheet) (alike owners : List ℕ) (p j v c u : ℕ) (t₀ t t' : List ℕ) → Owners s owners → v ≡ named_set s p j → v < count s value_sets → c ≡ get_or owners v 0 → (c ≡ 0 → ⊥)
     → u ≡ representative alike v → length t ≡ length t₀ → length t' ≡ length t → SetsNotedTo s alike p j t₀ t
     → (c - 1 < length t) × (get_or t (c - 1) 0 ≡ 1) × Standing (λ z. cond (eqb (c - 1) z) (u + 2) (get_or t z 0)) t' → SetsNotedTo s alike p (j + 1) t₀ t'

@@ -1,7 +1,5 @@
-use Rattle.std.proofs.Common.{◌*◌, ◌≡◌, refl, ◌∙◌, arith}
+use Rattle.std.proofs.Common.{◌*◌, refl, ◌∙◌}
 use Rattle.sheet.specs.Words.{sheet_of}
-use Rattle.sheet.specs.Layout.{number}
-use Rattle.sheet.specs.Fields.{programmes, content_list}
 use Rattle.grouping.proofs.LeaderLaws.{asked_more, asked_none, group_entry}
 use Rattle.inclusion.proofs.PassLaws.{object_entry}
 use Rattle.grouping.proofs.leaders.groups_asked.Goals as goal
@@ -16,8 +14,3 @@ loop-i-preserved c = λ at led.
     (group_entry (sheet_of a.s.now) a.p here.i leader.result object.result (leader.ensures led)
     (object.ensures ∙ object_entry (sheet_of a.s.now) a.sections list.result.first a.p here.i at list.ensures.first))
     asked.ensures.0 (c.in_ok-group_asked.ensures.1 refl at) (here.invariant at led)
-
-pub returns : goal.returns
-returns c =
-    let a = c.args in let z : c.loop-i.i ≡ number (sheet_of a.s.now) programmes a.p content_list = omega (arith, c.at-list.ensures.count) in
-    (c.loop-i.auto.groups, λ e at led. rw z at (c.loop-i.invariant at led))

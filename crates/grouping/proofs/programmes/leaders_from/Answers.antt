@@ -10,9 +10,6 @@ use Rattle.grouping.proofs.KeptLaws.{repeated_kept}
 use Rattle.grouping.proofs.LeaderLaws.{led_more, led_ready, ready_later}
 use Rattle.grouping.proofs.programmes.leaders_from.Goals as goal
 
-pub loop-p-init : goal.loop-p-init
-loop-p-init c = λ pass apart a b before. ((b, c.clear-3.ensures.1, a, λ x l. omega (arith, c.clear-2.ensures.1 x l)), before)
-
 pub loop-p-preserved-then-repeats_before : goal.loop-p-preserved-then-repeats_before
 loop-p-preserved-then-repeats_before c = λ pass apart full full₂ before.
     let s = sheet_of c.args.s.now in let here = c.loop-p in let so = here.invariant pass apart full full₂ before in
@@ -30,12 +27,3 @@ loop-p-preserved c = λ pass apart full full₂ before.
       led_ready s both owners alike here.p here.included enter.new.included here.groups asked.new.groups pass entered so.0 groups asked.ensures.0 (here.p + 1) c.mark_objects.new.table (omega arith) enter.ensures.0 cleared.0 cleared.1,
       led_more s both owners alike here.p here.included enter.new.included here.groups asked.new.groups pass entered so.0 groups asked.ensures.0 apart so.1,
     )
-
-pub returns : goal.returns
-returns c =
-    record {
-      first = c.first_namers.ensures.0 ∙ c.clear.ensures.0;
-      second = c.loop-p.auto.groups ∙ c.clear-2.ensures.0;
-      third = c.loop-p.auto.included ∙ c.clear-3.ensures.0;
-      kept = λ pass full apart before q l. (c.loop-p.invariant pass apart (c.clear-2.ensures.0 ∙ full.1) (c.clear-3.ensures.0 ∙ full.2) before).1 q (omega (arith, l, c.max.ensures));
-    }

@@ -1,13 +1,10 @@
-use Rattle.std.proofs.Common.{rules, not, ap, ◌∙◌, arith}
+use Rattle.std.proofs.Common.{not, ap, ◌∙◌}
 use Rattle.std.specs.Prelude.{is_some}
 use Rattle.std.specs.Option.{option_copied}
 use Rattle.inclusion.specs.steps.Alike.{owners_of, alike_of}
 use Rattle.sheet.specs.Words.{sheet_of}
 use Rattle.grouping.proofs.KeptLaws.{programme_more, repeated_kept}
 use Rattle.grouping.proofs.programmes.rows_from.Goals as goal
-
-pub loop-p-init : goal.loop-p-init
-loop-p-init c = λ pass full before. before
 
 pub loop-p-preserved-then-repeats_before : goal.loop-p-preserved-then-repeats_before
 loop-p-preserved-then-repeats_before c = λ pass full before.
@@ -20,7 +17,3 @@ loop-p-preserved c = λ pass full before.
     programme_more (sheet_of a.s.now) (is_some (option_copied a.sets)) (owners_of (option_copied a.sets)) (alike_of (option_copied a.sets)) here.p cleared.new.table enter.new.included pass
     entered cleared.ensures.1 (cleared.ensures.0 ∙ here.auto.included ∙ full)
     (c.groups_kept.ensures c.if-not-groups_kept.false at (c.list.ensures.1 (c.is_none.ensures ∙ ap not c.if-is_none.false))) (here.invariant pass full before)
-
-pub returns : goal.returns
-returns c =
-    record { first = search rules; second = search rules; third = c.loop-p.auto.included; kept = λ pass full apart before q l. c.loop-p.invariant pass full.2 before q (omega (arith, l, c.max.ensures)) }

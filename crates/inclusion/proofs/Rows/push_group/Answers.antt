@@ -2,11 +2,8 @@ use Rattle.std.proofs.Common.{◌≡◌, refl, arith}
 use Rattle.sheet.specs.Words.{sheet_of}
 use Rattle.sheet.specs.Layout.{number}
 use Rattle.sheet.specs.Fields.{objects, complement_list}
-use Rattle.inclusion.proofs.RowLaws.{listed_row, listed_next, same_lists, same_after}
+use Rattle.inclusion.proofs.RowLaws.{listed_row, listed_next, same_after}
 use Rattle.inclusion.proofs.Rows.push_group.Goals as goal
-
-pub loop-j-init : goal.loop-j-init
-loop-j-init c = (same_lists c.args.self.now, λ listed. listed)
 
 pub loop-j-preserved : goal.loop-j-preserved
 loop-j-preserved c =

@@ -1,13 +1,10 @@
-use Rattle.std.proofs.Common.{rules, ℕ, ◌+◌, ◌<◌, arith}
+use Rattle.std.proofs.Common.{rules, ℕ, ◌+◌}
 use Rattle.sheet.specs.Words.{sheet_of}
 use Rattle.inclusion.proofs.AlikeLaws.{alike_none, alike_more}
 use Rattle.inclusion.proofs.alike.fill_alike.Goals as goal
 
 pub loop-v-init : goal.loop-v-init
 loop-v-init c = λ noughts. alike_none (sheet_of c.args.s.now) c.args.table.now noughts
-
-pub overflow_add-more : goal.overflow_add-more
-overflow_add-more c = let l : c.loop-v.v < 65535 = omega arith in omega (arith, c.leader_alike.ensures.0 l)
 
 pub loop-v-preserved : goal.loop-v-preserved
 loop-v-preserved c = λ noughts.

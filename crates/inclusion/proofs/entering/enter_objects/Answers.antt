@@ -1,7 +1,5 @@
-use Rattle.std.proofs.Common.{◌≡◌, refl, ◌∙◌, arith}
+use Rattle.std.proofs.Common.{refl, ◌∙◌}
 use Rattle.sheet.specs.Words.{sheet_of}
-use Rattle.sheet.specs.Layout.{number}
-use Rattle.sheet.specs.Fields.{programmes, content_list}
 use Rattle.inclusion.specs.steps.Entering.{object_at}
 use Rattle.inclusion.proofs.PassLaws.{changed_none, changed_more, object_entry}
 use Rattle.inclusion.proofs.entering.enter_objects.Goals as goal
@@ -15,8 +13,3 @@ loop-i-preserved c = λ at.
     changed_more (object_at (sheet_of a.s.now) a.p) 0 1 a.included.now refl here.included c.change.new.table here.i object.result
     (object.ensures ∙ object_entry (sheet_of a.s.now) a.sections list.result.first a.p here.i at list.ensures.first)
     here.auto.included c.change.ensures.0 (here.invariant at) now.0 now.1 now.2
-
-pub returns : goal.returns
-returns c =
-    let a = c.args in let z : c.loop-i.i ≡ number (sheet_of a.s.now) programmes a.p content_list = omega (arith, c.at-list.ensures.count) in
-    (c.loop-i.auto.included, λ e at. rw z at (c.loop-i.invariant at))

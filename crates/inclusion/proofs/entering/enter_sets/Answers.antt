@@ -1,12 +1,7 @@
-use Rattle.std.proofs.Common.{◌≡◌, get_or, refl, ◌∙◌, arith}
+use Rattle.std.proofs.Common.{get_or, refl, ◌∙◌, arith}
 use Rattle.sheet.specs.Words.{sheet_of}
-use Rattle.sheet.specs.Layout.{number}
-use Rattle.sheet.specs.Fields.{programmes, set_list}
-use Rattle.inclusion.proofs.PassLaws.{set_entry, sets_more, sets_none}
+use Rattle.inclusion.proofs.PassLaws.{set_entry, sets_more}
 use Rattle.inclusion.proofs.entering.enter_sets.Goals as goal
-
-pub loop-j-init : goal.loop-j-init
-loop-j-init c = let a = c.args in λ at owns. sets_none (sheet_of a.s.now) a.sets.now.alike.now a.p a.included.now
 
 pub loop-j-preserved : goal.loop-j-preserved
 loop-j-preserved c = λ at owns.
@@ -16,8 +11,3 @@ loop-j-preserved c = λ at owns.
     sets_more (sheet_of a.s.now) a.sets.now.alike.now a.sets.now.owners.now a.p here.j set.result tells standing.result a.included.now here.included c.change.new.table owns
     (set.ensures ∙ set_entry (sheet_of a.s.now) a.sections.references list.result.first a.p here.j at list.ensures.first)
     (omega (arith, c.if-total-v.false, c.count-total.ensures)) refl (λ q. omega (arith, q, owner.0)) standing.ensures here.auto.included c.change.ensures.0 (here.invariant at owns) changed
-
-pub returns : goal.returns
-returns c =
-    let a = c.args in let z : c.loop-j.j ≡ number (sheet_of a.s.now) programmes a.p set_list = omega (arith, c.at.ensures.count) in
-    (c.loop-j.auto.included, λ e at owns. rw z at (c.loop-j.invariant at.0 owns))

@@ -1,7 +1,6 @@
-use Rattle.std.proofs.Common.{◌≡◌, not, eqb, sym, ◌∙◌, arith}
+use Rattle.std.proofs.Common.{not, eqb, sym, ◌∙◌, arith}
 use native.Mathlib.Nat.{add-zero}
 use native.Mathlib.Numerals.{add-one}
-use borrow.Author.Tests.{leb-true}
 use Rattle.profile.specs.Counting.{how_many}
 use Rattle.profile.proofs.BoolLaws.{byte_cond, byte_le}
 use Rattle.inclusion.proofs.groups.one_included.Goals as goal
@@ -15,7 +14,3 @@ unfolding how_many
 loop-i-preserved c =
     let before = c.loop-i.invariant in let counted = not (eqb c.at-in-loop-i.result 0) in let more = c.from-many-in-loop-i.ensures in
     (omega (arith, before.0, more, byte_le counted), rw (add-one, more, byte_cond counted, before.1, c.at-in-loop-i.ensures, c.at.ensures) (omega arith))
-
-pub returns : goal.returns
-returns c =
-    let here = c.loop-i in let z : here.i ≡ c.args.others.list.count = omega arith in λ e. rw (here.invariant.1, z) at (leb-true here.many 1 e)

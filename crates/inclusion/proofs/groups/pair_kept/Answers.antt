@@ -1,6 +1,4 @@
 -- By what stands for both. Assumes nothing.
-use mathlib.Core.Path.{sym}
-use mathlib.Core.Bool.{true≢false}
 use borrow.Author.Tests.{not-true}
 use Rattle.sheet.specs.Words.{sheet_of}
 use Rattle.inclusion.proofs.PassLaws.{above_one, pair_none, pair_same, pair_sets}
@@ -11,9 +9,6 @@ returns-then-e-c c = λ e at. pair_same (sheet_of c.args.s.now) c.args.e c.args.
 
 pub returns-then-e-c-2 : goal.returns-then-e-c-2
 returns-then-e-c-2 c = λ e at. pair_none (sheet_of c.args.s.now) c.args.e c.args.c c.if-e-c-2.true
-
-pub returns-then-e-c-3 : goal.returns-then-e-c-3
-returns-then-e-c-3 c = λ e. absurd (true≢false (sym e))
 
 pub returns : goal.returns
 returns c =

@@ -1,4 +1,4 @@
-use Rattle.std.proofs.Common.{◌≡◌, refl, ap, ◌∙◌, arith}
+use Rattle.std.proofs.Common.{refl}
 use native.Mathlib.Numerals.{add-one}
 use Rattle.profile.specs.Counting.{any}
 use Rattle.inclusion.proofs.sets.bytes_differ.Goals as goal
@@ -10,6 +10,3 @@ loop-f-init c = refl
 pub loop-f-preserved : goal.loop-f-preserved
 unfolding any
 loop-f-preserved c = rw (add-one, c.loop-f.invariant) refl
-
-pub returns : goal.returns
-returns c = let e : c.loop-f.f ≡ 14 = omega arith in c.loop-f.invariant ∙ ap (any _) e

@@ -20,6 +20,3 @@ loop-y-preserved g c = λ p h.
     let n : Next p m y next = rw chosen (next_more m y i p l.next (rw e before.0)) in
     let at = c.mark_at.ensures (λ (k : ℕ). next) (λ i r b q. search rules) in
     (n, filled_more (Next p m) m y next l.table c.mark_at.new.table at.0 (rw e before.1) n (rw c.from.ensures at at.1))
-
-pub returns : goal.returns
-returns g c = λ p h. (c.loop-y.auto.table, λ x a b. (rw c.count-n.ensures at (c.loop-y.invariant p h).1) x (omega (arith, c.loop-y-test.false)) a b)

@@ -15,9 +15,6 @@ loop-y-init g c =
       λ f h. rw c.count-y.ensures ((λ z l. rw (get_or-replicate {A = ℕ} 65536 z 65535 0 l) (next_start m (λ y. eqb (f y) z) 65535 most)), repeat_start m f 65535 most, filled_start (Repeat f m) m c.args.table.now),
     )
 
-pub keep-before-requires : goal.keep-before-requires
-keep-before-requires g c = c.loop-y.invariant.0
-
 pub loop-y-preserved : goal.loop-y-preserved
 loop-y-preserved g c =
     let m = count (sheet_of c.args.s.now) references in let l = c.loop-y in let y = l.y - 1 in let keep = c.keep-before.ensures in let next = c.min-next in
@@ -32,6 +29,3 @@ loop-y-preserved g c =
             filled_more (Repeat f m) m y next.result l.table c.mark_at.new.table at.0 (rw e before.2) n (rw c.from.ensures at at.1),
           ),
     )
-
-pub returns : goal.returns
-returns g c = λ f h. (c.loop-y.auto.table, λ x a b. (c.loop-y.invariant.1 f h).2 x (omega (arith, c.loop-y-test.false)) a b)

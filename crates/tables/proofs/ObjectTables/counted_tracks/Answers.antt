@@ -8,9 +8,6 @@ pub loop-o-init : goal.loop-o-init
 unfolding sum
 loop-o-init c = (omega arith, λ right. refl)
 
-pub overflow_add-total : goal.overflow_add-total
-overflow_add-total c = omega (arith, c.from-total.ensures)
-
 pub loop-o-preserved : goal.loop-o-preserved
 unfolding sum
 loop-o-preserved c = (omega (arith, c.from-total.ensures), λ right. rw (add-one, c.loop-o.invariant.1 right, c.from-total.ensures, c.share.ensures right) refl)

@@ -37,6 +37,3 @@ loop-y-preserved c =
       rw (sym read-ended) at ended,
       indices_more counted_once a.table.now l.table c.mark_at.new.table (named_at s a.kind) (cover s a.kind) l.y c.from-in-loop-y-2.result k (c.from-in-loop-y-2.ensures ∙ c.named_at.ensures) e l.invariant.4 counted,
     )
-
-pub returns : goal.returns
-returns c = let e : c.loop-y.y ≡ c.args.m = omega arith in rw e at c.loop-y.invariant.4

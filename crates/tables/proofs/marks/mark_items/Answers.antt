@@ -3,10 +3,6 @@ use Rattle.tables.specs.steps.Marks.{times_by}
 use Rattle.profile.specs.Relations.{times}
 use Rattle.tables.proofs.marks.mark_items.Goals as goal
 
-pub returns-in-ContentObjects : goal.returns-in-ContentObjects
-unfolding times_by
-returns-in-ContentObjects g c = λ f h. rw c.in-ContentObjects.is (c.mark_object.ensures f h)
-
 pub returns-in-Children : goal.returns-in-Children
 unfolding times_by times
 returns-in-Children g c = λ f h. rw c.in-Children.is (c.mark_entries.ensures f h)
@@ -18,10 +14,6 @@ returns-in-Complements g c = λ f h. rw c.in-Complements.is (c.mark_entries-in-C
 pub returns-in-ContentLists : goal.returns-in-ContentLists
 unfolding times_by times
 returns-in-ContentLists g c = λ f h. rw c.in-ContentLists.is (c.mark_entries-in-ContentLists.ensures f h)
-
-pub returns-in-Included : goal.returns-in-Included
-unfolding times_by
-returns-in-Included g c = λ f h. rw c.in-Included.is (c.mark_objects.ensures f h)
 
 pub returns-in-SetLists : goal.returns-in-SetLists
 unfolding times_by times

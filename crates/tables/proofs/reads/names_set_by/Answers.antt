@@ -15,6 +15,3 @@ returns-in-Some c = λ right.
     ∙ any_below (λ k. not (eqb (get_or span k 0) 0)) (λ k. not (eqb (get_or sets (from.result + k) 0) 0)) n.result (λ k l. ap (λ (m : ℕ). not (eqb m 0)) (place k (omega (arith, l))))
     ∙ ap₂ (λ (f m : ℕ). any (λ k. not (eqb (get_or sets (f + k) 0) 0)) m) (from.ensures ∙ c.at-span.ensures.first) (n.ensures ∙ c.at-span.ensures.count)
     ∙ names_marked (sheet_of a.s.now) a.p a.o sets right (omega (arith, part.1, from.ensures, n.ensures, c.at-span.ensures.first, c.at-span.ensures.count))
-
-pub returns-in-None : goal.returns-in-None
-returns-in-None c = λ right. c.names_set.ensures
