@@ -27,7 +27,7 @@ use Rattle.grouping.specs.steps.Passing.{Passing}
 use Rattle.inclusion.proofs.CountLaws.{Apart}
 use Rattle.grouping.proofs.KeptLaws.{entries_apart, programme_more, tells_entered}
 use Rattle.grouping.proofs.MemberLaws.{group_count}
-use Rattle.inclusion.proofs.PassLaws.{one_kept, past}
+use Rattle.inclusion.proofs.PassLaws.{one_kept}
 
 -- one place of a table is written: what it has, and what the others have
 module _ (h h' : List ℕ) (l v : ℕ) (long : length h' ≡ length h) (now : Standing (λ z. cond (eqb l z) v (get_or h z 0)) h') where
