@@ -17,8 +17,8 @@ use tables::coverage::count_covered;
 use tables::marks::{count_namings, first_namers};
 
 impl Asked {
-    // The first table that the rule is lent for the records of the section. Two methods, since each table is filled, and has its fact in the
-    // contract of `breaks`, by itself: one for both would give a pair that each of these takes apart.
+    // The first table that the rule is lent for the records of the section. Two methods, since each table is filled, and has its fact in
+    // the contract of `breaks`, by itself: one for both would give a pair that each of these takes apart.
     #[tactic(auto, unfolding(crate::specs::steps::Tables::first_table))]
     pub fn first_table(self) -> Table
         ensures { result ≡ first_table self.rule self.section }

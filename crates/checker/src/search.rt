@@ -24,8 +24,8 @@ use std::ops::Range;
 use tables::entry_counts::{entries_left, list_entries};
 
 // The lowest record of a section before the last of some that breaks the rule asked, or their end, by the tables that the rule is lent,
-// where those before the first of them keep it. That they do is a `requires` of three functions, and (s, langs, asked, records) go through
-// four: a struct of them with that as its ghost field would hold the two borrows, need a maker with the same `requires`, and be taken apart
+// where those before the first of them keep it. That they do is a `requires` of the three functions that take (s, langs, asked, records):
+// a struct of these with that as its ghost field would hold the two borrows, need a maker with the same `requires`, and be taken apart
 // again at each call of `breaks`, whose rules take the sheet by itself. So it is with `kept` below.
 #[inline(never)]
 fn broken_below(
