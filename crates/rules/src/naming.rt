@@ -66,7 +66,6 @@ fn spanned_once(s: &[u8], spanned: &[u16], v: u16) -> bool
 }
 
 // Whether a content is in some programme.
-
 fn is_listed(s: &[u8], listed: &[u16], c: u16) -> bool
     ensures { Listed (sheet_of s.now) listed.now → result ≡ any (λ p. lists (sheet_of s.now) programmes p content_list c) (count (sheet_of s.now) programmes) }
 {

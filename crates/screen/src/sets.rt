@@ -52,8 +52,8 @@ fn value_leaves(sort: Sort, own: bool, set: Values, object: Values) -> bool
     effective.leaves(sort) | !is_absent(set.value) & ranged.leaves(sort)
 }
 
-// A set with own 0 that has no more than a gain: the object's offset is its own. No set has an offset alone as often, so that offsets have
-// no function like it.
+// A set with own 0 that has no more than a gain: the object's offset is its own. There is no such function for offsets, since sets with no
+// more than an offset are rarer.
 #[tactic(auto, unfolding(crate::specs::steps::Values::gain_broken))]
 fn gain_breaks(gains: Values, v: ObjectValues) -> bool
     ensures { result ≡ gain_broken gains v }
