@@ -112,7 +112,8 @@ pub fn mark_items<F: Fn(u16) -> u16>(s: &[u8], kind: Naming, q: u16, mark: F, ta
     }
 }
 
-// The same, with nothing to do for a record that names none, as most.
+// The same, with nothing to do for a record that names none, as most. `mark_items` has no such test, which would be made for the lists of
+// programmes and contents too, that are mostly not empty.
 #[tactic(auto, unfolding(crate::specs::steps::Marks::times_by, profile::specs::Counting::how_many, crate::specs::steps::Marks::repeat))]
 pub fn mark_some<F: Fn(u16) -> u16>(s: &[u8], kind: Naming, q: u16, mark: F, table: &mut [u16])
     requires { F.IsAlwaysCallable mark }

@@ -36,7 +36,8 @@ fn first_stored(v: u16, c: u16) -> u16
     if c == 0 { v } else { c }
 }
 
-// Counts the records that a record names, mostly none, and keeps its own number, one more, where it is the first to name one.
+// Counts the records that a record names, mostly none, and keeps its own number, one more, where it is the first to name one. With
+// `mark_some` for each of the two tables the test would be made twice.
 fn mark_both(s: &[u8], kind: Naming, q: u16, counts: &mut [u16], firsts: &mut [u16])
     requires { q < 65535 }
     ensures { MarkedTimes counted_once (times_by (sheet_of s.now) kind q) counts.old counts.new × MarkedTimes (first_stored (suc q)) (times_by (sheet_of s.now) kind q) firsts.old firsts.new }
