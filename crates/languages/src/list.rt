@@ -52,6 +52,7 @@ impl<'a> Languages<'a> {
     pub fn rises(&self) -> bool
         ensures { result ≡ is_rising self.now }
     {
+        // reading a field shows the proof the invariant, which says it
         let _ = &self.bytes;
         true
     }

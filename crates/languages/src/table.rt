@@ -10,7 +10,7 @@ use values::language::three_letters;
 // Enough for every word of three letters: the last is zzz.
 pub const LANGUAGE_WORDS: usize = 27483;
 
-// Writes 1 at a word of three letters.
+// Writes 1 at a word of three letters. By `get_mut` its proof would not know that what is written comes back to the table.
 fn mark_code(w: u16, table: &mut [u8; LANGUAGE_WORDS])
     ensures { table.new ≡ cond (three_letters w && ltb w (length table.old)) (set table.old w 1) table.old }
 {

@@ -1,5 +1,6 @@
 // The words of a record, by the index of its first word. The index is a u32, which std converts to no usize but by `as`: a usize could
-// be one that no position can be added to.
+// be one that no position can be added to. It is found once for all words of a record, which `field` and `Span::at` of sheet would each find
+// anew; the sheet stands beside it, as beside all that is read from it.
 ghost use Rattle.std.specs.Prelude.{◌+◌, ltb, ◌≡◌};
 ghost use Rattle.sheet.specs.Layout.{record_words, start};
 ghost use Rattle.sheet.specs.Words.{sheet_of, word, word_count};

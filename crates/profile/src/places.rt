@@ -3,6 +3,7 @@ ghost use Rattle.std.specs.Prelude.{◌<◌, ◌≡◌};
 ghost use Rattle.profile.specs.Verdict.{place_at, record_of, section_of, verdict_code};
 
 use crate::{Place, Verdict};
+use sheet::fields::{CONTENTS, OBJECTS, PACKS, PROGRAMMES, REFERENCES, TRACKS, VALUE_SETS};
 
 // Sections are numbers here, as in document 01 and in its definitions. `at` gives the header where no section has the number: the
 // definition holds for every number, and an enum of sections would ask more of callers.
@@ -11,16 +12,16 @@ impl Place {
     pub fn section(self) -> u32
         ensures { (result ≡ section_of self) × (result < 8) }
     {
-        match self {
+        u32::from(match self {
             Place::Header => 0,
-            Place::Programme(_) => 1,
-            Place::Content(_) => 2,
-            Place::Object(_) => 3,
-            Place::Pack(_) => 4,
-            Place::Track(_) => 5,
-            Place::Reference(_) => 6,
-            Place::ValueSet(_) => 7,
-        }
+            Place::Programme(_) => PROGRAMMES,
+            Place::Content(_) => CONTENTS,
+            Place::Object(_) => OBJECTS,
+            Place::Pack(_) => PACKS,
+            Place::Track(_) => TRACKS,
+            Place::Reference(_) => REFERENCES,
+            Place::ValueSet(_) => VALUE_SETS,
+        })
     }
 
     // The record of a place, 0 for the header.
@@ -45,13 +46,13 @@ impl Place {
         ensures { result ≡ place_at section k }
     {
         match section {
-            1 => Place::Programme(k),
-            2 => Place::Content(k),
-            3 => Place::Object(k),
-            4 => Place::Pack(k),
-            5 => Place::Track(k),
-            6 => Place::Reference(k),
-            7 => Place::ValueSet(k),
+            PROGRAMMES => Place::Programme(k),
+            CONTENTS => Place::Content(k),
+            OBJECTS => Place::Object(k),
+            PACKS => Place::Pack(k),
+            TRACKS => Place::Track(k),
+            REFERENCES => Place::Reference(k),
+            VALUE_SETS => Place::ValueSet(k),
             _ => Place::Header,
         }
     }

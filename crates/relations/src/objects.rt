@@ -5,8 +5,8 @@ ghost use Rattle.profile.specs.Rules.{lacks};
 ghost use Rattle.sheet.specs.Words.{sheet_of};
 
 use sheet::fields::{
-    CHILD_LIST, COMPLEMENT_LIST, NO_PACK, OBJECT_PACK, OBJECTS, PACK_CHANNELS, PACK_FRONT,
-    PACK_KIND, PACKS,
+    CHILD_LIST, COMPLEMENT_LIST, KIND_OBJECTS, NO_PACK, OBJECT_PACK, OBJECTS, PACK_CHANNELS,
+    PACK_FRONT, PACK_KIND, PACKS,
 };
 use sheet::layout::{count, field, number};
 
@@ -35,7 +35,7 @@ pub fn has_children(s: &[u8], o: u16) -> bool
 pub fn has_objects_pack(s: &[u8], o: u16) -> bool
     ensures { result ≡ has_objects_pack (sheet_of s.now) o }
 {
-    has_pack(s, o) & (field(s, PACKS, pack_of(s, o), PACK_KIND) == 3)
+    has_pack(s, o) & (field(s, PACKS, pack_of(s, o), PACK_KIND) == KIND_OBJECTS)
 }
 
 #[tactic(auto, unfolding(profile::specs::Relations::has_front_pack))]
@@ -54,7 +54,7 @@ pub fn kind(s: &[u8], o: u16) -> u16
     ensures { result ≡ kind (sheet_of s.now) o }
 {
     if has_children(s, o) {
-        3
+        KIND_OBJECTS
     } else {
         field(s, PACKS, pack_of(s, o), PACK_KIND)
     }

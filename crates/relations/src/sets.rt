@@ -28,6 +28,7 @@ pub struct Positions {
 
 // A value of one sort with its range: three words, each of which may be absent. They stay words, as in the definitions `bad_words` and
 // `leaves`: an `Option` for each would be made at each read of a sheet and taken apart in each contract.
+// Its fields have the names of those of `Positions`, but a type for both would have methods of either that make no sense of the other.
 #[derive(Clone, Copy)]
 pub struct Values {
     pub value: u16,

@@ -24,8 +24,8 @@ pub fn gain_of(w: u16) -> Gain
     }
 }
 
-// From `lo` to `hi`, both included. This and `offset_in_range` are the definitions of their names, by which callers' contracts speak; a
-// generic one over `PartialOrd` would be a third function, with the order of its type in its contract, and these two would call it.
+// From `lo` to `hi`, both included. This and `offset_in_range` are the definitions of their names, by which callers' contracts speak. The
+// contract of one for every `PartialOrd` could speak of the order of its type alone, and each caller would have to prove what that is.
 #[tactic(auto, using(crate::proofs::GainOrder::between))]
 pub fn gain_in_range(lo: Gain, g: Gain, hi: Gain) -> bool
     ensures { result ≡ gain_in_range lo g hi }

@@ -15,6 +15,8 @@ pub fn offset_in_range(lo: i16, z: i16, hi: i16) -> bool
     (lo <= z) & (z <= hi)
 }
 
+// What is legal of an offset, a minimum and a maximum: three definitions by name, as of gains; what they share is `offset_in_range`.
+
 // "-300 to 300"
 #[tactic(auto, unfolding(crate::specs::Offset::legal_offset))]
 pub fn legal_offset(z: i16) -> bool
