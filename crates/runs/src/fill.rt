@@ -1,10 +1,10 @@
 // One pass over the references from the end. A reference past the table's end is passed over.
-ghost use Rattle.std.specs.Prelude.{ℕ, Bool, ◌+◌, eqb, get_or, length, cond, ◌≡◌};
+ghost use Rattle.std.specs.Prelude.{ℕ, Bool, ◌+◌, length, ◌≡◌};
 ghost use Rattle.profile.specs.Counting.{ComputesBelow};
 ghost use Rattle.runs.specs.steps.Runs.{NextRight, KeyRight, stray};
 ghost use Rattle.sheet.specs.Layout.{reference};
 ghost use Rattle.sheet.specs.Words.{sheet_of};
-ghost use Rattle.tables.specs.steps.Marks.{NumbersBelow, Standing};
+ghost use Rattle.tables.specs.steps.Marks.{NumbersBelow};
 
 use sheet::fields::{PACK_CHANNELS, PACKS, REFERENCES, TRACK_ORDINAL, TRACK_PACK, TRACKS};
 use sheet::layout::{count, field, reference};
@@ -34,19 +34,6 @@ pub fn fill_next<F: Fn(u16) -> bool>(s: &[u8], test: F, table: &mut [u16])
     }
 }
 
-// Keeps an index as the least one of a key, and gives the one kept before. `see` of the rules does the same with 1: a function for both
-// would be public, and so without the `requires` that has no index tested in the two loops.
-#[tactic(auto, using(tables::proofs::MarkLaws::set_standing))]
-fn keep(later: &mut [u16], e: u16, x: u16) -> u16
-    requires { length later.old ≡ 65536 }
-    ensures { (length later.new ≡ 65536) × (result ≡ get_or later.old e 0) × Standing (λ z. cond (eqb e z) x (get_or later.old z 0)) later.new }
-{
-    let i = usize::from(e);
-    let before = later[i];
-    later[i] = x;
-    before
-}
-
 // Writes for each reference the least index at which the key that a closure gives stands between the two already; a number past the
 // last where there is none. `later` has the least index of each key among those passed.
 pub fn fill_repeats<F: Fn(u16) -> u16>(s: &[u8], key: F, table: &mut [u16])
@@ -58,7 +45,7 @@ pub fn fill_repeats<F: Fn(u16) -> u16>(s: &[u8], key: F, table: &mut [u16])
     let mut later: [u16; 65536] = [65535; 65536];
     let mut next: u16 = 65535;
     for y in (0..count(s, REFERENCES)).rev() {
-        let before = keep(&mut later, key(y), y);
+        let before = std::mem::replace(&mut later[usize::from(key(y))], y);
         next = before.min(next);
         mark_at(table, u32::from(y), |_| next);
     }

@@ -1,5 +1,6 @@
 // A list answered by one look at a table, where the table has it and the list is inside section 6. That a table is right (`StrayRight`,
-// `OrdinalRight`, `Tells`) is a premise: a public function asks nothing of its callers.
+// `OrdinalRight`, `Tells`) is a premise: a `requires`, or a type with the fact, is narrower than what callers hand in today, which may not be
+// asked of them.
 ghost use Rattle.std.specs.Prelude.{◌+◌, ◌<◌, ◌≤◌, leb, ltb, get_or, length, ◌&&◌, ◌≡◌};
 ghost use Rattle.runs.specs.steps.Runs.{LookedUp, OrdinalRight, StrayRight, odd_tracks};
 ghost use Rattle.sheet.specs.Fields.{pack_channels, packs, references};
@@ -24,7 +25,7 @@ pub fn among(table: &[u16], list: Span) -> bool
     ensures { list.first < length table.now → result ≡ ltb (get_or table.now list.first 0) (list.first + list.count) }
 {
     match look(table, list.first) {
-        Some(v) => u32::from(v) < u32::from(list.first) + u32::from(list.count),
+        Some(v) => u32::from(v) < list.end(),
         None => false,
     }
 }

@@ -11,8 +11,8 @@ pub mod passes;
 pub mod reads;
 pub mod totals;
 
-// What names a record of another section, or of its own. Contracts name the relation, as `times_by s kind q`, for which a closure that
-// walks what a record names has no name; `mark_items` picks its walk by it.
+// The ways in which records name others. It is an enum, and no closure that walks what a record names, because contracts speak of the way, as
+// `times_by s kind q` does of how often record q names each other one. `mark_items` has the walk of each.
 #[derive(Clone, Copy)]
 pub enum Naming {
     // a content names its object
@@ -32,8 +32,9 @@ pub enum Naming {
 }
 
 // How often contents and complement lists name each object, as far as the tables reach. That they are right, `ObjectsTabled`, is a premise
-// of each contract, and the fields are public: a public function asks nothing of its callers, and as an invariant or a ghost field the
-// fact would be asked where the struct is made.
+// of each contract, and the fields are public: a type with the fact, as an invariant or a ghost field, is narrower than what callers hand
+// in today, which may not be asked of them. No contract says of a function that fills lent tables more than that each keeps its length,
+// which its caller's proof needs: tables as arrays would be of one size for all.
 #[derive(Clone, Copy)]
 pub struct ObjectTables<'a> {
     pub tops: &'a [u16],

@@ -29,8 +29,9 @@ pub fn mark_at<F: Fn(u16) -> u16>(table: &mut [u16], x: u32, mark: F)
     requires { x < length table.old → F.pre mark (get_or table.old x 0) }
     ensures { (f : ℕ → ℕ) → NumbersBelow 65536 (F.post mark) f → Filled (λ z. cond (eqb x z) (f (get_or table.old z 0)) (get_or table.old z 0)) table.old table.new }
 {
+    // std has no From<u32> for usize
     let i = x as usize;
-    // a slice's `get_mut` says nothing of its elements
+    // std's `get_mut` doesn't say that what is written through it comes back to the slice
     if i < table.len() {
         table[i] = mark(table[i]);
     }

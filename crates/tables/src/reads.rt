@@ -1,6 +1,6 @@
 // Relations read from a table, or found by their own search where the table ends before: with an empty table, always. That the table is
-// right (`Tops`, `Complemented`, `Leaders`, `Owners`, `Included`, `NamedSets`) is a premise in the contracts of one table: a public
-// function asks nothing of its callers, and a `requires` or a table type with an invariant would.
+// right (`Tops`, `Complemented`, `Leaders`, `Owners`, `Included`, `NamedSets`) is a premise in the contracts of one table: a
+// `requires`, or a table type with the fact, is narrower than what callers hand in today, which may not be asked of them.
 ghost use Rattle.std.specs.Prelude.{ℕ, ◌<◌, Some, None, cond, eqb, ltb, get_or, length, not, true, ◌≡◌};
 ghost use Rattle.profile.specs.Counting.{any};
 ghost use Rattle.profile.specs.Relations.{complement, includes, leader_of, lone, names_set, owner, top};
