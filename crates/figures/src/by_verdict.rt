@@ -28,8 +28,9 @@ fn clash_figures(clash: Option<Clash>) -> Figures
 fn figures_of(s: &[u8], rule: u8, place: Place) -> Figures
     ensures { result ≡ first_figures no_figures (figures_of (sheet_of s.now) rule place) }
 {
+    // a record is below 65536, by the contract of `record`
     let k = place.record() as u16;
-    // the rules have document 01's numbers, as in the verdict
+    // the rules have document 01's numbers, as in the verdict: an enum of rules would be made of the verdict's number by this same match
     match rule {
         18 => clash_figures(range_clashes(s, place.section(), k)),
         20 => clash_figures(leader_clash(s, k)),

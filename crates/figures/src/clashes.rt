@@ -8,7 +8,8 @@ use sheet::fields::{OBJECTS, VALUE_SETS};
 use sheet::layout::field;
 
 impl WordPlace {
-    // The place of an object's word.
+    // The place of an object's word. Two names, as in the definitions, for places in the two sections that have values: one for both, with
+    // the section as a parameter, would be the struct itself.
     pub fn in_object(o: u16, at: u8) -> WordPlace
         ensures { result ≡ in_object o at }
     {

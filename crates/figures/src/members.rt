@@ -1,6 +1,9 @@
-// Rule 20: "the leader's, then the member's unequal word or kind".
-ghost use Rattle.std.specs.Prelude.{◌≡◌};
+// Rule 20: "the leader's, then the member's unequal word or kind". A leader and a member are two object numbers, as in the definitions that
+// the contracts cite: each is looked up by itself, so a struct of the two would be taken apart wherever a word is read.
+ghost use Rattle.std.specs.Prelude.{not, ◌≡◌};
+ghost use Rattle.figures.specs.Clashes.{clash};
 ghost use Rattle.figures.specs.Members.{kind_clash, kind_figure, leader_clash, member_clash, word_clash, word_clashes};
+ghost use Rattle.figures.specs.contracts.FigureNumberPartialEq.TheImpl.{eq-value};
 ghost use Rattle.sheet.specs.Words.{sheet_of};
 
 use crate::{Clash, Figure, FigureNumber, WordPlace};
@@ -9,7 +12,7 @@ use sheet::fields::{
     COMPLEMENT_LIST, INTERACT, OBJECT_GAIN, OBJECT_GAIN_MAXIMUM, OBJECT_GAIN_MINIMUM,
     OBJECT_OFFSET, OBJECT_OFFSET_MAXIMUM, OBJECT_OFFSET_MINIMUM, OBJECTS,
 };
-use sheet::layout::{entry, field, number};
+use sheet::layout::{entry, number};
 
 // "interact, gain, offset, the four range words", in this order.
 const COMPARED: [u8; 7] = [
@@ -22,15 +25,22 @@ const COMPARED: [u8; 7] = [
     OBJECT_OFFSET_MAXIMUM,
 ];
 
+// Two figures side by side, where their numbers are unequal.
+fn unequal(first: Figure, second: Figure) -> Option<Clash>
+    ensures { result ≡ clash (not (eq-value.it first.number second.number)) first second }
+{
+    (first.number != second.number).then_some(Clash { first, second })
+}
+
 // A word of the leader against the member's.
 #[tactic(auto, unfolding(crate::specs::Members::word_clash))]
 fn word_clash(s: &[u8], l: u16, q: u16, at: u8) -> Option<Clash>
     ensures { result ≡ word_clash (sheet_of s.now) l q at }
 {
-    let first = WordPlace::in_object(l, at).told(s);
-    let second = WordPlace::in_object(q, at).told(s);
-    let unequal = field(s, OBJECTS, l, at) != field(s, OBJECTS, q, at);
-    unequal.then_some(Clash { first, second })
+    unequal(
+        WordPlace::in_object(l, at).told(s),
+        WordPlace::in_object(q, at).told(s),
+    )
 }
 
 // An object's kind, as a figure.
@@ -49,10 +59,7 @@ fn kind_figure(s: &[u8], o: u16) -> Figure
 fn kind_clash(s: &[u8], l: u16, q: u16) -> Option<Clash>
     ensures { result ≡ kind_clash (sheet_of s.now) l q }
 {
-    let first = kind_figure(s, l);
-    let second = kind_figure(s, q);
-    let unequal = kind(s, l) != kind(s, q);
-    unequal.then_some(Clash { first, second })
+    unequal(kind_figure(s, l), kind_figure(s, q))
 }
 
 // The first unequal word.

@@ -1,4 +1,5 @@
-// Rule 18: "the value, then the bound".
+// Rule 18: "the value, then the bound". An object, its value set and a sort are three parameters, as in the definitions that the contracts
+// cite: words are looked up by the object alone and by the set alone, so a struct of the three would be taken apart wherever a word is read.
 ghost use Rattle.std.specs.Prelude.{◌≡◌};
 ghost use Rattle.figures.specs.Clashes.{in_object, in_set, word_at};
 ghost use Rattle.figures.specs.Ranges.{bound_place, effective_clash, effective_place, object_clash, object_clashes, own_clash, range_clash, range_clashes, range_place, set_clashes};
@@ -23,7 +24,8 @@ struct RangePlaces {
 }
 
 impl RangePlaces {
-    // An object's own value and its range.
+    // An object's own value and its range. Two functions that differ in two names, `in_object` and `in_set` of the
+    // definitions: one for both would take the positions and a closure for the places, and leave all but the three lines to its callers.
     fn of_object(o: u16, sort: Sort) -> RangePlaces
         ensures value { result.value ≡ in_object o (object_value sort) }
         ensures minimum { result.minimum ≡ in_object o (object_minimum sort) }

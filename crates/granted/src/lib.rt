@@ -1,4 +1,6 @@
-// What a programme gives its objects: start values, granted ranges, wholly included groups; and which values and activity fit them.
+// What a programme gives its objects: start values, granted ranges, wholly included groups; and which values and activity fit them. A
+// programme and an object are two numbers in these functions, as in the definitions that their contracts cite. Each is read alone too, so a
+// struct of the two would be taken apart wherever a word is read.
 #![tactic(auto)]
 
 pub mod activity;
@@ -6,7 +8,8 @@ pub mod fitting;
 pub mod included;
 pub mod programme;
 
-// An interaction range by its words.
+// An interaction range by its words. Where there is none, its words are absent: no `Option`, since the contracts of `granted_range` and
+// `range_by` give the two words, absent ones too.
 #[derive(Clone, Copy)]
 pub struct Range {
     pub minimum: u16,

@@ -15,12 +15,13 @@ use sheet::layout::number;
 use sheet::spans::Span;
 use values::Sort;
 
-// Where the programme's set list has the first set of the object, the list's length where it has none.
+// Where the programme's set list has the first set of the object, the list's length where it has none: `lowest` answers the number of
+// places for none, as its definition does.
 fn set_place(s: &[u8], p: u16, o: u16) -> u16
     ensures { result ≡ set_place (sheet_of s.now) p o }
 {
     let span = Span::at(s, OBJECTS, o, SET_SPAN);
-    let to = u32::from(span.first) + u32::from(span.count);
+    let to = span.end();
     let sets = Span::at(s, PROGRAMMES, p, SET_LIST).entries(s);
     lowest(sets.list.count, |i| {
         let v = sets.at(s, i);
