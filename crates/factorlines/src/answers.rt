@@ -29,9 +29,9 @@ fn put_conversion(answers: &mut Text, conversion: Result<Gain, FactorRefusal>)
 {
     match conversion {
         Ok(gain) => answers.gain(gain),
-        Err(FactorRefusal::FactorTooHigh) => {
+        Err(refusal) => {
             answers.text(b"refused ");
-            answers.number(FactorRefusal::FactorTooHigh as u64);
+            answers.number(u64::from(u16::from(refusal)));
         }
     }
 }

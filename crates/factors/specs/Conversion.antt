@@ -18,6 +18,9 @@ most_factor = 11220184
 abbrev pub factor_too_high : ℕ
 factor_too_high = 34
 
+abbrev pub refusal_number : FactorRefusal → ℕ
+refusal_number FactorTooHigh = factor_too_high
+
 -- "the least tenth of a dB that is not below it": that of the first entry that is not below the factor
 unfoldable pub least_tenth : ℕ → ℤ
 least_tenth f = tenth_at (position_or_len (λ n. leb f n) entries)

@@ -3,6 +3,7 @@
 #![tactic(auto)]
 
 pub mod convert;
+mod refusal;
 pub mod table;
 
 // Why a factor has no gain, with the refusal's number: "34, the factor is above 11,220,184". An enum of one variant, since a `None` would

@@ -1,5 +1,6 @@
 // "a fixed table of 811 entries, for each tenth d from -600 to 210 the largest n where n to the power 200, times 10 to the power 600, is at
 // most 10 to the power (1800 + d)".
+
 // How many entries there are.
 pub const ENTRIES: usize = 811;
 

@@ -35,9 +35,6 @@ use Rattle.host.specs.steps.Words.{host_words}
 done_refused : (r : Refusal) (x : Answer) → x ≡ Ok tt → x ≡ Err r → ⊥
 done_refused r x e f = let y : ◌≡◌ {A = ℕ} 0 1 = cc in absurd (omega arith)
 
-same_refusal : (q r : Refusal) → ◌≡◌ {A = Answer} (Err q) (Err r) → q ≡ r
-same_refusal q r e = cc
-
 -- they are the most entries at level 1, and at level 2
 words_most : (l : ℕ) → most_entries l ≤ host_words
 unfolding most_entries

@@ -33,6 +33,10 @@ module _ (g h : Ground) (rest : List Ground) (a : Answer) (e : a ≡ answer_by (
       by false true f = f
       by false false f = absurd (true≢false (ap is_ok f))
 
+  -- the refusal that `?` hands on
+  pub handed_on : {r : Refusal} {b : Answer} → a ≡ Err r → b ≡ Err r → b ≡ answer_by (g ∷ h ∷ rest)
+  handed_on {r} d q = q ∙ sym (stopped r d)
+
 -- one ground after the other
 pub held : (g : Ground) (gs : List Ground) → g.holds ≡ true → answer_by (g ∷ gs) ≡ Err g.refusal
 unfolding answer_by

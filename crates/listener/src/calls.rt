@@ -26,6 +26,7 @@ use values::Gain;
 
 // The sheet and the list are two parameters in all calls. A struct of the two would be taken apart at once in each: `opens` alone reads the
 // list, what is called besides it takes the sheet alone, and the host calls get two slices; the equations would name the two all the same.
+// The state beside them is lent: a struct with the state in it by value would copy it, as told at `sound`.
 
 // Whether the sheet is accepted under the lent list of languages, and not of level 0.
 pub fn opens(s: &[u8], langs: &[u8]) -> bool
@@ -144,15 +145,15 @@ fn moved_setting(s: &[u8], leaders: &[u16], o: u16, q: u16, x: Setting) -> Setti
     }
 }
 
-// The loop goes by the objects' numbers: `iter_mut().enumerate()` would count the same ones, and `state.objects` be indexed all the same.
+// The state after an object is chosen.
 fn moved(s: &[u8], state: &State, o: u16) -> State
     ensures { result ≡ moved (sheet_of s.now) state.now o }
 {
     let mut leaders: [u16; STATE_OBJECTS] = [0; STATE_OBJECTS];
     first_namers(s, Naming::Complements, &mut leaders);
-    let mut objects = [resting(); STATE_OBJECTS];
-    for q in 0..STATE_OBJECTS {
-        objects[q] = moved_setting(s, &leaders, o, q as u16, state.objects[q]);
+    let mut objects = state.objects;
+    for (q, x) in objects.iter_mut().enumerate() {
+        *x = moved_setting(s, &leaders, o, q as u16, *x);
     }
     State {
         programme: state.programme,
@@ -212,6 +213,7 @@ impl State {
     {
         let done = answer.is_ok();
         let i = usize::from(o);
+        // by index: of what is written through a slice's `get_mut` a proof knows nothing
         if done && i < STATE_OBJECTS {
             self.objects[i] = change(self.objects[i]);
         }

@@ -4,14 +4,14 @@ use mathlib.Core.List.{◌++◌}
 use Rattle.std.specs.Prelude.{Err}
 use Rattle.factors.specs.declared.FactorRefusal.{FactorRefusal}
 use Rattle.factors.specs.declared.FactorRefusal.TheVariants.{FactorTooHigh}
-use Rattle.factors.specs.Conversion.{factor_too_high}
+use Rattle.factors.specs.Conversion.{refusal_number}
 use Rattle.text.specs.Bytes.{ascii}
 use Rattle.text.specs.Decimal.{decimal}
 use Rattle.text.proofs.BufferLaws.{appends_more}
 use Rattle.factorlines.specs.FactorLines.{conversion_text}
 use Rattle.factorlines.proofs.answers.put_conversion.Goals as goal
 
-refused : (r : FactorRefusal) → conversion_text (Err r) ≡ ascii "refused " ++ decimal factor_too_high
+refused : (r : FactorRefusal) → conversion_text (Err r) ≡ ascii "refused " ++ decimal (refusal_number r)
 unfolding conversion_text
 refused FactorTooHigh = refl
 
@@ -19,5 +19,5 @@ pub returns-in-Ok : goal.returns-in-Ok
 unfolding conversion_text
 returns-in-Ok c = rw c.in-Ok.is c.gain.ensures
 
-pub returns-in-Err-FactorTooHigh : goal.returns-in-Err-FactorTooHigh
-returns-in-Err-FactorTooHigh c = rw (c.in-Err-FactorTooHigh.is, refused c.in-Err-FactorTooHigh.field-0) (appends_more _ _ _ _ _ c.text.ensures c.number.ensures)
+pub returns-in-Err : goal.returns-in-Err
+returns-in-Err c = rw (c.in-Err.is, refused c.in-Err.refusal) (appends_more _ _ _ _ _ c.text.ensures (rw (c.from-in-Err.ensures, c.from.ensures) at c.number.ensures))

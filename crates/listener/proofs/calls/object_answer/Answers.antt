@@ -1,15 +1,14 @@
 -- 28 and 29, behind 25 and 26. Assumes nothing.
-use mathlib.Core.Path.{◌≡◌, sym, ap, ◌∙◌}
+use mathlib.Core.Path.{sym, ap, ◌∙◌}
 use mathlib.Core.Bool.{not}
 use borrow.Author.Rules.{rules}
-use Rattle.std.specs.Prelude.{Err}
 use Rattle.listener.specs.Calls.{not_included, not_in_group, object_answer}
-use Rattle.listener.proofs.AnswerLaws.{behind, stopped, held, passed, none_left}
+use Rattle.listener.proofs.AnswerLaws.{behind, handed_on, held, passed, none_left}
 use Rattle.listener.proofs.calls.object_answer.Goals as goal
 
 pub returns-in_err-sound_answer : goal.returns-in_err-sound_answer
 unfolding object_answer
-returns-in_err-sound_answer c = let r : c.from_residual.result ≡ Err c.in_err-sound_answer.field-0.0 = search rules in r ∙ sym (stopped _ _ _ _ c.sound_answer.ensures _ c.in_err-sound_answer.was)
+returns-in_err-sound_answer c = handed_on _ _ _ _ c.sound_answer.ensures c.in_err-sound_answer.was (search rules)
 
 pub returns-then-not-includes : goal.returns-then-not-includes
 unfolding object_answer not_included

@@ -1,15 +1,14 @@
 -- 27, behind 25 and 26. Assumes nothing.
-use mathlib.Core.Path.{◌≡◌, sym, ◌∙◌}
+use mathlib.Core.Path.{sym, ◌∙◌}
 use borrow.Author.Rules.{rules}
 use borrow.Author.Tests.{le-leb, lt-leb}
-use Rattle.std.specs.Prelude.{Err}
 use Rattle.listener.specs.Calls.{no_programme, programme_answer}
-use Rattle.listener.proofs.AnswerLaws.{behind, stopped, held, passed, none_left}
+use Rattle.listener.proofs.AnswerLaws.{behind, handed_on, held, passed, none_left}
 use Rattle.listener.proofs.calls.programme_answer.Goals as goal
 
 pub returns-in_err-sound_answer : goal.returns-in_err-sound_answer
 unfolding programme_answer
-returns-in_err-sound_answer c = let r : c.from_residual.result ≡ Err c.in_err-sound_answer.field-0.0 = search rules in r ∙ sym (stopped _ _ _ _ c.sound_answer.ensures _ c.in_err-sound_answer.was)
+returns-in_err-sound_answer c = handed_on _ _ _ _ c.sound_answer.ensures c.in_err-sound_answer.was (search rules)
 
 pub returns-then-count-p : goal.returns-then-count-p
 unfolding programme_answer no_programme

@@ -1,17 +1,16 @@
 -- 28, 30 and 31, behind 25 and 26. Assumes nothing.
-use mathlib.Core.Path.{◌≡◌, sym, ap, ◌∙◌}
+use mathlib.Core.Path.{sym, ap, ◌∙◌}
 use mathlib.Core.Bool.{not}
 use borrow.Author.Rules.{rules}
-use Rattle.std.specs.Prelude.{Err}
 use Rattle.granted.specs.Granted.{grants}
 use Rattle.granted.specs.steps.NamedSet.{granted_range, is_range}
 use Rattle.listener.specs.Calls.{not_included, no_range, outside_range, value_answer}
-use Rattle.listener.proofs.AnswerLaws.{behind, stopped, held, passed, none_left}
+use Rattle.listener.proofs.AnswerLaws.{behind, handed_on, held, passed, none_left}
 use Rattle.listener.proofs.calls.value_answer.Goals as goal
 
 pub returns-in_err-sound_answer : goal.returns-in_err-sound_answer
 unfolding value_answer
-returns-in_err-sound_answer g c = let r : c.from_residual.result ≡ Err c.in_err-sound_answer.field-0.0 = search rules in r ∙ sym (stopped _ _ _ _ c.sound_answer.ensures _ c.in_err-sound_answer.was)
+returns-in_err-sound_answer g c = handed_on _ _ _ _ c.sound_answer.ensures c.in_err-sound_answer.was (search rules)
 
 pub returns-then-not-includes : goal.returns-then-not-includes
 unfolding value_answer not_included
