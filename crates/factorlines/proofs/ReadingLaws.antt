@@ -36,12 +36,12 @@ none_taken start s line out e = record { same_buffer = refl; line_after = rw e r
 
 -- one byte more is taken
 module _ (start : Reading) (s : List ℕ) (i : ℕ) (name : _) (line answers out : Text) (h : i < length s) (t : Taken start s i name line answers out) where
-  pub newline_taken : (next : Text) → get_or s i 0 ≡ 10 → Appends answers (factor_line (part line.buffer.now 0 line.count)) next
-      → Taken start s (i + 1) name (record line { count = 0 }) next out
+  pub newline_taken : (none next : Text) → get_or s i 0 ≡ 10 → Appends answers (factor_line (part line.buffer.now 0 line.count)) next
+      → none.buffer.ghost_name ≡ line.buffer.ghost_name → none.buffer.now ≡ line.buffer.now → none.count ≡ 0 → Taken start s (i + 1) name none next out
   unfolding after_byte
-  newline_taken next n g = record {
-    same_buffer = t.same_buffer;
-    line_after = rw (read_more start s i h, eq-eqb (get_or s i 0) 10 n, ← t.line_after) refl;
+  newline_taken none next n g name bytes count = record {
+    same_buffer = name ∙ t.same_buffer;
+    line_after = rw (read_more start s i h, eq-eqb (get_or s i 0) 10 n, ← t.line_after, bytes, count) refl;
     answered = rw (read_more start s i h, eq-eqb (get_or s i 0) 10 n, ← t.line_after) (appends_more _ _ _ _ _ t.answered g);
   }
 

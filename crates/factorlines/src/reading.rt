@@ -24,7 +24,7 @@ pub fn answer_read(line: &mut Text, read: &[u8], answers: &mut [u8; ANSWERS_ROOM
     for byte in read {
         if *byte == b'\n' {
             put_factor_line(&mut text, line.as_bytes());
-            line.count = 0;
+            line.clear();
         } else {
             line.byte(*byte);
         }

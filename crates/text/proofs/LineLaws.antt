@@ -7,8 +7,16 @@ use native.Mathlib.Omega.{arith}
 use lib.Dec.{eqb, ltb}
 use lib.ListN.{length, drop, length-drop}
 use denote.Bor.{Bor}
+use denote.Param.Members.{Mut}
+use Rattle.std.specs.Fn.{CalledAt}
+use Rattle.std.specs.Iterator.Adapters.{filter_source, filter_callee, filter_steps}
+use Rattle.std.specs.Slice.Iter.{split_rest, split_done, split_callee, split_steps}
+use Rattle.std.specs.declared.iter.Filter.{Filter}
 use Rattle.std.specs.Prelude.{Option, Some, None, unwrap_or, option_map}
 use Rattle.std.specs.List.{slice_split, onto_first, filter, slice_get, position_or_len, slice_range}
+use Rattle.std.proofs.lemmas.Iterator.{YieldsList}
+use Rattle.std.proofs.lemmas.Iterator.Consumers.{YieldsList-at, YieldsList-from_filter}
+use Rattle.std.proofs.lemmas.Iterator.Splits.{YieldsList-from_slice_split}
 use Rattle.std.proofs.lemmas.List.Splits.{length-slice_split}
 use borrow.Author.Tests.{ne_eqb, ltb-false}
 use lib.Seq.{take_all}
@@ -44,16 +52,23 @@ split_fields f (b ∷ s) =
       | false ↦ rw (split_fields (f ++ (b ∷ [])) s) (ap (filter has_bytes) (first_behind f b (slice_split is_blank s) (rw (length-slice_split is_blank s) (omega arith))))
     ])
 
-pub fields_lem : (s : List ℕ) → fields s ≡ filter has_bytes (slice_split is_blank s)
+fields_lem : (s : List ℕ) → fields s ≡ filter has_bytes (slice_split is_blank s)
 unfolding fields
 fields_lem s = split_fields [] s ∙ ap (filter has_bytes) (nothing_behind (slice_split is_blank s))
 
+-- the fields of a line, as an iterator yields them: of both closures it is asked what they compute
+pub yields_fields : {F G : Type 0} {f : F} {h : G} {s : _} {t : Filter _ G} (test : Mut F (Bor ℕ × Unit {0}) Bool) (keep : Mut G (Bor (Bor (List ℕ)) × Unit {0}) Bool) (line : List ℕ)
+    → filter_source t ≡ s → split_rest s ≡ line → split_done s ≡ false → split_callee s ≡ f → ((x : ℕ) (b : Bool) (q : F) → CalledAt test f x b q → (q ≡ f) × (b ≡ is_blank x))
+    → filter_callee t ≡ h → ((x : Bor (List ℕ)) (b : Bool) (q : G) → CalledAt keep h x b q → (q ≡ h) × (b ≡ has_bytes x.now))
+    → YieldsList (filter_steps (split_steps test) keep) (λ x. x.now) t (fields line)
+yields_fields test keep line source rest done closure blank callee bytes =
+    rw (fields_lem line) (YieldsList-from_filter keep has_bytes (YieldsList-at source (YieldsList-from_slice_split test is_blank line rest done closure blank)) callee bytes)
+
 -- a field by its number, as an iterator gives it
-pub nth_field : (r : Option (Bor (List ℕ))) (d : Bor (List ℕ)) (s : List ℕ) (k : ℕ)
-    → option_map (λ (f : Bor (List ℕ)). f.now) r ≡ slice_get (filter has_bytes (slice_split is_blank s)) k
-    → (unwrap_or r d).now ≡ unwrap_or (slice_get (fields s) k) d.now
-nth_field (Some f) d s k e = rw (fields_lem s, ← e) refl
-nth_field None d s k e = rw (fields_lem s, ← e) refl
+pub nth_field : (r : Option (Bor (List ℕ))) (d : Bor (List ℕ)) (fs : List (List ℕ)) (k : ℕ)
+    → option_map (λ (f : Bor (List ℕ)). f.now) r ≡ slice_get fs k → (unwrap_or r d).now ≡ unwrap_or (slice_get fs k) d.now
+nth_field (Some f) d fs k e = rw (← e) refl
+nth_field None d fs k e = rw (← e) refl
 
 -- where a line ends, as an iterator gives the first newline of the rest
 first_or_end : (test : ℕ → Bool) (s : List ℕ) → unwrap_or (cond (ltb (position_or_len test s) (length s)) (Some (position_or_len test s)) None) (length s) ≡ position_or_len test s

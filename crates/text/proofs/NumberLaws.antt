@@ -1,16 +1,18 @@
 -- What the digits read so far say of a text's number. Assumes nothing.
 use Prim.Native.Nat.{ℕ, ◌+◌, ◌*◌, ◌-◌, ◌≤◌, ◌<◌}
 use mathlib.Core.Path.{◌≡◌, refl, sym}
-use mathlib.Core.Bool.{true, false}
+use mathlib.Core.Bool.{Bool, true, false, cond, ◌&&◌}
 use mathlib.Core.List.{List, [], ◌∷◌}
 use native.Mathlib.Numerals.{add-one}
 use native.Mathlib.Omega.{arith}
-use borrow.Author.Tests.{lt-ltb, le-leb, lt-leb}
+use lib.Dec.{leb, ltb}
+use borrow.Author.Tests.{lt-ltb, le-leb, lt-leb, leb-false}
 use lib.ListN.{length, get_or, drop}
 use lib.Seq.{drop-cons, drop-length}
 use Rattle.std.proofs.Math.Bool.{and-false}
+use Rattle.std.specs.Prelude.{Option, Some, None}
 use Rattle.std.specs.Char.{is_ascii_digit}
-use Rattle.text.specs.Numbers.{is_digit, digits, value, is_number}
+use Rattle.text.specs.Numbers.{is_digit, digits, value, is_number, number_of, wide_number_of}
 
 -- a digit, as the library tests it
 pub digit_test : (b : ℕ) → is_digit b ≡ is_ascii_digit b
@@ -56,3 +58,22 @@ finished most s i n e h l v d =
     let w : n ≡ value 0 s = rw z at v in
     let f : true ≡ digits s = rw z at d in
     (simp (lt-ltb 0 (length s) h, sym f, sym w, le-leb n most l), w)
+
+-- a number of 16 bits, by that of 32 bits
+unfoldable pub narrow : Option ℕ → Option ℕ
+narrow None = None
+narrow (Some n) = cond (leb n 65535) (Some n) None
+
+narrow_value : (a b : Bool) (v : ℕ) → cond (a && b && leb v 65535) (Some v) None ≡ narrow (cond (a && b && leb v 4294967295) (Some v) None)
+unfolding narrow
+narrow_value false b v = refl
+narrow_value true false v = refl
+narrow_value true true v =
+    (elim (leb v 4294967295) as (λ t. leb v 4294967295 ≡ t → cond (leb v 65535) (Some v) None ≡ narrow (cond t (Some v) None)) [
+      | true ↦ λ q. refl
+      | false ↦ λ q. rw (lt-leb v 65535 (omega (arith, leb-false _ _ q))) refl
+    ]) refl
+
+pub narrowed : (s : List ℕ) → number_of s ≡ narrow (wide_number_of s)
+unfolding number_of wide_number_of is_number
+narrowed s = narrow_value (ltb 0 (length s)) (digits s) (value 0 s)

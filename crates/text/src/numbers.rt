@@ -1,45 +1,34 @@
 // Decimal numbers: digits, leading zeros among them, with a minus before them where the number may be negative.
-ghost use Rattle.std.specs.Prelude.{◌≡◌, None, Some, cond};
-ghost use Rattle.text.specs.Numbers.{gain_value_of, is_number, number_of, tenths_of, value, wide_number_of};
+ghost use Rattle.std.specs.Prelude.{◌≡◌};
+ghost use Rattle.text.specs.Numbers.{gain_value_of, number_of, tenths_of, wide_number_of};
 
 use crate::lines::same;
 use values::Gain;
 
-// A number from 0 to `most`.
-#[tactic(auto, using(crate::proofs::NumberLaws::digit_test, crate::proofs::NumberLaws::empty, crate::proofs::NumberLaws::stray, crate::proofs::NumberLaws::above, crate::proofs::NumberLaws::valued, crate::proofs::NumberLaws::judged, crate::proofs::NumberLaws::finished))]
-fn number_up_to(text: &[u8], most: u32) -> Option<u32>
-    ensures { result ≡ cond (is_number most text.now) (Some (value 0 text.now)) None }
+// A number of 32 bits. Not `str::parse`: it takes a plus sign, and needs a `str`.
+#[tactic(auto, unfolding(crate::specs::Numbers::wide_number_of), using(crate::proofs::NumberLaws::digit_test, crate::proofs::NumberLaws::empty, crate::proofs::NumberLaws::stray, crate::proofs::NumberLaws::above, crate::proofs::NumberLaws::valued, crate::proofs::NumberLaws::judged, crate::proofs::NumberLaws::finished))]
+pub fn wide_number_of(text: &[u8]) -> Option<u32>
+    ensures { result ≡ wide_number_of text.now }
 {
     if text.is_empty() {
         return None;
     }
-    let mut n: u64 = 0;
+    let mut n: u32 = 0;
     for byte in text {
         if !byte.is_ascii_digit() {
             return None;
         }
-        n = n * 10 + u64::from(*byte - b'0');
-        if n > u64::from(most) {
-            return None;
-        }
+        n = n.checked_mul(10)?.checked_add(u32::from(*byte - b'0'))?;
     }
-    Some(n as u32)
+    Some(n)
 }
 
 // A number from 0 to 65535.
-#[tactic(auto, unfolding(crate::specs::Numbers::number_of, crate::specs::Numbers::is_number))]
+#[tactic(auto, unfolding(crate::proofs::NumberLaws::narrow), using(crate::proofs::NumberLaws::narrowed))]
 pub fn number_of(text: &[u8]) -> Option<u16>
     ensures { result ≡ number_of text.now }
 {
-    Some(number_up_to(text, 65535)? as u16)
-}
-
-// A number of 32 bits.
-#[tactic(auto, unfolding(crate::specs::Numbers::wide_number_of))]
-pub fn wide_number_of(text: &[u8]) -> Option<u32>
-    ensures { result ≡ wide_number_of text.now }
-{
-    number_up_to(text, u32::MAX)
+    u16::try_from(wide_number_of(text)?).ok()
 }
 
 // A number from -32768 to 32767.

@@ -31,13 +31,13 @@ pub fn tell_input<R: Input + Env + Files + Print + Eprint, F: Fn(&[u8], &[u8])>(
     }
 }
 
-// Tells of a sheet under a list, behind the sheet's name, each by the place of the argument that names its file.
-fn tell_files<R: Env + Files + Print + Eprint, F: Fn(&[u8], &[u8])>(
+// Reads the list and the sheet whose files two arguments name, and tells of both. `list_at` and `sheet_at` are the numbers of the arguments.
+// Where a file can't be read, nothing is told: standard error says why.
+pub fn tell_files<R: Env + Files + Eprint, F: Fn(&[u8], &[u8])>(
     rt: &R,
-    behind_name: &[u8],
-    tell: F,
     list_at: usize,
     sheet_at: usize,
+    tell: F,
 )
     requires { F.IsAlwaysCallable tell }
 {
@@ -49,13 +49,10 @@ fn tell_files<R: Env + Files + Print + Eprint, F: Fn(&[u8], &[u8])>(
     let Ok(count) = read_argument(rt, sheet_at, &mut sheet) else {
         return;
     };
-    write_argument(rt, sheet_at);
-    // a failure is told, and ends nothing
-    let _ = write_output(rt, behind_name);
     tell(&sheet[..count], &langs[..list]);
 }
 
-// The same for each pair of arguments, which name a list and a sheet.
+// Tells of the list and the sheet that each pair of arguments names, behind the name of the sheet's file.
 pub fn tell_pairs<R: Env + Files + Print + Eprint, F: Fn(&[u8], &[u8])>(
     rt: &R,
     usage: &str,
@@ -70,6 +67,12 @@ pub fn tell_pairs<R: Env + Files + Print + Eprint, F: Fn(&[u8], &[u8])>(
         return;
     }
     for i in 0..n / 2 {
-        tell_files(rt, behind_name, &tell, 2 * i + 1, 2 * i + 2);
+        let sheet_at = 2 * i + 2;
+        tell_files(rt, 2 * i + 1, sheet_at, |sheet, langs| {
+            write_argument(rt, sheet_at);
+            // a failure is told, and ends nothing
+            let _ = write_output(rt, behind_name);
+            tell(sheet, langs);
+        });
     }
 }

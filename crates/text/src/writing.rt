@@ -16,8 +16,8 @@ pub struct Text<'a> {
 }
 
 // These methods can't fail, and say each byte, also where there is no room for all. `write!` says what it wrote under `OnOk` alone, since a
-// `Display` may answer an error whatever the writer does: with `write!(self, "{n}")` as the body of `number`, its `Appends` stays open, of
-// which a part is that the buffer is still the same.
+// `Display` may answer an error whatever the writer does: with `write!(self, "{n}")` as the body of `number`, its `Appends` stays open.
+// `Appends` says too that the buffer is the same one, and that stays open.
 impl<'a> Text<'a> {
     // No text yet.
     pub fn new(buffer: &'a mut [u8]) -> Text<'a>
@@ -26,6 +26,15 @@ impl<'a> Text<'a> {
         ensures empty { result.count ≡ 0 }
     {
         Text { buffer, count: 0 }
+    }
+
+    // No text again: the buffer and its bytes stay.
+    pub fn clear(&mut self)
+        ensures same_buffer { self.new.buffer.ghost_name ≡ self.old.buffer.ghost_name }
+        ensures same_bytes { self.new.buffer.now ≡ self.old.buffer.now }
+        ensures empty { self.new.count ≡ 0 }
+    {
+        self.count = 0;
     }
 
     // The bytes of the text.

@@ -18,7 +18,7 @@ loop-byte-preserved c =
     elim c.if-byte-eq10.branch [
       | then-byte-eq10 w ↦
           rw (w.line-is, w.text-is)
-          (newline_taken _ _ _ _ c.loop-byte.line _ _ c.loop-byte-test.true c.loop-byte.invariant _ w.if-byte-eq10.true (rw w.as_bytes.ensures at w.put_factor_line.ensures))
+          (newline_taken _ _ _ _ c.loop-byte.line _ _ c.loop-byte-test.true c.loop-byte.invariant _ _ w.if-byte-eq10.true (rw w.as_bytes.ensures at w.put_factor_line.ensures) w.clear.ensures.same_buffer w.clear.ensures.same_bytes w.clear.ensures.empty)
       | else-byte-eq10 w ↦
           rw (w.line-is, w.text-is) (byte_taken _ _ _ _ _ _ _ c.loop-byte-test.true c.loop-byte.invariant _ w.if-byte-eq10.false w.byte.ensures)
     ]
