@@ -99,7 +99,7 @@ pub fn kept_programmes(s: &[u8]) -> u16
     kept_from(
         s,
         0,
-        Some(&sets),
+        Some(sets),
         &mut leaders[..m],
         &mut second[..m],
         &mut included[..m],

@@ -1,7 +1,7 @@
 // The groups of a programme by the leaders of its objects: what this takes goes with the programme's lists, not with the sheet's objects.
 // A table has for each leader what was seen of its group: up to a number `seen` nothing in this programme, one more for one object of
 // it, two more where the group was asked for. An enum for these would need the table cleared before each programme. That the offsets and
-// the table of leaders are right (`Begins`, `Leaders`) is a premise: a public function asks nothing of its callers.
+// the table of leaders are right (`Begins`, `Leaders`) is a premise, for the reason that lib.rt of inclusion tells.
 ghost use Rattle.std.specs.Prelude.{◌<◌, IsSome, length, ◌≡◌};
 ghost use Rattle.grouping.specs.steps.Leaders.{AllAsked, AskedFor};
 ghost use Rattle.inclusion.specs.steps.Entering.{Begins};

@@ -1,11 +1,10 @@
 // The programmes one after the other, by the rows of the groups or by the leaders of their objects. That the table of owners is right, and
-// what the pass rests on (`Owners`, `GroupsGround`, and what `KeptFrom` names), are premises: a public function asks nothing of its
-// callers.
+// what the pass rests on (`Owners`, `GroupsGround`, and what `KeptFrom` names), are premises, for the reason that lib.rt of inclusion
+// tells.
 ghost use Rattle.std.specs.Prelude.{◌-◌, ◌<◌, is_some, length, true, ◌≡◌};
 ghost use Rattle.grouping.specs.steps.Groups.{GroupsGround, ProgrammesKept};
 ghost use Rattle.inclusion.specs.steps.Entering.{Begins};
 ghost use Rattle.grouping.specs.steps.Passing.{KeptFrom, same_list, same_lists};
-ghost use Rattle.std.specs.Option.{option_copied};
 ghost use Rattle.sheet.specs.Words.{sheet_of};
 ghost use Rattle.tables.specs.steps.Right.{Owners};
 
@@ -32,15 +31,15 @@ fn same_list(s: &[u8], p: u16, q: u16, at: u8) -> bool
 }
 
 // Whether they have the same contents and, where there are tables of sets, the same sets.
-fn same_lists(s: &[u8], sets: Option<&SetTables>, p: u16, q: u16) -> bool
-    ensures { result ≡ same_lists (sheet_of s.now) (is_some (option_copied sets.entry)) p q }
+fn same_lists(s: &[u8], sets: Option<SetTables>, p: u16, q: u16) -> bool
+    ensures { result ≡ same_lists (sheet_of s.now) (is_some sets.entry) p q }
 {
     same_list(s, p, q, CONTENT_LIST) && (sets.is_none() || same_list(s, p, q, SET_LIST))
 }
 
 // Whether programme p comes after the first that is tested and has the lists of the one before it: it keeps what that one keeps.
-fn repeats_before(s: &[u8], sets: Option<&SetTables>, from: u16, p: u16) -> bool
-    ensures { result ≡ true → (from < p) × (same_lists (sheet_of s.now) (is_some (option_copied sets.entry)) p (p - 1) ≡ true) }
+fn repeats_before(s: &[u8], sets: Option<SetTables>, from: u16, p: u16) -> bool
+    ensures { result ≡ true → (from < p) × (same_lists (sheet_of s.now) (is_some sets.entry) p (p - 1) ≡ true) }
 {
     (from < p) && same_lists(s, sets, p, p - 1)
 }
@@ -64,12 +63,12 @@ fn section_offsets(s: &[u8]) -> SectionOffsets
 fn rows_from(
     s: &[u8],
     from: u16,
-    sets: Option<&SetTables>,
+    sets: Option<SetTables>,
     leading: &mut [u16],
     partners: &mut [u16],
     included: &mut [u16],
 ) -> u16
-    ensures { KeptFrom (sheet_of s.now) from (option_copied sets.entry) leading.old partners.old included.old leading.new partners.new included.new result }
+    ensures { KeptFrom (sheet_of s.now) from sets.entry leading.old partners.old included.old leading.new partners.new included.new result }
 {
     let sections = section_offsets(s);
     let mut rows = Rows {
@@ -100,12 +99,12 @@ fn rows_from(
 fn leaders_from(
     s: &[u8],
     from: u16,
-    sets: Option<&SetTables>,
+    sets: Option<SetTables>,
     leaders: &mut [u16],
     groups: &mut [u16],
     included: &mut [u16],
 ) -> u16
-    ensures { KeptFrom (sheet_of s.now) from (option_copied sets.entry) leaders.old groups.old included.old leaders.new groups.new included.new result }
+    ensures { KeptFrom (sheet_of s.now) from sets.entry leaders.old groups.old included.old leaders.new groups.new included.new result }
 {
     let sections = section_offsets(s);
     clear(leaders);
@@ -148,12 +147,12 @@ fn short_lists(s: &[u8]) -> bool {
 pub fn kept_from(
     s: &[u8],
     from: u16,
-    sets: Option<&SetTables>,
+    sets: Option<SetTables>,
     first: &mut [u16],
     second: &mut [u16],
     included: &mut [u16],
 ) -> u16
-    ensures { KeptFrom (sheet_of s.now) from (option_copied sets.entry) first.old second.old included.old first.new second.new included.new result }
+    ensures { KeptFrom (sheet_of s.now) from sets.entry first.old second.old included.old first.new second.new included.new result }
 {
     if short_lists(s) {
         return leaders_from(s, from, sets, first, second, included);
@@ -172,6 +171,7 @@ pub fn programmes_pass(
 ) -> bool
     ensures { (length included.new ≡ length included.old) × (length first.new ≡ length first.old) × (length second.new ≡ length second.old) × (result ≡ true → Owners (sheet_of s.now) owners.now → GroupsGround (sheet_of s.now) → ProgrammesKept (sheet_of s.now)) }
 {
+    // std's `get_mut(..n)` would say nothing of what the tables end as, not even that they keep their lengths
     let n = usize::from(count(s, OBJECTS));
     if included.len() < n {
         return false;
@@ -182,14 +182,11 @@ pub fn programmes_pass(
     if second.len() < n {
         return false;
     }
-    let sets = SetTables {
-        owners,
-        alike: &owners[..0],
-    };
+    let sets = SetTables { owners, alike: &[] };
     kept_from(
         s,
         0,
-        Some(&sets),
+        Some(sets),
         &mut first[..n],
         &mut second[..n],
         &mut included[..n],

@@ -9,8 +9,9 @@ mod lists;
 pub mod marks;
 pub mod sets;
 
-// Where sections 6, 2 and 7 begin. That they do, `Begins`, is a premise in each contract, and no invariant, which would be asked where the
-// struct is made: a public function asks nothing of its callers.
+// Where sections 6, 2 and 7 begin. That they do, `Begins`, is a premise in each contract: a type with the fact, as an invariant or a ghost
+// field, is narrower than what callers hand in today, which may not be asked of them. The same holds of one offset that is lent, as section
+// 7's to `sets_differ`. The sheet stands beside them, as beside all that is read from it.
 #[derive(Clone, Copy)]
 pub struct SectionOffsets {
     pub references: u16,

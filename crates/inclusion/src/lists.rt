@@ -9,6 +9,6 @@ use sheet::words::word_count;
 pub fn ends_before(s: &[u8], entries: Entries) -> bool
     ensures { result ≡ ltb (word_count (sheet_of s.now)) (entries.base + (entries.list.first + entries.list.count)) }
 {
-    let list = entries.list;
-    word_count(s) < usize::from(entries.base) + (usize::from(list.first) + usize::from(list.count))
+    // std has no From<u32> for usize
+    word_count(s) < usize::from(entries.base) + entries.list.end() as usize
 }

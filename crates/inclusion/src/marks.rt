@@ -9,14 +9,10 @@ use tables::reads::look;
 pub fn change(table: &mut [u16], x: u16, from: u16, to: u16) -> Option<()>
     ensures { (length table.new ≡ length table.old) × (IsSome result → (x < length table.old) × (get_or table.old x 0 ≡ from) × Standing (λ z. cond (eqb x z) to (get_or table.old z 0)) table.new) }
 {
-    let i = usize::from(x);
-    if table.len() <= i {
+    if look(table, x)? != from {
         return None;
     }
-    if table[i] != from {
-        return None;
-    }
-    table[i] = to;
+    table[usize::from(x)] = to;
     Some(())
 }
 

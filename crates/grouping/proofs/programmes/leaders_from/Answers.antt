@@ -1,6 +1,5 @@
 use Rattle.std.proofs.Common.{rules, ℕ, ◌+◌, not, ap, ◌∙◌, arith}
 use Rattle.std.specs.Prelude.{is_some}
-use Rattle.std.specs.Option.{option_copied}
 use Rattle.inclusion.specs.steps.Alike.{owners_of, alike_of}
 use Rattle.sheet.specs.Words.{sheet_of}
 use Rattle.tables.specs.declared.Naming.TheVariants.{Complements}
@@ -13,11 +12,11 @@ use Rattle.grouping.proofs.programmes.leaders_from.Goals as goal
 pub loop-p-preserved-then-repeats_before : goal.loop-p-preserved-then-repeats_before
 loop-p-preserved-then-repeats_before c = λ pass apart full full₂ before.
     let s = sheet_of c.args.s.now in let here = c.loop-p in let so = here.invariant pass apart full full₂ before in
-    (ready_later s here.p here.included here.groups so.0, repeated_kept s (is_some (option_copied c.args.sets)) c.args.from here.p (c.repeats_before.ensures c.if-repeats_before.true) so.1)
+    (ready_later s here.p here.included here.groups so.0, repeated_kept s (is_some c.args.sets) c.args.from here.p (c.repeats_before.ensures c.if-repeats_before.true) so.1)
 
 pub loop-p-preserved : goal.loop-p-preserved
 loop-p-preserved c = λ pass apart full full₂ before.
-    let a = c.args in let s = sheet_of a.s.now in let both = (is_some (option_copied a.sets)) in let owners = (owners_of (option_copied a.sets)) in let alike = (alike_of (option_copied a.sets)) in
+    let a = c.args in let s = sheet_of a.s.now in let both = is_some a.sets in let owners = owners_of a.sets in let alike = alike_of a.sets in
     let here = c.loop-p in let named = c.first_namers in let enter = c.enter in let asked = c.groups_asked in let at = c.section_offsets-sections.ensures in
     let led : Leaders s named.new.table = λ x l. named.ensures.1 x l ∙ ap (first_by s Complements x) (c.clear.ensures.1 x (rw named.ensures.0 at l)) in
     let cleared = c.mark_objects.ensures (λ (k : ℕ). 0) (λ i r b q. search rules) in

@@ -1,7 +1,6 @@
 -- The programmes passed are kept. Assumes nothing.
 use Rattle.std.proofs.Common.{length, ◌≡◌}
 use Rattle.std.specs.Prelude.{is_some}
-use Rattle.std.specs.Option.{option_copied}
 use Rattle.inclusion.specs.steps.Alike.{owners_of, alike_of}
 use Rattle.sheet.specs.Words.{sheet_of}
 use Rattle.sheet.specs.Layout.{count}
@@ -12,7 +11,7 @@ use Rattle.grouping.proofs.programmes.rows_from.Given as goal
 
 abbrev pub invariant-loop-p : goal.invariant-loop-p
 invariant-loop-p l =
-    Passing (sheet_of l.s) (is_some (option_copied l.sets)) (owners_of (option_copied l.sets)) (alike_of (option_copied l.sets))
+    Passing (sheet_of l.s) (is_some l.sets) (owners_of l.sets) (alike_of l.sets)
     → length l.initial.included ≡ count (sheet_of l.s) objects
-    → KeptTo (sheet_of l.s) (is_some (option_copied l.sets)) l.from
-    → KeptTo (sheet_of l.s) (is_some (option_copied l.sets)) l.p
+    → KeptTo (sheet_of l.s) (is_some l.sets) l.from
+    → KeptTo (sheet_of l.s) (is_some l.sets) l.p

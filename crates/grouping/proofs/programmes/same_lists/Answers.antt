@@ -1,21 +1,15 @@
 -- By both. Assumes nothing.
-use Rattle.std.proofs.Common.{◌≡◌, Option, Some, None, Bor, refl, sym, ◌∙◌}
-use Rattle.std.specs.Prelude.{is_some}
-use Rattle.std.specs.Option.{option_copied}
+use Rattle.std.proofs.Common.{refl, sym, ◌∙◌}
 use Rattle.grouping.specs.steps.Passing.{same_lists}
 use Rattle.grouping.proofs.programmes.same_lists.Goals as goal
 
-copied_some : {T : Type 0} (o : Option (Bor T)) → is_some (option_copied o) ≡ is_some o
-copied_some None = refl
-copied_some (Some x) = refl
-
 pub returns-then-is_none : goal.returns-then-is_none
 unfolding same_lists
-returns-then-is_none c = rw (sym c.same_list.ensures ∙ c.if-same_list.true, copied_some c.args.sets, c.if-is_none.ensures) c.if-is_none.true
+returns-then-is_none c = rw (sym c.same_list.ensures ∙ c.if-same_list.true, c.if-is_none.ensures) c.if-is_none.true
 
 pub returns-else-is_none : goal.returns-else-is_none
 unfolding same_lists
-returns-else-is_none c = rw (c.same_list-else-is_none.ensures, sym c.same_list.ensures ∙ c.if-same_list.true, copied_some c.args.sets, c.if-is_none.ensures) refl
+returns-else-is_none c = rw (c.same_list-else-is_none.ensures, sym c.same_list.ensures ∙ c.if-same_list.true, c.if-is_none.ensures) refl
 
 pub returns-else-same_list : goal.returns-else-same_list
 unfolding same_lists
