@@ -21,6 +21,7 @@ use Rattle.checker.proofs.GroupLaws.{groups_apart}
 use Rattle.tables.specs.declared.Naming.{Naming}
 use Rattle.tables.specs.steps.Marks.{Standing, first_by}
 use Rattle.checker.specs.steps.Rows.{rule_place}
+use Rattle.checker.proofs.SubjectLaws.{numbered, numbers}
 
 -- what is lent only where a test holds was not lent
 pub none_lent : {A : Type 0} (b : Bool) (x : A) → cond b (Some x) None ≡ None → b ≡ false
@@ -70,9 +71,10 @@ module _ (s : Sheet) (langs : List ℕ) where
         rw (l, lt-ltb i rule_count inside, b.1) refl
 
     -- when rule 21 comes, rule 19 is kept
-    pub apart_before : number_at i ≡ 21 → GroupsApart s
+    pub apart_before : get_or numbers i 0 ≡ 21 → GroupsApart s
     unfolding position lowest lowest_from number_at rule_at rule_count rules
-    apart_before e =
+    apart_before h =
+        let e : number_at i ≡ 21 = sym (numbered i inside) ∙ h in
         let p : i ≡ position 21 = sym (position_number i inside) ∙ ap position e in
         groups_apart s langs (before (position 19) (omega (arith, p)))
 

@@ -7,7 +7,7 @@ use borrow.Author.Tests.{eqb-true, ltb-true, ne_eqb}
 use Rattle.sheet.specs.Words.{Sheet}
 use Rattle.sheet.specs.Layout.{count}
 use Rattle.profile.specs.Counting.{every}
-use Rattle.profile.specs.Verdict.{section_count, rules, rule_count, rule_at, number_at, position, breaks, subject_kind, subjects}
+use Rattle.profile.specs.Verdict.{section_count, rules, rule_count, rule_at, number_at, position, subject_kind, subjects}
 use Rattle.profile.proofs.CountingLaws.{lowest_none}
 use Rattle.profile.proofs.ListLaws.{every_at}
 use Rattle.checker.specs.declared.SubjectKind.{SubjectKind}
@@ -35,13 +35,6 @@ other_numbers n (suc k) none i l =
     (λ e. ne_eqb (number_at i) n (λ h. none.1 (sym h ∙ ap number_at e)))
     (λ m. other_numbers n k none.0 i m)
     (eq-or-lt_of_le (le_of_suc-le-suc l))
-
--- a number that is no rule's is broken nowhere
-pub no_rule : (s : Sheet) (langs : List ℕ) (n section k : ℕ) → NoneOf n rule_count → false ≡ breaks s langs n section k
-unfolding breaks
-no_rule s langs n section k none =
-    let e : position n ≡ rule_count = unfold position in lowest_none (λ i. eqb (number_at i) n) rule_count (other_numbers n rule_count none) in
-    ap (λ (i : ℕ). (rule_at i).test s langs section k) (sym e)
 
 -- the numbers are those of the list of rules: one test over the whole list
 numbers_right : every (λ i. eqb (get_or numbers i 0) (number_at i)) rule_count ≡ true
@@ -86,6 +79,6 @@ by_kind s section Nothing = refl
 by_kind s section Itself = refl
 by_kind s section Records = refl
 
-pub all_subjects : (s : Sheet) (rule section : ℕ) (kind : SubjectKind) (n : ℕ) → kind_number kind ≡ subject_kind rule section → n ≡ subjects_of s section kind → n ≡ subjects s rule section
+pub all_subjects : (s : Sheet) (rule : ℕ) (kinds : List SubjectKind) → KindsOf rule kinds → (section : ℕ) → section < section_count → (n : ℕ) → n ≡ subjects_of s section (get_or kinds section Nothing) → n ≡ subjects s rule section
 unfolding subjects
-all_subjects s rule section kind n e f = f ∙ by_kind s section kind ∙ ap (λ (k : ℕ). get_or (0 ∷ 1 ∷ count s section ∷ []) k 0) e
+all_subjects s rule kinds e section l n f = f ∙ by_kind s section (get_or kinds section Nothing) ∙ ap (λ (k : ℕ). get_or (0 ∷ 1 ∷ count s section ∷ []) k 0) (e section l)

@@ -6,7 +6,8 @@ pub mod lent;
 pub mod search;
 pub mod subjects;
 
-// What of a section a rule can have as its place.
+// What of a section a rule can have as its place. That it can have nothing of it is a variant and no `Option` of the other two: the list of
+// rules numbers the three, and so does the definition that contracts cite (`kind_number`).
 #[derive(Clone, Copy)]
 pub enum SubjectKind {
     Nothing,
@@ -34,7 +35,8 @@ pub struct LentTables<'a> {
 }
 
 // A table that a rule is lent, to find by one look what it would search for. The contracts of what fills it and of what reads it say by the
-// variant what stands in it (`Right`). A closure that fills a table has no such name, and the rules read it without one.
+// variant what stands in it (`Right`). A closure that fills a table has no such name, and the rules read it without one. No table is a
+// variant too, and no `Option`, as in the definitions that contracts cite (`first_table`, `second_table`, `Right`).
 #[derive(Clone, Copy)]
 pub enum Table {
     // none

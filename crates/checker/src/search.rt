@@ -23,10 +23,11 @@ use sheet::layout::count;
 use std::ops::Range;
 use tables::entry_counts::{entries_left, list_entries};
 
-// The lowest record of a section before the last of some that breaks the rule asked, or their end, by the tables that the rule is lent,
-// where those before the first of them keep it. That they do is a `requires` of the three functions that take (s, langs, asked, records):
-// a struct of these with that as its ghost field would hold the two borrows, need a maker with the same `requires`, and be taken apart
-// again at each call of `breaks`, whose rules take the sheet by itself. So it is with `kept` below.
+// The lowest record of a section before the last of some that breaks the rule asked, by the tables that the rule is lent, where those
+// before the first of them keep it. Where none does, the answer is their end, as it is by the definition (`lowest`). That those before keep
+// the rule is a `requires` of the three functions that take records: this one, `tabled_below` and `by_tables`. A struct of (s, langs,
+// asked, records) with that as its ghost field would hold the two borrows, need a maker with the same `requires`, and be taken apart again
+// at each call of `breaks`, whose rules take the sheet by itself.
 #[inline(never)]
 fn broken_below(
     s: &[u8],
@@ -116,8 +117,10 @@ fn by_lists(s: &[u8], langs: &Languages, asked: Asked, n: u16) -> u16
 }
 
 // The lowest of n records of a section that breaks a rule, or n. A small sheet is searched without tables. The programmes before `kept`
-// keep rules 21 and 22, and rule 21 comes where rule 19 is kept. One arm for the rules, by document 01's numbers, that are lent the same
-// kinds of tables: an enum of these ways would only move the numbers into the function that picks one.
+// keep rules 21 and 22, and rule 21 comes where rule 19 is kept. These are premises of two functions and no facts of a type: of a sheet and
+// `kept` together, which no struct holds, and `kept_programmes`, which asks nothing of its caller, shows the first only by the second, so
+// it could make no such value. One arm for the rules, by document 01's numbers, that are lent the same kinds of tables: an enum of these
+// ways would only move the numbers into the function that picks one.
 #[tactic(auto, using(crate::proofs::GroupLaws::unbroken_21, crate::proofs::GroupLaws::unbroken_22))]
 fn lowest_broken(s: &[u8], langs: &Languages, asked: Asked, n: u16, kept: u16) -> u16
     requires { KeptBelow (sheet_of s.now) kept × (asked.rule ≡ 21 → GroupsApart (sheet_of s.now)) }
