@@ -1,5 +1,5 @@
-// The proved checker run on stored sheets. Each pair of arguments names two files of data/, a list of languages and a sheet, and gets a line:
-// the sheet's name and the verdict. The expected lines, in the file stdout, are those of the second checker in bindings/rust
+// The proved checker run on stored sheets. Each pair of arguments names two files of data/, a list of languages and a sheet, and gets a
+// line: the sheet's name and the verdict. The expected lines, in the file stdout, are those of the second checker in bindings/rust
 // (tools/store-sheets).
 #![tactic(auto)]
 

@@ -18,10 +18,10 @@ use text::writing::Text;
 // More room than any answer takes: a state's has a line for each of its 84 objects.
 pub const ANSWER_ROOM: usize = 8192;
 
-// The listener's state after a command, and the length of the answer. The answer stands in an array that the caller lends: no heap. No slice of
-// it in place of the length: the contracts speak of the whole array, and so say what stands behind the answer too. No one function writes and
-// makes an `Answered` for `opened`, `obey` and listentest's steps: it would take the writing as a closure, and its `TextFilled` would have to
-// be told what the closure appends, and that there is room for it.
+// The listener's state after a command, and the length of the answer. The answer stands in an array that the caller lends: no heap. No
+// slice of it in place of the length: the contracts speak of the whole array, and so say what stands behind the answer too. No one function
+// writes and makes an `Answered` for `opened`, `obey` and listentest's steps: it would take the writing as a closure, and its `TextFilled`
+// would have to be told what the closure appends, and that there is room for it.
 #[derive(Clone, Copy)]
 pub struct Answered {
     pub state: State,
@@ -92,8 +92,8 @@ pub fn obey(
     }
 }
 
-// Adds what was read to the line, and answers the line if it is whole. `whole` is a flag, since the definition `answered_part` takes one, and
-// `cut_anywhere`, that it doesn't matter how a line is cut into reads, holds for both of its values.
+// Adds what was read to the line, and answers the line if it is whole. `whole` is a flag, since the definition `answered_part` takes one,
+// and `cut_anywhere`, that it doesn't matter how a line is cut into reads, holds for both of its values.
 #[tactic(auto, unfolding(crate::specs::Bench::answered_part, crate::specs::Bench::answered_line))]
 pub fn answer_part(
     lent: Lent,

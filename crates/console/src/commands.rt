@@ -37,8 +37,9 @@ pub fn command_of(line: &[u8]) -> Option<Command>
     }
 }
 
-// A name is told by `same`, as in the definitions. `match name { b"list" => .., b"state" => .., _ => .. }` was tried: it asks for a proof for
-// each byte of the names, 13 here, which the check doesn't find.
+// A name is told by `same`, as in the definitions. `match name { b"list" => .., b"state" => .., _ => .. }` was tried in `alone`: it has 13
+// goals. With `same` unfolded and a lemma that a text of another length is another text, the check finds 11; the last two, of a name of the
+// right length that differs in one byte, stay open, and an answer to them could only cite facts that have no name in the source.
 
 // `list` and `state`.
 #[tactic(auto, unfolding(crate::specs::Commands::alone))]

@@ -5,8 +5,8 @@ pub mod answers;
 pub mod bench;
 pub mod commands;
 
-// What every call is lent: the bytes of a sheet, and those of a list of languages. The state stands beside it, and not in it: a command hands
-// on the next state and no loan, and each equation names sheet, list and state apart.
+// What every call is lent: the bytes of a sheet, and those of a list of languages. The state stands beside it, and not in it: a command
+// hands on the next state and no loan, and each equation names sheet, list and state apart.
 #[derive(Clone, Copy)]
 pub struct Lent<'a> {
     pub sheet: &'a [u8],

@@ -66,8 +66,8 @@ pub fn figures(sheet: &[u8], langs: &[u8]) -> Figures
     figures_by(sheet, check(sheet, langs))
 }
 
-// Writes the line of a sheet's verdict under a list of languages and a line for each figure into a lent buffer, and gives their length. No slice
-// of the buffer in its place: the contract speaks of the whole buffer, and so says what stands behind the lines too.
+// Writes the line of a sheet's verdict under a list of languages and a line for each figure into a lent buffer, and gives their length. No
+// slice of the buffer in its place: the contract speaks of the whole buffer, and so says what stands behind the lines too.
 pub fn figures_text(sheet: &[u8], langs: &[u8], lines: &mut [u8; FIGURES_ROOM]) -> usize
     ensures { TextFilled lines.old (figures_text (sheet_of sheet.now) (words langs.now)) result lines.new }
 {

@@ -1,6 +1,6 @@
-// The figures of stored sheets by the proved code. Each pair of arguments names two files of data/, a list of languages and a sheet, and gets a
-// line with the sheet's name, then the lines that `sheetfigures` prints. The expected lines, in the file stdout, are those of the second
-// implementation in bindings/rust (tools/store-figures).
+// The figures of stored sheets by the proved code. Each pair of arguments names two files of data/, a list of languages and a sheet, and
+// gets a line with the sheet's name, then the lines that `sheetfigures` prints. The expected lines, in the file stdout, are those of the
+// second implementation in bindings/rust (tools/store-figures).
 #![tactic(auto)]
 
 use figurelines::write_figures;

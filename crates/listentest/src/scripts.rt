@@ -85,8 +85,8 @@ fn take(lent: Lent, state: State, step: Step, answer: &mut [u8; ANSWER_ROOM]) ->
     }
 }
 
-// Opens the sheet, then answers each line of the script; what follows its last newline is a line too, unless it is empty. A step is answered
-// under the last list that the script lent, or else under the one that the opening was lent.
+// Opens the sheet, then answers each line of the script; what follows its last newline is a line too, unless it is empty. A step is
+// answered under the last list that the script lent, or else under the one that the opening was lent.
 pub fn answer_script<R: Print + Eprint>(rt: &R, lent: Lent, script: &[u8]) {
     let mut answer = [0u8; ANSWER_ROOM];
     let mut answered = opened(lent, &mut answer);

@@ -59,8 +59,8 @@ fn is_blank(b: u8) -> bool
     (b == b' ') | (b == b'\t')
 }
 
-// `field` and `field_count` begin with one chain. A function for it would need a name for its type, which has those of two closures, and there
-// is no `impl Trait` as a result.
+// `field` and `field_count` begin with one chain. A function for it would need a name for its type, which has those of two closures, and
+// there is no `impl Trait` as a result.
 
 // A field by its number, from 0; empty where the line has fewer.
 pub fn field(line: &[u8], k: u8) -> &[u8]

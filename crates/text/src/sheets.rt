@@ -31,8 +31,8 @@ pub fn tell_input<R: Input + Env + Files + Print + Eprint, F: Fn(&[u8], &[u8])>(
     }
 }
 
-// Reads the list and the sheet whose files two arguments name, and tells of both. `list_at` and `sheet_at` are the numbers of the arguments.
-// Where a file can't be read, nothing is told: standard error says why.
+// Reads the list and the sheet whose files two arguments name, and tells of both. `list_at` and `sheet_at` are the numbers of the
+// arguments. Where a file can't be read, nothing is told: standard error says why.
 pub fn tell_files<R: Env + Files + Eprint, F: Fn(&[u8], &[u8])>(
     rt: &R,
     list_at: usize,

@@ -35,8 +35,8 @@ pub fn put_verdict(text: &mut Text, verdict: Verdict)
     }
 }
 
-// Writes the line of a sheet's verdict under a list of languages into a lent buffer, and gives its length. No slice of the buffer in its place:
-// the contract speaks of the whole buffer, and so says what stands behind the line too.
+// Writes the line of a sheet's verdict under a list of languages into a lent buffer, and gives its length. No slice of the buffer in its
+// place: the contract speaks of the whole buffer, and so says what stands behind the line too.
 pub fn verdict_line(sheet: &[u8], langs: &[u8], line: &mut [u8; VERDICT_ROOM]) -> usize
     ensures { TextFilled line.old (verdict_line (checked sheet.now langs.now)) result line.new }
 {
@@ -45,8 +45,8 @@ pub fn verdict_line(sheet: &[u8], langs: &[u8], line: &mut [u8; VERDICT_ROOM]) -
     text.count
 }
 
-// Prints the line of a sheet's verdict under a list of languages. `write_figures` (crates/figurelines/src/lib.rt) has the same steps over another
-// room: one function for both would take the room and a closure that fills it, and require that its count is at most the room.
+// Prints the line of a sheet's verdict under a list of languages. `write_figures` (crates/figurelines/src/lib.rt) has the same steps over
+// another room: one function for both would take the room and a closure that fills it, and require that its count is at most the room.
 pub fn write_verdict<R: Print + Eprint>(rt: &R, sheet: &[u8], langs: &[u8]) {
     let mut line = [0u8; VERDICT_ROOM];
     let length = verdict_line(sheet, langs, &mut line);
