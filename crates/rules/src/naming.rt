@@ -1,4 +1,6 @@
-// Rules 11 and 12: what names what, and how often. That a table is right is a premise, as lib.rt tells.
+// Rules 11 and 12: what names what, and how often. That a table is right is a premise, as lib.rt tells. Each function that reads a table is a
+// `match` on what `look` tells, with a test of its own and a search of its own: one function for all of them, with those of groups.rt and of
+// tables, would take the two as closures, and its calls would be no shorter.
 ghost use Rattle.std.specs.Prelude.{eqb, ◌≡◌};
 ghost use Rattle.profile.specs.Counting.{any, how_many};
 ghost use Rattle.profile.specs.Relations.{has_set, lists, namings};

@@ -25,7 +25,8 @@ pub fn rule17(s: &[u8], owners: &[u16], section: u8, k: u16) -> bool
     }
 }
 
-// An object's own value leaves its range.
+// An object's own value leaves its range. This function and the next read the words of an object and of a set by their records;
+// `own_leaves` and `value_leaves` of screen have the words, and the definitions here and there are of the one and of the other.
 #[tactic(auto, unfolding(profile::specs::Rules::object_leaves))]
 fn object_leaves(s: &[u8], o: u16, sort: Sort) -> bool
     ensures { result ≡ object_leaves (sheet_of s.now) o sort }

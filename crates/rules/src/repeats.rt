@@ -22,20 +22,16 @@ use runs::reads::look_up;
 use sheet::fields::{OBJECTS, PROGRAMMES, SET_LIST, TRACK_LIST, TRACK_ORDINAL, TRACKS};
 use sheet::layout::{entry, field, number};
 use sheet::spans::Span;
+use std::mem::replace;
 use tables::GroupTables;
 use tables::reads::owner_by;
 
-// Marks a number as seen, and tells whether it was before. `keep` of runs could serve here: but it has a `requires`, which no public function
-// may have, so that it is no other crate's.
+// Marks a number as seen, and tells whether it was before.
 #[tactic(auto, using(tables::proofs::MarkLaws::set_standing))]
-fn see(seen: &mut [u16], x: u16) -> bool
-    requires { length seen.old ≡ 65536 }
-    ensures { (length seen.new ≡ 65536) × (result ≡ not (eqb (get_or seen.old x 0) 0)) × Standing (λ z. cond (eqb x z) 1 (get_or seen.old z 0)) seen.new }
+fn see(seen: &mut [u16; 65536], x: u16) -> bool
+    ensures { (result ≡ not (eqb (get_or seen.old x 0) 0)) × Standing (λ z. cond (eqb x z) 1 (get_or seen.old z 0)) seen.new }
 {
-    let i = usize::from(x);
-    let before = seen[i] != 0;
-    seen[i] = 1;
-    before
+    replace(&mut seen[usize::from(x)], 1) != 0
 }
 
 // Whether two entries of the list at a position of a record have the same key. It stays apart, so that its table is not in
@@ -57,7 +53,7 @@ pub fn keys_alike<F: Fn(u16) -> u16>(s: &[u8], section: u8, k: u16, at: u8, key:
 // A list of so many entries is compared by pairs, a longer one by a table.
 const SHORT: u16 = 48;
 
-// The same, a short list by its pairs.
+// Whether two entries of the list at a position of a record have the same key: of a short list by its pairs, of a longer one by `keys_alike`.
 fn alike<F: Fn(u16) -> u16>(s: &[u8], section: u8, k: u16, at: u8, key: F) -> bool
     requires { F.IsAlwaysCallable key }
     ensures { (f : ℕ → ℕ) → ComputesBelow 65536 (F.post key) f → result ≡ keys_alike (sheet_of s.now) section k at f }
@@ -108,8 +104,8 @@ pub fn bad_channel(s: &[u8], o: u16) -> bool
     any(channels(s, o), |c| tracks_with(s, o, c) != 1)
 }
 
-// Whether some channel of n is not the ordinal of exactly one of the object's n tracks. A short list is counted channel by channel, as the
-// definition does; `alike` would go over it twice.
+// Whether some channel of n is not the ordinal of exactly one of the object's n tracks. A short list is left to `bad_channel`: by `alike`,
+// which takes lists of any length, that public function would stay without a caller.
 pub fn bad_ordinals(s: &[u8], o: u16) -> bool
     ensures { number (sheet_of s.now) objects o track_list ≡ channels (sheet_of s.now) o → result ≡ bad_channel (sheet_of s.now) o }
 {
@@ -126,9 +122,9 @@ pub fn bad_ordinals(s: &[u8], o: u16) -> bool
 
 // The first place of a group among those passed; where there is none, this one, which is kept.
 #[tactic(auto, unfolding(tables::specs::steps::Right::told), using(crate::proofs::DifferLaws::first_written, crate::proofs::DifferLaws::first_kept))]
-fn first_of(first: &mut [u16], l: u16, j: u16) -> u16
-    requires { (length first.old ≡ 2048) × (l < 2048) × (j < 65535) }
-    ensures { (length first.new ≡ 2048) × (result ≡ told j (get_or first.old l 0)) × Standing (λ z. cond (eqb l z) (suc result) (get_or first.old z 0)) first.new }
+fn first_of(first: &mut [u16; 2048], l: u16, j: u16) -> u16
+    requires { (l < 2048) × (j < 65535) }
+    ensures { (result ≡ told j (get_or first.old l 0)) × Standing (λ z. cond (eqb l z) (suc result) (get_or first.old z 0)) first.new }
 {
     let i = usize::from(l);
     match first[i].checked_sub(1) {

@@ -17,8 +17,8 @@ use sheet::layout::field;
 use values::Sort;
 use values::language::loudness;
 
-// A label outside, by the table where it has the list. A `match`, since a proof knows nothing of what a closure that has the languages
-// returns.
+// A label outside, by the table where it has the list. A `match`: tried with `unwrap_or_else`, and the proof didn't close, since of a closure
+// that holds the languages the library's `ensures` tells that it returned, and not what (its premise of the result is `Unit`).
 fn bad_label_by(s: &[u8], langs: &Languages, next: &[u16], section: u8, k: u16, at: u8) -> bool
     ensures { LanguagesRight (sheet_of s.now) langs.now next.now → result ≡ bad_label (sheet_of s.now) langs.now section k at }
 {
@@ -45,6 +45,8 @@ fn bad_speech(
         | !loudness(field(s, section, k, at.loudness))
 }
 
+// This and the next three functions are the definitions of their names, each one call on the words of an object or of a value set: a function
+// for an object and a set would be handed those words, and be the method that they call.
 #[tactic(auto, unfolding(profile::specs::Rules::bad_object_words))]
 fn bad_object_words(s: &[u8], o: u16, sort: Sort) -> bool
     ensures { result ≡ bad_object_words (sheet_of s.now) o sort }

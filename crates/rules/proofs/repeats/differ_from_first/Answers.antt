@@ -25,14 +25,14 @@ returns-then-sets_differ c =
     let e = named_set s a.p in let g : ℕ → ℕ = λ i. leader_of s (owner s (e i)) in let l = c.loop-j in let set = c.named_set-v.ensures in let lead = c.leader_of_set-l in let place = c.first_of-i in let inside : lead.result < length l.first = omega (arith, l.invariant.0, c.if-l-ge2048.false) in
     let test = sym (c.sets_differ.ensures ∙ ap₂ (sets_differ s) c.named_set.ensures set) in
     let below : l.j < number s programmes a.p set_list = omega (arith, c.loop-j-test.true, c.number-n.ensures) in
-    λ right. sym (any_one (λ m. any (λ i. differ s e g i m) m) _ l.j below (found_next s e g l.first l.j lead.result place.result (l.invariant.1 right).0 (lead.ensures right ∙ ap (λ v. leader_of s (owner s v)) set) inside place.ensures.1 (l.invariant.1 right).1 (test ∙ c.if-sets_differ.true)))
+    λ right. sym (any_one (λ m. any (λ i. differ s e g i m) m) _ l.j below (found_next s e g l.first l.j lead.result place.result (l.invariant.1 right).0 (lead.ensures right ∙ ap (λ v. leader_of s (owner s v)) set) inside place.ensures.0 (l.invariant.1 right).1 (test ∙ c.if-sets_differ.true)))
 
 pub loop-j-preserved : goal.loop-j-preserved
 loop-j-preserved c =
     let a = c.args in let s = sheet_of a.s.now in
     let e = named_set s a.p in let g : ℕ → ℕ = λ i. leader_of s (owner s (e i)) in let l = c.loop-j in let set = c.named_set-v.ensures in let lead = c.leader_of_set-l in let place = c.first_of-i in let inside : lead.result < length l.first = omega (arith, l.invariant.0, c.if-l-ge2048.false) in
     let test = sym (c.sets_differ.ensures ∙ ap₂ (sets_differ s) c.named_set.ensures set) in
-    (place.ensures.0, λ right. firsts_next s e g l.first l.j lead.result place.result (l.invariant.1 right).0 (lead.ensures right ∙ ap (λ v. leader_of s (owner s v)) set) inside place.ensures.1 (l.invariant.1 right).1 (test ∙ c.if-sets_differ.false) place.new.first (place.ensures.0 ∙ sym l.invariant.0) place.ensures.2)
+    (place.array_long, λ right. firsts_next s e g l.first l.j lead.result place.result (l.invariant.1 right).0 (lead.ensures right ∙ ap (λ v. leader_of s (owner s v)) set) inside place.ensures.0 (l.invariant.1 right).1 (test ∙ c.if-sets_differ.false) place.new.first (place.array_long ∙ sym l.invariant.0) place.ensures.1)
 
 pub returns : goal.returns
 unfolding two_of named_set entry

@@ -24,17 +24,17 @@ returns-then-see g c =
     λ f h.
     let e : ℕ → ℕ = λ i. f (entry s a.section a.k a.at i) in
     let same : c.key.result ≡ e l.j = h c.entry.result c.key.result c.entry.type_inv c.key.ensures ∙ ap f c.entry.ensures in
-    sym (any_one (λ m. any (λ i. eqb (e i) (e m)) m) _ l.j below (seen_next e l.seen l.j c.key.result (l.invariant.1 f h).0 same (omega (arith, l.invariant.0)) see.result see.ensures.1 ∙ c.if-see.true))
+    sym (any_one (λ m. any (λ i. eqb (e i) (e m)) m) _ l.j below (seen_next e l.seen l.j c.key.result (l.invariant.1 f h).0 same (omega (arith, l.invariant.0)) see.result see.ensures.0 ∙ c.if-see.true))
 
 pub loop-j-preserved : goal.loop-j-preserved
 loop-j-preserved g c =
     let a = c.args in let s = sheet_of a.s.now in let l = c.loop-j in let see = c.see in (
-      see.ensures.0,
+      see.array_long,
       λ f h.
           let e : ℕ → ℕ = λ i. f (entry s a.section a.k a.at i) in
           let same : c.key.result ≡ e l.j = h c.entry.result c.key.result c.entry.type_inv c.key.ensures ∙ ap f c.entry.ensures in
-          let next = seen_next e l.seen l.j c.key.result (l.invariant.1 f h).0 same (omega (arith, l.invariant.0)) see.result see.ensures.1 in
-          (seen_more e l.seen l.j c.key.result (l.invariant.1 f h).0 same see.new.seen (see.ensures.0 ∙ sym l.invariant.0) see.ensures.2, below_more (λ m. any (λ i. eqb (e i) (e m)) m ≡ false) l.j (l.invariant.1 f h).1 (next ∙ c.if-see.false)),
+          let next = seen_next e l.seen l.j c.key.result (l.invariant.1 f h).0 same (omega (arith, l.invariant.0)) see.result see.ensures.0 in
+          (seen_more e l.seen l.j c.key.result (l.invariant.1 f h).0 same see.new.seen (see.array_long ∙ sym l.invariant.0) see.ensures.1, below_more (λ m. any (λ i. eqb (e i) (e m)) m ≡ false) l.j (l.invariant.1 f h).1 (next ∙ c.if-see.false)),
     )
 
 pub returns : goal.returns
