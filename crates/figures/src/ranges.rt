@@ -1,5 +1,5 @@
 // Rule 18: "the value, then the bound". An object, its value set and a sort are three parameters, as in the definitions that the contracts
-// cite: words are looked up by the object alone and by the set alone, so a struct of the three would be taken apart wherever a word is read.
+// cite: words are read by the object alone and by the set alone, so a struct of the three would be taken apart wherever one is read.
 ghost use Rattle.std.specs.Prelude.{◌≡◌};
 ghost use Rattle.figures.specs.Clashes.{in_object, in_set, word_at};
 ghost use Rattle.figures.specs.Ranges.{bound_place, effective_clash, effective_place, object_clash, object_clashes, own_clash, range_clash, range_clashes, range_place, set_clashes};
