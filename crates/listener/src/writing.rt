@@ -38,7 +38,8 @@ fn state_number(s: &[u8], state: &State) -> u64
 }
 
 // Writes an object's own tracks from a place on, and gives the place behind them.
-// The place stands beside the words: with a part `&mut buffer[n..]` in its stead n would be added up all the same.
+// The place stands beside the words: with a part `&mut buffer[n..]` in its stead n would be added up all the same, and a struct of words and
+// place, as `Text` is, would need the same bound in the contract of each method: a `Text` drops what has no room, and here all must fit.
 fn write_own(s: &[u8], o: u16, buffer: &mut [u16], at: usize) -> usize
     requires { at + length (own_tracks (sheet_of s.now) o) ≤ length buffer.old }
     ensures { (result ≡ at + length (own_tracks (sheet_of s.now) o)) × (buffer.new ≡ sets buffer.old at (own_tracks (sheet_of s.now) o)) }
