@@ -1,5 +1,5 @@
 -- Definitions that only follow the code's steps. No call of the product cites one: who believes the definitions outside this folder need
 -- not read these. Assumes nothing.
 pub mod NamedSet
-pub mod Flags
+pub mod Activity
 pub mod Tables

@@ -1,22 +1,24 @@
-// Activity of objects by flags, 1 for each active one.
-ghost use Rattle.std.specs.Prelude.{◌≡◌};
-ghost use Rattle.granted.specs.steps.Flags.{flagged_activity};
+// Whether the activity of objects fits a programme.
+ghost use Rattle.std.specs.Prelude.{ℕ, Bool, ◌≡◌};
+ghost use Rattle.granted.specs.steps.Activity.{activity_by};
 ghost use Rattle.granted.specs.steps.Tables.{ProgrammeTabled};
+ghost use Rattle.profile.specs.Counting.{ComputesBelow};
 ghost use Rattle.sheet.specs.Words.{sheet_of};
 
 use crate::ProgrammeTables;
-use tables::members::{flagged, members_passing};
+use tables::members::members_passing;
 use tables::reads::leader_by;
 
 impl<'a> ProgrammeTables<'a> {
-    // "activity is as started, except that any one member of a wholly included group may be the active one"
-    pub fn sound_activity(&self, s: &[u8], p: u16, active: &[u16], o: u16) -> bool
-        ensures { ProgrammeTabled (sheet_of s.now) p self.now → result ≡ flagged_activity (sheet_of s.now) p active.now o }
+    // "activity is as started, except that any one member of a wholly included group may be the active one". The caller tells which are.
+    pub fn sound_activity<F: Fn(u16) -> bool>(&self, s: &[u8], p: u16, active: F, o: u16) -> bool
+        requires { F.IsAlwaysCallable active }
+        ensures { (a : ℕ → Bool) → ComputesBelow 65536 (F.post active) a → ProgrammeTabled (sheet_of s.now) p self.now → result ≡ activity_by (sheet_of s.now) p a o }
     {
         if self.in_whole_group(s, p, o) {
-            members_passing(s, leader_by(s, self.leaders, o), |q| flagged(active, q)) == 1
+            members_passing(s, leader_by(s, self.leaders, o), active) == 1
         } else {
-            flagged(active, o)
+            active(o)
         }
     }
 }

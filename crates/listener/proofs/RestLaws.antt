@@ -1,25 +1,21 @@
 -- A state's settings in two parts: those of objects that the programme may include, and the rest. Assumes nothing.
 use Prim.Native.Nat.{ℕ, zero, suc, ◌+◌, ◌<◌, ◌≤◌, max}
 use mathlib.Core.Path.{◌≡◌, refl, sym, ap, subst, ◌∙◌}
-use mathlib.Core.Bool.{Bool, true, false, not, ◌&&◌, ◌||◌}
+use mathlib.Core.Bool.{Bool, true, false, ◌&&◌, ◌||◌}
 use mathlib.Core.Logic.{⊎_elim}
 use native.Mathlib.Omega.{arith}
 use native.Mathlib.Nat.{le_of_suc-le-suc, eq-or-lt_of_le}
 use native.Mathlib.Numerals.{add-one}
-use borrow.Author.Tests.{lt-ltb, le-ltb, ltb-false, ne_eqb, not-true}
+use borrow.Author.Tests.{lt-ltb, le-ltb, ltb-false, ne_eqb}
 use lib.Dec.{eqb, ltb}
-use lib.IntN.{pos}
 use Rattle.sheet.specs.Words.{Sheet}
 use Rattle.sheet.specs.Layout.{count}
 use Rattle.sheet.specs.Fields.{programmes}
 use Rattle.profile.specs.Counting.{any, every}
 use Rattle.profile.specs.Relations.{includes}
-use Rattle.profile.proofs.BoolLaws.{and_both}
-use Rattle.profile.proofs.ListLaws.{every_at, every_all}
-use Rattle.values.specs.declared.Gain.TheVariants.{Tenths}
-use Rattle.granted.specs.Fitting.{same_gain, same_offset}
+use Rattle.profile.proofs.ListLaws.{every_all}
 use Rattle.listener.specs.declared.State.{State}
-use Rattle.listener.specs.State.{state_objects, resting, setting, active, is_resting}
+use Rattle.listener.specs.State.{state_objects, resting, setting, is_resting}
 use Rattle.listener.specs.Programme.{start_setting}
 use Rattle.listener.specs.Sound.{sound_at, sound}
 use Rattle.listener.specs.steps.Settings.{resting_from}
@@ -87,15 +83,6 @@ module _ (s : Sheet) (st : State) (n : ℕ) where
       → sound s st ≡ (resting_from st n && every (sound_at s st) n)
   unfolding sound
   sound_parts l h m = rw (lt-ltb st.programme (count s programmes) m) (rest_sound l h)
-
--- settings at rest are inactive
-pub rest_inactive : (st : State) (n k : ℕ) → resting_from st n ≡ true → n ≤ k → k < state_objects → active st k ≡ false
-unfolding resting_from active is_resting
-rest_inactive st n k e l m =
-    let still : is_resting (setting st k) ≡ true = ap (λ (b : Bool). b || is_resting (setting st k)) (sym (le-ltb k n l)) ∙ every_at (λ o. ltb o n || is_resting (setting st o)) state_objects k e m in
-    not-true (setting st k).active
-    (and_both (not (setting st k).active) (same_gain (setting st k).gain (Tenths (pos 0)))
-    (and_both (not (setting st k).active && same_gain (setting st k).gain (Tenths (pos 0))) (same_offset (setting st k).offset (pos 0)) still).0).0
 
 -- what a programme doesn't include starts at rest
 pub rest_start : (s : Sheet) (p k : ℕ) → includes s p k ≡ false → resting ≡ start_setting s p k

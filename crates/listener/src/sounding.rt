@@ -1,8 +1,7 @@
 // Whether a state is sound for a sheet.
 ghost use Rattle.std.specs.Prelude.{ℕ, ◌<◌, ◌≤◌, length, false, ◌≡◌};
-ghost use Rattle.listener.specs.Sound.{sound};
-ghost use Rattle.listener.specs.State.{state_objects};
-ghost use Rattle.listener.specs.steps.Settings.{flagged_sound};
+ghost use Rattle.listener.specs.Sound.{sound, sound_at};
+ghost use Rattle.listener.specs.State.{active, state_objects};
 ghost use Rattle.profile.specs.Relations.{includes};
 ghost use Rattle.sheet.specs.Words.{sheet_of};
 ghost use Rattle.tables.specs.steps.Marks.{Standing};
@@ -10,7 +9,7 @@ ghost use Rattle.granted.specs.steps.Tables.{ProgrammeTabled};
 ghost use Rattle.tables.specs.steps.Right.{Included};
 
 use crate::settings::is_resting;
-use crate::{STATE_END, STATE_OBJECTS, Setting, State};
+use crate::{STATE_END, STATE_OBJECTS, State};
 use granted::ProgrammeTables;
 use granted::fitting::sound_values;
 use sheet::fields::{CONTENT_LIST, CONTENT_OBJECT, CONTENTS, PROGRAMMES};
@@ -37,20 +36,30 @@ pub fn enter_included(s: &[u8], p: u16, marks: &mut [u16]) -> u16
     past
 }
 
-// One object of a sound state, by its setting. That the tables are right is a premise, as in granted, whose functions read them.
-fn sound_at(s: &[u8], p: u16, tables: ProgrammeTables, active: &[u16], o: u16, x: Setting) -> bool
-    ensures { ProgrammeTabled (sheet_of s.now) p tables.entry → result ≡ flagged_sound (sheet_of s.now) p active.now o x }
+// Whether an object is active: none past the last is.
+fn is_active(state: &State, o: u16) -> bool
+    ensures { result ≡ active state.now o }
 {
+    o < STATE_END && state.objects[usize::from(o)].active
+}
+
+// One object of a sound state. That the tables are right is a premise, as in granted, whose functions read them.
+fn sound_at(s: &[u8], state: &State, tables: ProgrammeTables, o: u16) -> bool
+    requires { o < state_objects }
+    ensures { ProgrammeTabled (sheet_of s.now) state.now.programme tables.entry → result ≡ sound_at (sheet_of s.now) state.now o }
+{
+    let p = state.programme;
+    let x = state.objects[usize::from(o)];
     if included_by(s, p, tables.included, o) {
-        tables.sound_activity(s, p, active, o) & sound_values(s, p, o, x.gain, x.offset)
+        tables.sound_activity(s, p, |q| is_active(state, q), o)
+            & sound_values(s, p, o, x.gain, x.offset)
     } else {
         is_resting(x)
     }
 }
 
 // Whether a state is sound for the sheet. What the programme doesn't include is at rest, so it has no part in a group. The state is lent,
-// since a call that takes it by value copies it. Activity stands in a table of words beside the settings: granted, which is below the
-// listener, counts in tables the members of a group that are active, and knows no settings.
+// since a call that takes it by value copies it.
 pub fn sound(s: &[u8], state: &State) -> bool
     ensures { result ≡ sound (sheet_of s.now) state.now }
 {
@@ -66,13 +75,9 @@ pub fn sound(s: &[u8], state: &State) -> bool
         leaders: &leaders,
         included: &marks,
     };
-    let mut active: [u16; STATE_OBJECTS] = [0; STATE_OBJECTS];
-    for o in 0..n {
-        active[usize::from(o)] = u16::from(state.objects[usize::from(o)].active);
-    }
     let mut good = true;
     for o in 0..n {
-        good &= sound_at(s, p, tables, &active, o, state.objects[usize::from(o)]);
+        good &= sound_at(s, state, tables, o);
     }
     for o in n..STATE_END {
         good &= is_resting(state.objects[usize::from(o)]);
