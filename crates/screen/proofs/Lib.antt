@@ -1,6 +1,5 @@
 pub mod NoughtLaws
 mod ObjectLaws
-mod PackLaws
 mod ScreenedLaws
 mod SetLaws
 mod TotalLaws

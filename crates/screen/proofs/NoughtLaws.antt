@@ -1,6 +1,6 @@
 -- What a pass leaves in a table of noughts. Assumes nothing.
 use Prim.Native.Nat.{ℕ, ◌<◌}
-use mathlib.Core.Path.{◌≡◌, sym, ap, ◌∙◌}
+use mathlib.Core.Path.{◌≡◌, refl, sym, ap, ◌∙◌}
 use mathlib.Core.List.{List}
 use lib.ListN.{length, get_or}
 use Rattle.sheet.specs.Words.{Sheet}
@@ -9,9 +9,11 @@ use Rattle.tables.specs.declared.Naming.TheVariants.{ContentObjects, Children, S
 use Rattle.tables.specs.steps.Marks.{Standing, counted_once, repeat, named_by}
 use Rattle.tables.specs.steps.Right.{counted, Named, Listed, Spanned}
 use Rattle.tables.proofs.TableLaws.{namings_added, span_namings, counted_one, listed_counted}
-use mathlib.Core.Bool.{true, false, not}
-use lib.Dec.{eqb}
-use borrow.Author.Tests.{eq-eqb}
+use mathlib.Core.Bool.{true, false, not, true≢false}
+use lib.Dec.{eqb, ltb}
+use borrow.Author.Tests.{eq-eqb, ltb-true, ltb-false}
+use Rattle.std.proofs.lemmas.List.{get_or_past}
+use Rattle.tables.specs.steps.Members.{flagged}
 use Rattle.sheet.specs.Layout.{count}
 use Rattle.sheet.specs.Fields.{programmes, contents, objects, value_sets, content_list}
 use Rattle.profile.specs.Counting.{any, how_many}
@@ -49,8 +51,12 @@ named_once s t o right l e =
     simp one
 
 -- a content that the table has is in a content list
-pub listed_some : (s : Sheet) (t : List ℕ) (c : ℕ) → Listed s t → c < length t → eqb (get_or t c 0) 0 ≡ false → rule12 s contents c ≡ false
-unfolding rule12
-listed_some s t c right l e =
-    let some : any (λ p. lists s programmes p content_list c) (count s programmes) ≡ true = listed_counted s c ∙ ap (λ (n : ℕ). not (eqb n 0)) (sym (right c l)) ∙ ap not e in
-    simp some
+pub listed_some : (s : Sheet) (t : List ℕ) (c : ℕ) → Listed s t → flagged t c ≡ true → rule12 s contents c ≡ false
+unfolding rule12 flagged
+listed_some s t c right e =
+    (elim (ltb c (length t)) as (λ b. ltb c (length t) ≡ b → rule12 s contents c ≡ false) [
+      | true ↦ λ h.
+          let some : any (λ p. lists s programmes p content_list c) (count s programmes) ≡ true = listed_counted s c ∙ ap (λ (n : ℕ). not (eqb n 0)) (sym (right c (ltb-true c (length t) h))) ∙ e in
+          simp some
+      | false ↦ λ h. absurd (true≢false (sym e ∙ ap (λ (n : ℕ). not (eqb n 0)) (get_or_past t c 0 (ltb-false c (length t) h))))
+    ]) refl

@@ -3,7 +3,7 @@ ghost use Rattle.std.specs.Prelude.{◌+◌, ◌<◌, ltb, get_or, length, false
 ghost use Rattle.profile.specs.Limits.{exceeds};
 ghost use Rattle.profile.specs.Relations.{pack_of};
 ghost use Rattle.profile.specs.Rules.{rule15};
-ghost use Rattle.screen.specs.steps.Objects.{children_broken, is_front, is_plain, object_broken, object_lists_broken, object_sort, object_values, offsets_broken, rest_kept, sort_broken, source_kept, tracks_broken, values_broken};
+ghost use Rattle.screen.specs.steps.Objects.{children_broken, is_plain, object_broken, object_lists_broken, object_sort, object_values, offsets_broken, rest_kept, sort_broken, source_kept, tracks_broken, values_broken};
 ghost use Rattle.sheet.specs.Fields.{objects};
 ghost use Rattle.sheet.specs.Layout.{start};
 ghost use Rattle.sheet.specs.Words.{sheet_of};
@@ -15,11 +15,12 @@ use crate::object_words::ObjectWords;
 use crate::sets::{any_set_breaks, own_leaves, values_at};
 use lists::entries::{any_bad_child, any_out_of_order};
 use profile::limits::{CHILDREN_LIMIT, COMPLEMENTS_LIMIT, SPAN_LIMIT, exceeds};
+use relations::objects::has_front_pack;
 use relations::sets::{Positions, Values};
 use rules::objects::rule15;
 use sheet::fields::{
-    CHILD_LIST, COMPLEMENT_LIST, INTERACT, KIND_OBJECTS, NO_PACK, OBJECT_PACK, OBJECTS,
-    PACK_CHANNELS, PACK_FRONT, PACK_KIND, PACKS, REFERENCES, SET_SPAN, TRACK_LIST, VALUE_SETS,
+    CHILD_LIST, COMPLEMENT_LIST, INTERACT, NO_PACK, OBJECT_PACK, OBJECTS, PACK_CHANNELS, PACKS,
+    REFERENCES, SET_SPAN, TRACK_LIST, VALUE_SETS,
 };
 use sheet::layout::{count, field};
 use sheet::spans::Span;
@@ -43,17 +44,6 @@ fn list_breaks(s: &[u8], many: u16, list: Span, column: u8) -> bool
     ensures { result ≡ (ltb many (list.first + list.count) || exceeds (sheet_of s.now) column list.count) }
 {
     list.is_beyond(many) | exceeding(s, column, list.count)
-}
-
-// Whether a pack is one of kind 3 with front 1. `has_front_pack` of relations reads an object's pack anew for each of the three tests; here
-// it is read once.
-#[tactic(auto, unfolding(crate::specs::steps::Objects::is_front))]
-fn is_front(s: &[u8], pack: u16) -> bool
-    ensures { result ≡ is_front (sheet_of s.now) pack }
-{
-    (pack != NO_PACK)
-        & (field(s, PACKS, pack, PACK_KIND) == KIND_OBJECTS)
-        & (field(s, PACKS, pack, PACK_FRONT) == 1)
 }
 
 impl ObjectValues {
@@ -124,13 +114,13 @@ impl<'a> ObjectWords<'a> {
     }
 
     // Its values.
-    #[tactic(auto, unfolding(crate::specs::steps::Objects::object_values, crate::specs::steps::Objects::is_front, profile::specs::Relations::has_front_pack, profile::specs::Relations::has_objects_pack, profile::specs::Relations::has_pack))]
+    #[tactic(auto, unfolding(crate::specs::steps::Objects::object_values))]
     fn values(&self) -> ObjectValues
         ensures { result ≡ object_values (sheet_of self.now.s.now) self.now.o }
     {
         ObjectValues {
             interact: self.word(INTERACT),
-            front: is_front(self.s, self.pack()),
+            front: has_front_pack(self.s, self.o),
             gains: self.values_of(Sort::Gains),
             offsets: self.values_of(Sort::Offsets),
         }

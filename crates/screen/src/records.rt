@@ -1,5 +1,5 @@
 // The records of each section. That a table is right is a premise, as lib.rt tells.
-ghost use Rattle.std.specs.Prelude.{◌<◌, eqb, get_or, length, false, true, ◌||◌, ◌≡◌};
+ghost use Rattle.std.specs.Prelude.{false, true, ◌||◌, ◌≡◌};
 ghost use Rattle.lists.specs.steps.Speech.{content_broken};
 ghost use Rattle.profile.specs.Rules.{bad_pack, rule5, rule10, rule12};
 ghost use Rattle.screen.specs.steps.Screened.{RecordsKept, RecordsTabled, header_broken};
@@ -11,72 +11,51 @@ use crate::RecordTables;
 use crate::objects::object_breaks;
 use languages::list::Languages;
 use lists::speech::{content_breaks, programme_breaks};
-use lists::words::{ends_before, record_at, word_at};
 use profile::counting::all;
-use profile::limits::{CHANNELS_LIMIT, exceeds};
 use relations::objects::lacks;
 use rules::header::{rule1, rule2, rule3};
-use rules::limits::rule7;
+use rules::limits::{rule7, rule10};
+use rules::words::bad_pack;
 use sheet::fields::{
-    CONTENTS, KIND_DIRECT_SPEAKERS, KIND_OBJECTS, OBJECTS, PACK_CHANNELS, PACK_FRONT, PACK_KIND,
-    PACKS, PROGRAMMES, TRACK_PACK, TRACKS,
+    CONTENTS, OBJECTS, PACKS, PROGRAMMES, REFERENCES, TRACK_PACK, TRACKS, VALUE_SETS,
 };
 use sheet::layout::{count, field};
-use tables::reads::look;
+use tables::members::flagged;
 
-// The header and the sections themselves: rules 1, 2, 3 and 7. Written out, since a section that is a constant spares the choices by it.
+// The header and the sections themselves: rules 1, 2, 3 and 7. Written out, as the definition is: by `any` of profile, which counts by u16, it
+// would be two calls, each with a closure that narrows its number to the u8 of a section.
 #[tactic(auto, unfolding(crate::specs::steps::Screened::header_broken))]
 pub fn header_breaks(s: &[u8]) -> bool
     ensures { result ≡ header_broken (sheet_of s.now) }
 {
     rule1(s, 0, 0)
         | rule2(s, 0, 0)
-        | rule3(s, 1, 0)
-        | rule3(s, 2, 0)
-        | rule3(s, 3, 0)
-        | rule3(s, 4, 0)
-        | rule3(s, 5, 0)
-        | rule3(s, 6, 0)
-        | rule3(s, 7, 0)
-        | rule7(s, 1, 0)
-        | rule7(s, 2, 0)
-        | rule7(s, 3, 0)
-        | rule7(s, 4, 0)
-        | rule7(s, 5, 0)
+        | rule3(s, PROGRAMMES, 0)
+        | rule3(s, CONTENTS, 0)
+        | rule3(s, OBJECTS, 0)
+        | rule3(s, PACKS, 0)
+        | rule3(s, TRACKS, 0)
+        | rule3(s, REFERENCES, 0)
+        | rule3(s, VALUE_SETS, 0)
+        | rule7(s, PROGRAMMES, 0)
+        | rule7(s, CONTENTS, 0)
+        | rule7(s, OBJECTS, 0)
+        | rule7(s, PACKS, 0)
+        | rule7(s, TRACKS, 0)
 }
 
-// Whether some content list has the content, as far as the table tells.
-fn is_listed(listed: &[u16], k: u16) -> bool
-    ensures { result ≡ true → (k < length listed.now) × (eqb (get_or listed.now k 0) 0 ≡ false) }
-{
-    look(listed, k).is_some_and(|n| n != 0)
-}
-
-// Whether a content keeps the rules that need no table, and is in a content list.
+// Whether a content keeps the rules that need no table, and is in a content list, as far as the table tells.
 fn content_keeps(s: &[u8], langs: &Languages, listed: &[u16], k: u16) -> bool
     ensures { result ≡ true → Listed (sheet_of s.now) listed.now → (content_broken (sheet_of s.now) langs.now k || rule12 (sheet_of s.now) contents k) ≡ false }
 {
-    !content_breaks(s, langs, k) & is_listed(listed, k)
+    !content_breaks(s, langs, k) & flagged(listed, k)
 }
 
-// Whether a pack may break rule 6 or 10.
+// Whether a pack breaks rule 6 or 10.
 fn pack_breaks(s: &[u8], k: u16) -> bool
-    ensures { result ≡ false → (bad_pack (sheet_of s.now) k || rule10 (sheet_of s.now) packs k) ≡ false }
+    ensures { result ≡ (bad_pack (sheet_of s.now) k || rule10 (sheet_of s.now) packs k) }
 {
-    let at = record_at(s, PACKS, k);
-    if ends_before(s, PACKS, at) {
-        return true;
-    }
-    let kind = word_at(s, at, PACK_KIND);
-    let channels = word_at(s, at, PACK_CHANNELS);
-    let front = word_at(s, at, PACK_FRONT);
-    if kind == KIND_OBJECTS {
-        return (1 < front) | (channels != 1);
-    }
-    (kind != KIND_DIRECT_SPEAKERS)
-        | (1 < front)
-        | (channels < 1)
-        | exceeds(s, CHANNELS_LIMIT, u64::from(channels))
+    bad_pack(s, k) | rule10(s, PACKS, k)
 }
 
 // Whether a track breaks rule 5.

@@ -20,8 +20,8 @@ use tables::passes::{count_contents, count_lists, count_tops};
 use tables::reads::all_once;
 use tables::{Naming, ObjectTables};
 
-// The lists of a section that have more entries together, twice as many as section 6 can have, are left to the search: where many records
-// share long lists, walking them takes too long, and for nothing where the sheet doesn't pass.
+// Where the lists of a section have more entries than this together, the sheet is left to the search. It is twice what section 6 can have, so
+// many records share long lists, and to test each list takes too long, for nothing if the sheet doesn't pass.
 const MANY_ENTRIES: u32 = 65536;
 
 // How many of MANY_ENTRIES the lists of a section leave, where they have no more.
@@ -151,7 +151,8 @@ fn passes<const MOST_OBJECTS: usize, const MOST_CONTENTS: usize, const MOST_SETS
 }
 
 // Whether the sheet can be seen to be accepted, as far as small tables reach: one under 1,024 bytes has at most 30 objects, 99 contents and
-// 70 value sets. The sizes have names because no public function has a `requires`.
+// 70 value sets. `passes` can't be public in place of the three: it has a `requires` on its sizes, and a public one has none but that a
+// closure may be called.
 pub fn small_passes(s: &[u8], langs: &Languages) -> bool
     ensures { result ≡ true → verdict (sheet_of s.now) langs.now ≡ Accepted }
 {

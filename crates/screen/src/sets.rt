@@ -14,7 +14,8 @@ use sheet::spans::Span;
 use values::Sort;
 use values::values::{is_absent, or_else};
 
-// A value with its range, at the positions of a record whose words begin at an index.
+// A value with its range, at the positions of a record whose words begin at an index. `values_in` of relations finds that index for each of the
+// three words; here it is known.
 #[tactic(auto, unfolding(crate::specs::steps::Values::values_at))]
 pub fn values_at(s: &[u8], at: u32, position: Positions) -> Values
     ensures { result ≡ values_at (sheet_of s.now) (at + position.value) (at + position.minimum) (at + position.maximum) }
@@ -35,7 +36,8 @@ pub(crate) fn own_leaves(sort: Sort, v: Values) -> bool
     Values { value, ..v }.leaves(sort)
 }
 
-// A set's value leaves its effective range, or where it is the set's own, the object's range.
+// A set's value leaves its effective range, or where it is the set's own, the object's range. `own` is the parameter of the definition, which
+// takes the range from the set or the object by it; handed a range in its place, each caller would choose.
 #[tactic(auto, unfolding(crate::specs::steps::Values::value_leaves))]
 fn value_leaves(sort: Sort, own: bool, set: Values, object: Values) -> bool
     ensures { result ≡ value_leaves sort own set object }

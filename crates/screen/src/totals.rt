@@ -1,5 +1,5 @@
-// What the whole sheet adds up to: rules 23 and 24. One pass over the objects adds the three numbers; `groups`, `units` and `counted_tracks`,
-// by which the rules find them, are four. That a table is right is a premise, as lib.rt tells.
+// What the whole sheet adds up to: rules 23 and 24. One pass over the objects adds the three numbers up; the rules find them by `groups`,
+// `units` and `counted_tracks`, which go over the objects four times. That a table is right is a premise, as lib.rt tells.
 ghost use Rattle.std.specs.Prelude.{suc, false, not, ◌&&◌, ◌≡◌};
 ghost use Rattle.profile.specs.Relations.{complement, top};
 ghost use Rattle.profile.specs.Rules.{rule23, rule24};

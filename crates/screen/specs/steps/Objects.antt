@@ -2,7 +2,7 @@
 use Rattle.std.specs.Prelude.{ℕ, ◌+◌, Bool, false, not, ◌&&◌, ◌||◌, ◌≡◌, eqb, leb, ltb}
 use Rattle.sheet.specs.Words.{Sheet}
 use Rattle.sheet.specs.Layout.{count, offset, start, field, first, number}
-use Rattle.sheet.specs.Fields.{objects, packs, tracks, references, value_sets, track_list, child_list, complement_list, interact, set_span, no_pack, pack_kind, pack_channels, pack_front}
+use Rattle.sheet.specs.Fields.{objects, packs, tracks, references, value_sets, track_list, child_list, complement_list, interact, set_span, pack_channels}
 use Rattle.values.specs.declared.Sort.{Sort}
 use Rattle.values.specs.declared.Sort.TheVariants.{Gains, Offsets}
 use Rattle.values.specs.Values.{is_absent}
@@ -25,10 +25,6 @@ object_lists_broken s o =
     || exceeds s children_limit (number s objects o child_list)
     || exceeds s complements_limit (number s objects o complement_list)
     || exceeds s span_limit (number s objects o set_span)
-
--- a pack, where there is one, is of kind 3 with front 1
-unfoldable pub is_front : Sheet → ℕ → Bool
-is_front s pack = not (eqb pack no_pack) && eqb (field s packs pack pack_kind) 3 && eqb (field s packs pack pack_front) 1
 
 -- the value of a sort of an object whose words begin at an index, with its range
 abbrev pub object_sort : Sheet → Sort → ℕ → Values

@@ -1,5 +1,5 @@
 -- A content that the table has is in a content list. Assumes nothing.
-use Rattle.std.proofs.Common.{refl, not}
+use Rattle.std.proofs.Common.{refl, sym, ◌∙◌, not}
 use borrow.Author.Tests.{not-true}
 use Rattle.sheet.specs.Words.{sheet_of}
 use Rattle.profile.proofs.BoolLaws.{and_both}
@@ -9,6 +9,5 @@ use Rattle.screen.proofs.records.content_keeps.Goals as goal
 pub returns : goal.returns
 returns c =
     λ e right.
-    let p = and_both (not c.content_breaks.result) c.is_listed.result e in
-    let listed = c.is_listed.ensures p.1 in
-    rw (c.content_breaks.ensures (not-true c.content_breaks.result p.0), listed_some (sheet_of c.args.s.now) c.args.listed.now c.args.k right listed.0 listed.1) refl
+    let p = and_both (not c.content_breaks.result) c.flagged.result e in
+    rw (c.content_breaks.ensures (not-true c.content_breaks.result p.0), listed_some (sheet_of c.args.s.now) c.args.listed.now c.args.k right (sym c.flagged.ensures ∙ p.1)) refl
