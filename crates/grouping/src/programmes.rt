@@ -19,8 +19,8 @@ use tables::Naming;
 use tables::entry_counts::entries_left;
 use tables::marks::{clear, first_namers, mark_objects};
 
-// Whether two programmes have the same list at a position. Two spans compared by `==` would be read whole also where they begin apart, as
-// most do.
+// Whether two programmes have the same list at a position. `Span` compared by `==` would need its derive in sheet for this place alone, and
+// its contract is of two spans, where this one is of their words.
 #[tactic(auto, unfolding(crate::specs::steps::Passing::same_list))]
 fn same_list(s: &[u8], p: u16, q: u16, at: u8) -> bool
     requires { at < 8 }

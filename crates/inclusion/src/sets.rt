@@ -19,7 +19,8 @@ fn bytes_differ(s: &[u8], a: usize, b: usize) -> bool
     found
 }
 
-// Whether two sets may differ in any of seven words, where section 7 begins at `base`. One past the sheet's end may.
+// Whether two sets may differ in any of seven words, which are a record of section 7, where that begins at `base`. One past the sheet's end
+// may. A struct of the sheet and the offset would carry what only its maker's contract tells of the offset: see lib.rt.
 #[tactic(auto, using(crate::proofs::PassLaws::bytes_alike))]
 pub fn sets_differ(s: &[u8], base: u16, u: u16, v: u16) -> bool
     ensures { result ≡ false → base ≡ offset (sheet_of s.now) value_sets → sets_differ (sheet_of s.now) u v ≡ false }

@@ -133,6 +133,7 @@ pub fn count_covered(s: &[u8], kind: Naming, table: &mut [u16])
     if left.is_none() {
         let m = reach(s, kind);
         if m <= 32768 {
+            // it fits: it is 32,768 at most
             count_cover(s, kind, m as u16, table);
             return;
         }

@@ -1,4 +1,5 @@
-// Who names what.
+// Who names what. The section and position of a way's lists stand here, in `run_begin` and in `mark_items`: one function for the pair would
+// need a definition of its own, and in each of the three a proof by the ways, which now is the match itself.
 ghost use Rattle.std.specs.Prelude.{◌≡◌};
 ghost use Rattle.sheet.specs.Words.{sheet_of};
 ghost use Rattle.tables.specs.steps.Namings.{items, namers};
