@@ -43,6 +43,7 @@ pub fn largest_member(s: &[u8], l: u16) -> u32
     let n = members(s, l);
     let mut most: u32 = 0;
     for i in 0..n {
+        // it fits: a group has 65,536 members at most
         most = most.max(size(s, member(s, l, i as u16)));
     }
     most
