@@ -1,8 +1,8 @@
 // The groups of a sheet, by what a table has for their members: 0 for an object that the programme does not include, 1 for one that it
 // includes, and where it names a set for it, 2 more than the number of that set. An enum of the three would take two words where the table
 // has one, and the tables are fixed memory that serves for counts as well. `Begins` is a premise, for the reason that lib.rt tells. The
-// sheet, the offsets and the table of what is included are lent to these few functions beside one another, and not as a struct: the table is
-// written anew for each programme, so that such a struct would be made for each call.
+// sheet, the offsets and the table of what is included are lent to these few functions beside one another, and not as a struct: the table
+// is written anew for each programme, so that such a struct would be made for each call.
 ghost use Rattle.std.specs.Prelude.{ℕ, IsSome, ◌+◌, ◌-◌, ◌<◌, ◌≤◌, get_or, length, false, true, ◌⊎◌, ◌≡◌};
 ghost use Rattle.inclusion.specs.steps.Groups.{GroupKept, ListKept, PairKept, many_listed};
 ghost use Rattle.inclusion.specs.steps.Entering.{Begins};
@@ -150,8 +150,8 @@ pub fn groups_kept(
     if (leading.len() < n) || (partners.len() < n) {
         return false;
     }
-    // 65536 for none, and places by number: with an `Option` and `zip`, tried and proved, a row takes 19 instructions in place of 16, and the
-    // sheets with one of each group of 3 or 4 take 13 % more, where 5 % is the bar
+    // 65536 for none, and places by number: with an `Option` and `zip`, tried and proved, a row takes 19 instructions in place of 16, and
+    // the sheets with one of each group of 3 or 4 take 13 % more, where 5 % is the bar
     let mut asked: u32 = 65536;
     for i in 0..n {
         let l = leading[i];

@@ -1,6 +1,6 @@
 // A list answered by one look at a table, where the table has it and the list is inside section 6. That a table is right (`StrayRight`,
-// `OrdinalRight`, `Tells`) is a premise: a `requires`, or a type with the fact, is narrower than what callers hand in today, which may not be
-// asked of them.
+// `OrdinalRight`, `Tells`) is a premise: a `requires`, or a type with the fact, is narrower than what callers hand in today, which may not
+// be asked of them.
 ghost use Rattle.std.specs.Prelude.{◌+◌, ◌<◌, ◌≤◌, leb, ltb, get_or, length, ◌&&◌, ◌≡◌};
 ghost use Rattle.runs.specs.steps.Runs.{LookedUp, OrdinalRight, StrayRight, odd_tracks};
 ghost use Rattle.sheet.specs.Fields.{pack_channels, packs, references};

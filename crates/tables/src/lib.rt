@@ -11,8 +11,8 @@ pub mod passes;
 pub mod reads;
 pub mod totals;
 
-// The ways in which records name others. It is an enum, and no closure that walks what a record names, because contracts speak of the way, as
-// `times_by s kind q` does of how often record q names each other one. `mark_items` has the walk of each.
+// The ways in which records name others. It is an enum, and no closure that walks what a record names, because contracts speak of the way,
+// as `times_by s kind q` does of how often record q names each other one. `mark_items` has the walk of each.
 #[derive(Clone, Copy)]
 pub enum Naming {
     // a content names its object
@@ -33,8 +33,8 @@ pub enum Naming {
 
 // How often contents and complement lists name each object, as far as the tables reach. That they are right, `ObjectsTabled`, is a premise
 // of each contract, and the fields are public: a type with the fact, as an invariant or a ghost field, is narrower than what callers hand
-// in today, which may not be asked of them. Each function that fills lent tables says that they keep their lengths, which
-// its caller's proof needs: tables as arrays would be of one size for all.
+// in today, which may not be asked of them. Each function that fills lent tables says that they keep their lengths, which its caller's
+// proof needs: tables as arrays would be of one size for all.
 #[derive(Clone, Copy)]
 pub struct ObjectTables<'a> {
     pub tops: &'a [u16],
