@@ -162,8 +162,9 @@ fn moved(s: &[u8], state: &State, o: u16) -> State
 }
 
 impl State {
-    // Starts a programme. It, `choose_object` and `changed` each say what a done call makes of the state. One function of the three would take
-    // that as a closure, so that it is made for a done call alone, and `changed`, which stores in place, would hand its closure on into one.
+    // Starts a programme. It, `choose_object` and `changed` each say what a done call makes of the state. One function of the three would
+    // take that as a closure, so that it is made for a done call alone, and `changed`, which stores in place, would hand its closure on
+    // into one.
     pub fn choose_programme(self, s: &[u8], langs: &[u8], p: u16) -> Reply
         ensures { result ≡ chosen_programme (sheet_of s.now) (words langs.now) self p }
     {
