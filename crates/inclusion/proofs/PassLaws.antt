@@ -11,7 +11,7 @@ use borrow.Author.Count.{below_more}
 use borrow.Author.Tests.{eqb-true, eqb-false, eq-eqb, ne_eqb, le-leb, ltb-true, ltb-false, lt-ltb, not-false}
 use lib.Dec.{eqb, leb, ltb}
 use lib.ListN.{length, get_or, set, length-set}
-use Rattle.std.specs.Prelude.{Some, None}
+use Rattle.std.specs.Prelude.{Some, None, slice_range}
 use Rattle.std.specs.Option.{unwrap_or}
 use Rattle.sheet.specs.Words.{Sheet, sheet_of, word}
 use Rattle.sheet.specs.Layout.{count, offset, start, record_words, field, number, reference, entry}
@@ -29,7 +29,7 @@ use Rattle.tables.specs.declared.Naming.TheVariants.{SetSpans}
 use Rattle.tables.specs.steps.Marks.{Standing, first_by}
 use Rattle.tables.specs.steps.Right.{Owners, told}
 use Rattle.tables.proofs.MarkLaws.{set_standing}
-use Rattle.tables.proofs.TableLaws.{owner_told}
+use Rattle.tables.proofs.TableLaws.{owner_told, part_place}
 use Rattle.inclusion.proofs.CountLaws.{two_counted}
 use Rattle.inclusion.specs.steps.Entering.{SetsNotedTo, Changed, Noted, object_at, object_from, Begins}
 use Rattle.inclusion.specs.declared.SectionOffsets.{SectionOffsets}
@@ -174,12 +174,15 @@ same_bytes : (t : List ℕ) (i j : ℕ) → i < length t / 2 → j < length t / 
 unfolding sheet_of word
 same_bytes t i j l k a b = words_at t i l ∙ ap₂ (λ (x y : ℕ). 256 * x + y) a b ∙ sym (words_at t j k)
 
-pub bytes_alike : (t : List ℕ) (base u v : ℕ) → base ≡ offset (sheet_of t) value_sets → 2 * (base + 7 * u) + 14 ≤ length t → 2 * (base + 7 * v) + 14 ≤ length t
-    → any (λ f. not (eqb (get_or t (2 * (base + 7 * u) + f) 0) (get_or t (2 * (base + 7 * v) + f) 0))) 14 ≡ false → sets_differ (sheet_of t) u v ≡ false
-bytes_alike t base u v at a b h = same_sets (sheet_of t) u v each
+pub bytes_alike : (t x y : List ℕ) (base u v : ℕ) → base ≡ offset (sheet_of t) value_sets → 2 * (base + 7 * u) + 14 ≤ length t → 2 * (base + 7 * v) + 14 ≤ length t
+    → x ≡ slice_range t (2 * (base + 7 * u)) (2 * (base + 7 * u) + 14) → y ≡ slice_range t (2 * (base + 7 * v)) (2 * (base + 7 * v) + 14) → x ≡ y → sets_differ (sheet_of t) u v ≡ false
+bytes_alike t x y base u v at a b p q same = same_sets (sheet_of t) u v each
   where
     byte : (f : ℕ) → f < 14 → get_or t (2 * (base + 7 * u) + f) 0 ≡ get_or t (2 * (base + 7 * v) + f) 0
-    byte f l = eqb-true _ _ (not-false _ (any_none (λ f. not (eqb (get_or t (2 * (base + 7 * u) + f) 0) (get_or t (2 * (base + 7 * v) + f) 0))) 14 h f l))
+    byte f l =
+        sym (part_place t x (2 * (base + 7 * u)) (2 * (base + 7 * u) + 14) p f (omega arith))
+        ∙ ap (λ (w : List ℕ). get_or w f 0) same
+        ∙ part_place t y (2 * (base + 7 * v)) (2 * (base + 7 * v) + 14) q f (omega arith)
 
     each : (f : ℕ) → f < 7 → field (sheet_of t) value_sets u (set_gain + f) ≡ field (sheet_of t) value_sets v (set_gain + f)
     each f l =
