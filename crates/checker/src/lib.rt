@@ -1,4 +1,5 @@
-// The checker: the first broken rule with its place, or acceptance. It is one search over rules, sections and records.
+// The checker: the first broken rule with its place, or acceptance. Most accepted sheets are known by the screening;
+// for the others it is one search over rules, sections and records.
 #![tactic(auto)]
 
 pub mod groups;

@@ -44,6 +44,7 @@ pub fn put_listing(text: &mut Text, lent: Lent, state: State)
     match state.list(lent.sheet, lent.langs, &mut words) {
         Ok(entries) => {
             text.text(b"tracks");
+            // it fits: 28 at most
             put_words(text, &words[..entries as usize]);
             text.text(b"\n");
         }

@@ -19,7 +19,7 @@ fn first_not_below(factor: u32) -> usize
     LARGEST.partition_point(|entry| *entry < factor)
 }
 
-// The tenth of that place, which is 600 more.
+// The tenth of that place, which is 600 more. It fits: the table has 811 places.
 fn least_tenth(factor: u32) -> i16
     ensures { result ≡ least_tenth factor }
 {

@@ -1,4 +1,5 @@
 // The figures of a lent sheet under a lent list of languages, and their lines of text behind the line of the verdict (document 02, L1).
+// Sheet and list are two arguments, as in the definitions.
 #![tactic(auto)]
 
 ghost use Rattle.std.specs.Prelude.{map, ◌≡◌};

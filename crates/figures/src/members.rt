@@ -62,7 +62,8 @@ fn kind_clash(s: &[u8], l: u16, q: u16) -> Option<Clash>
     unequal(kind_figure(s, l), kind_figure(s, q))
 }
 
-// The first unequal word.
+// The first unequal word. This loop and that of `leader_clash` are each the definition `first_below` of what they ask: a function for both
+// would take the question as a closure, and count words and members alike by numbers.
 fn word_clashes(s: &[u8], l: u16, q: u16) -> Option<Clash>
     ensures { result ≡ word_clashes (sheet_of s.now) l q }
 {

@@ -15,7 +15,8 @@ use values::Sort;
 use values::signed::signed;
 use values::values::is_absent;
 
-// Where a value stands, and where the ends of the range do that it is held against.
+// Where a value stands, and where the ends of the range do that it is held against. The fields have the names of those of `Positions` and
+// `Values` (relations), but each has methods that make no sense of the others.
 #[derive(Clone, Copy)]
 struct RangePlaces {
     value: WordPlace,

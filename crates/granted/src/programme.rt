@@ -46,8 +46,8 @@ pub fn named_for(s: &[u8], p: u16, o: u16) -> Option<u16>
 }
 
 // "included objects take the effective gain and offset of the set that the programme names, or their own, or 0". An object and the set that
-// is named for it go through three functions here: a struct of the two would be taken apart in each equation, since a set's effective words
-// are functions of object and set (`effective_value`), and an object's own of the object alone.
+// is named for it go through three functions of this crate: a struct of the two would be taken apart in each equation, since a set's
+// effective words are functions of object and set (`effective_value`), and an object's own of the object alone.
 #[tactic(auto, unfolding(crate::specs::steps::NamedSet::start_by))]
 pub fn start_by(s: &[u8], o: u16, named: Option<u16>, sort: Sort) -> u16
     ensures { result ≡ start_by (sheet_of s.now) o named sort }

@@ -14,20 +14,18 @@ use inclusion::{Rows, SectionOffsets, SetTables};
 use sheet::fields::{
     CONTENT_LIST, CONTENTS, OBJECTS, PROGRAMMES, REFERENCES, SET_LIST, VALUE_SETS,
 };
-use sheet::layout::{count, field, number, offset};
+use sheet::layout::{count, number, offset};
+use sheet::spans::Span;
 use tables::Naming;
 use tables::entry_counts::entries_left;
 use tables::marks::{clear, first_namers, mark_objects};
 
-// Whether two programmes have the same list at a position. `Span` compared by `==` would need its derive in sheet for this place alone, and
-// its contract is of two spans, where this one is of their words.
+// Whether two programmes have the same list at a position.
 #[tactic(auto, unfolding(crate::specs::steps::Passing::same_list))]
 fn same_list(s: &[u8], p: u16, q: u16, at: u8) -> bool
-    requires { at < 8 }
     ensures { result ≡ same_list (sheet_of s.now) p q at }
 {
-    (field(s, PROGRAMMES, p, at) == field(s, PROGRAMMES, q, at))
-        && (number(s, PROGRAMMES, p, at) == number(s, PROGRAMMES, q, at))
+    Span::at(s, PROGRAMMES, p, at) == Span::at(s, PROGRAMMES, q, at)
 }
 
 // Whether they have the same contents and, where there are tables of sets, the same sets.

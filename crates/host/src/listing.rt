@@ -10,6 +10,7 @@ use listener::writing::list_start;
 use listener::{MOST_ENTRIES, Refusal};
 
 // Writes each word "as two bytes, high first", from the buffer's start.
+// By index: `as_chunks_mut` says nothing of what the slice ends as, and the equation is about just that.
 fn write_words(words: &[u16], buffer: &mut [u8])
     requires { 2 * length words.now ≤ length buffer.old }
     ensures { buffer.new ≡ sets buffer.old 0 (bytes_of words.now) }
@@ -33,6 +34,7 @@ fn write_listing(
 {
     let mut words: [u16; MOST_ENTRIES] = [0; MOST_ENTRIES];
     let entries = list_start(sheet, langs, programme, &mut words)?;
+    // it fits, as below: 28 at most
     let n = entries as usize;
     if buffer.len() < 2 * n {
         return Err(Refusal::TooFewWords);

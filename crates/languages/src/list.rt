@@ -10,7 +10,8 @@ use sheet::words::word_count;
 use std::marker::Model;
 use values::language::three_letters;
 
-// The words of a list that rises, as lent bytes. The table tells of the words that it reaches; it may be empty.
+// The words of a list that rises, as lent bytes. The table tells of the words that it reaches; it may be empty. It has bytes, 1 and 0,
+// since the caller lends an array of bytes, and one of `bool` would be asked of him else.
 #[derive(Drop)]
 pub struct Languages<'a> {
     bytes: &'a [u8],
@@ -57,7 +58,7 @@ impl<'a> Languages<'a> {
         true
     }
 
-    // Whether the list has at most two words for each byte of a sheet, so that a table of it is worth its filling.
+    // Whether the list has about two words for each byte of a sheet, or fewer, so that a table of it is worth its filling.
     #[tactic(auto, unfolding(sheet::specs::Words::sheet_of, sheet::specs::Words::word_count))]
     pub fn is_short_for(&self, bytes: usize) -> bool
         ensures { result ≡ leb (length self.now / 2) bytes }

@@ -1,5 +1,6 @@
-// Whether a lent list rises. This is asked at every call, so it is written for the compiler to test many words at once: over all bytes, with
-// a number for each test, and no branch (docs/SPEED.md: 105 ns for 506 words, where asking one word after the other took 1.3 µs, nearly a check).
+// Whether a lent list rises. This is asked at every call, so it is written for the compiler to test many words at once: over all bytes,
+// with a number for each test, and no branch: 105 ns for 506 words, where one word after the other, as by `windows` too, took 1.3 µs
+// (docs/SPEED.md).
 ghost use Rattle.std.specs.Prelude.{cond, length, ◌+◌, ◌<◌, ◌≡◌};
 ghost use Rattle.languages.specs.steps.Falls.{falls_at};
 ghost use Rattle.profile.specs.Languages.{is_rising};

@@ -153,6 +153,7 @@ fn moved(s: &[u8], state: &State, o: u16) -> State
     first_namers(s, Naming::Complements, &mut leaders);
     let mut objects = state.objects;
     for (q, x) in objects.iter_mut().enumerate() {
+        // it fits: there are 84
         *x = moved_setting(s, &leaders, o, q as u16, *x);
     }
     State {

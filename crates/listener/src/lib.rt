@@ -22,7 +22,7 @@ pub struct Setting {
 // "for 84 objects active, gain, offset"
 pub const STATE_OBJECTS: usize = 84;
 
-// The lowest number that no object of a state has.
+// The lowest number that no object of a state has. By `as`, since a constant calls no `try_from`.
 pub const STATE_END: u16 = STATE_OBJECTS as u16;
 
 // The most entries that a listing has: 28, at level 2.

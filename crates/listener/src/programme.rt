@@ -31,10 +31,9 @@ fn start_setting(s: &[u8], p: u16, tables: ProgrammeTables, o: u16) -> Setting
     }
 }
 
-// The arrays are this call's own, and the tables lend them: a struct that owned both, made by a function of its own for this one and `sound`,
-// would have 168 words, and its contract would say of the marks and n what `enter_included` says.
 // A programme as it starts. What it doesn't include, as all numbers from n on, is at rest. The loop goes by the objects' numbers, which the
-// sheet and the tables are read by.
+// sheet and the tables are read by. The arrays are this call's own, and the tables lend them: a struct that owned both, made by a function
+// of its own for this one and `sound`, would have 168 words, and its contract would say of the marks and n what `enter_included` says.
 pub fn started(s: &[u8], p: u16) -> State
     ensures { result ≡ started (sheet_of s.now) p }
 {

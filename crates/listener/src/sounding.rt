@@ -20,7 +20,7 @@ use tables::reads::included_by;
 
 // Writes 1 for the objects that the programme includes, into a table of noughts: one pass over the list gives the marks and the number, and
 // `tables::marks::mark_included` gives the marks alone and clears the table before. Gives one more than the highest number of one below
-// `state_objects`, 0 where there is none.
+// `state_objects`, 0 where there is none. That the table has noughts is a premise, as at `fill_table` of the checker.
 pub fn enter_included(s: &[u8], p: u16, marks: &mut [u16]) -> u16
     ensures { (length marks.new ≡ length marks.old) × (result ≤ state_objects) × ((o : ℕ) → result ≤ o → o < state_objects → includes (sheet_of s.now) p o ≡ false) × (Standing (λ x. 0) marks.old → Included (sheet_of s.now) p marks.new) }
 {

@@ -37,9 +37,9 @@ fn state_number(s: &[u8], state: &State) -> u64
     total
 }
 
-// Writes an object's own tracks from a place on, and gives the place behind them.
-// The place stands beside the words: with a part `&mut buffer[n..]` in its stead n would be added up all the same, and a struct of words and
-// place, as `Text` is, would need the same bound in the contract of each method: a `Text` drops what has no room, and here all must fit.
+// Writes an object's own tracks from a place on, and gives the place behind them. The place stands beside the words: with a part `&mut
+// buffer[n..]` in its stead n would be added up all the same, and a struct of words and place, as `Text` is, would need the same bound in
+// the contract of each method: a `Text` drops what has no room, and here all must fit.
 fn write_own(s: &[u8], o: u16, buffer: &mut [u16], at: usize) -> usize
     requires { at + length (own_tracks (sheet_of s.now) o) ≤ length buffer.old }
     ensures { (result ≡ at + length (own_tracks (sheet_of s.now) o)) × (buffer.new ≡ sets buffer.old at (own_tracks (sheet_of s.now) o)) }
@@ -119,5 +119,6 @@ pub fn list_start(s: &[u8], langs: &[u8], p: u32, buffer: &mut [u16]) -> Result<
     if u32::from(count(s, PROGRAMMES)) <= p {
         return Err(Refusal::NoProgramme);
     }
+    // it fits: it is below the count of programmes
     write_listing(s, &started(s, p as u16), buffer)
 }

@@ -74,6 +74,7 @@ fn words_of(line: &[u8], n: usize) -> Option<WordList> {
     }
     let mut bytes = [0u8; 2 * MOST_WORDS];
     let mut list = Text::new(&mut bytes);
+    // it fits: 64 at most
     for k in 0..words as u8 {
         list.text(&number_of(field(line, k + 1))?.to_be_bytes());
     }

@@ -28,8 +28,8 @@ pub fn any_no_language(s: &[u8], entries: Entries, langs: &Languages) -> bool
     any(entries.list.count, |i| !langs.good(entries.at(s, i)))
 }
 
-// Whether the entry at a place is that of an earlier place. With `any_twice` it is `two_references` of rules with `==`: but rules lies above,
-// and here the offset of section 6 is known, so that the entries of one list are lent to several tests.
+// Whether the entry at a place is that of an earlier place. With `any_twice` it is `two_references` of rules with `==`. One function below
+// both would take a test of two places, and so read the entry at j anew for each place before it.
 #[tactic(auto, unfolding(crate::specs::steps::Entries::entry_at, crate::specs::steps::Entries::same_at))]
 fn is_earlier(s: &[u8], entries: Entries, j: u16) -> bool
     ensures { result ≡ any (λ i. same_at (sheet_of s.now) entries.base entries.list.first i j) j }

@@ -42,7 +42,7 @@ impl Speech {
     }
 
     // Whether they break a rule, where there are no labels. By `breaks`, which is right of an empty list too, the screening of
-    // examples/play.sheet with its six contents took 9,224 instructions, and 8,555 before: the bar was 5 % more; so it takes 8,891.
+    // examples/play.sheet took 669 instructions more, 6.8 % of its check, where the bar is 5 % (docs/DECISIONS.md, 135).
     #[tactic(auto, using(crate::proofs::SpeechLaws::no_labels))]
     fn breaks_without_labels(self, s: &[u8], langs: &Languages) -> bool
         ensures { result ≡ speech_broken (sheet_of s.now) langs.now self.language self.labels.first 0 self.loudness }

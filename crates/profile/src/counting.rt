@@ -1,7 +1,7 @@
-// The counting definitions over a test that the caller gives: each function is the definition of the same name, of any test that a
-// closure computes. There is no branch for a number that passes, as there would be in the library's `any`, `all` and `filter` of a range, but
-// in `lowest` and `all`, which end early: written as `(0..n).find(..)` and `(0..n).all(test)` their three clauses were not proved, since the
-// library's contracts speak of a run of the range, and the invariants of these loops of the numbers themselves.
+// The counting definitions over a test that the caller gives: each function is the definition of the same name, and `all` that of `every`,
+// of any test that a closure computes. There is no branch for a number that passes, as there would be in the library's `any`, `all` and
+// `filter` of a range, but in `lowest` and `all`, which end early: written as `(0..n).find(..)` and `(0..n).all(test)` their three clauses
+// were not proved, since the library's contracts speak of a run of the range, and the invariants of these loops of the numbers themselves.
 ghost use Rattle.std.specs.Prelude.{ℕ, Bool, true, ◌<◌, ◌≤◌, ◌≡◌};
 ghost use Rattle.profile.specs.Counting.{ComputesBelow, any, every, how_many, lowest};
 
@@ -45,8 +45,8 @@ pub fn how_many<F: Fn(u16) -> bool>(n: u16, test: F) -> u16
     found
 }
 
-// The lowest number below n that passes, or n: a number and no `Option`, as the definition has it, by which verdicts and relations compare it
-// with n.
+// The lowest number below n that passes, or n: a number and no `Option`, as the definition has it, by which verdicts and relations compare
+// it with n.
 pub fn lowest<F: Fn(u16) -> bool>(n: u16, test: F) -> u16
     requires { F.IsAlwaysCallable test }
     ensures { (p : ℕ → Bool) → ComputesBelow n (F.post test) p → result ≡ lowest p n }

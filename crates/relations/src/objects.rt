@@ -24,6 +24,7 @@ pub fn has_pack(s: &[u8], o: u16) -> bool
     pack_of(s, o) != NO_PACK
 }
 
+// This and `leader` are the definitions of their names: what they share is the comparison with 0.
 #[tactic(auto, unfolding(profile::specs::Relations::has_children))]
 pub fn has_children(s: &[u8], o: u16) -> bool
     ensures { result ≡ has_children (sheet_of s.now) o }

@@ -1,6 +1,6 @@
 // Rules 1 to 24 as functions on a lent sheet: each is the definition of the same name in the profile crate, where the tables that some
 // of them are lent are right. That they are right is a premise in the `ensures` and no `requires`: a public function asks nothing of its
-// callers, and a private one hands the premise on as it gets it.
+// callers but that a closure may be called, and a private one hands the premise on as it gets it.
 //
 // Each takes a section and a record's index, as its definition does, though some look at neither. Sections and the positions in a record
 // are document 01's numbers: the contracts hold for every number, of a section or not, so that a `match` on them ends with `_`, and an

@@ -26,7 +26,8 @@ use std::mem::replace;
 use tables::GroupTables;
 use tables::reads::owner_by;
 
-// Marks a number as seen, and tells whether it was before.
+// Marks a number as seen, and tells whether it was before. By 1 and 0, and no `bool`: `Standing`, by which the laws speak of a table, is of
+// words.
 #[tactic(auto, using(tables::proofs::MarkLaws::set_standing))]
 fn see(seen: &mut [u16; 65536], x: u16) -> bool
     ensures { (result ≡ not (eqb (get_or seen.old x 0) 0)) × Standing (λ z. cond (eqb x z) 1 (get_or seen.old z 0)) seen.new }
@@ -53,7 +54,8 @@ pub fn keys_alike<F: Fn(u16) -> u16>(s: &[u8], section: u8, k: u16, at: u8, key:
 // A list of so many entries is compared by pairs, a longer one by a table.
 const SHORT: u16 = 48;
 
-// Whether two entries of the list at a position of a record have the same key: of a short list by its pairs, of a longer one by `keys_alike`.
+// Whether two entries of the list at a position of a record have the same key: of a short list by its pairs, of a longer one by
+// `keys_alike`.
 fn alike<F: Fn(u16) -> u16>(s: &[u8], section: u8, k: u16, at: u8, key: F) -> bool
     requires { F.IsAlwaysCallable key }
     ensures { (f : ℕ → ℕ) → ComputesBelow 65536 (F.post key) f → result ≡ keys_alike (sheet_of s.now) section k at f }
@@ -120,7 +122,8 @@ pub fn bad_ordinals(s: &[u8], o: u16) -> bool
     })
 }
 
-// The first place of a group among those passed; where there is none, this one, which is kept.
+// The first place of a group among those passed; where there is none, this one, which is kept. The table has one more than a place, or 0
+// for none, and no `Option`: `told` and `Standing`, by which the laws speak of a table, are of words.
 #[tactic(auto, unfolding(tables::specs::steps::Right::told), using(crate::proofs::DifferLaws::first_written, crate::proofs::DifferLaws::first_kept))]
 fn first_of(first: &mut [u16; 2048], l: u16, j: u16) -> u16
     requires { (l < 2048) × (j < 65535) }

@@ -27,7 +27,8 @@ impl<'a> ObjectWords<'a> {
         self.word(position) != other.word(position)
     }
 
-    // Whether they differ in interact, gain, offset or the four range words.
+    // Whether they differ in interact, gain, offset or the four range words. Written out, with the positions as constants: by `any` of
+    // profile, which counts by u16, each would be a sum narrowed to u8.
     #[tactic(auto, unfolding(profile::specs::Counting::any))]
     fn words_differ(&self, other: &ObjectWords) -> bool
         ensures { result ≡ any (λ f. not (eqb (field (sheet_of self.now.s.now) objects self.now.o (interact + f)) (field (sheet_of other.now.s.now) objects other.now.o (interact + f)))) 7 }

@@ -28,7 +28,7 @@ use tables::ObjectTables;
 use tables::reads::{look, top_by};
 use values::Sort;
 
-// Whether a list or span of so many entries is above a limit.
+// Whether a list or span of so many entries is above a limit. Most have none, and need no limit looked up.
 #[tactic(auto, using(lists::proofs::LimitLaws::no_excess))]
 fn exceeding(s: &[u8], column: u8, n: u16) -> bool
     ensures { result ≡ exceeds (sheet_of s.now) column n }

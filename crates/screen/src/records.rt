@@ -22,8 +22,8 @@ use sheet::fields::{
 use sheet::layout::{count, field};
 use tables::members::flagged;
 
-// The header and the sections themselves: rules 1, 2, 3 and 7. Written out, as the definition is: by `any` of profile, which counts by u16, it
-// would be two calls, each with a closure that narrows its number to the u8 of a section.
+// The header and the sections themselves: rules 1, 2, 3 and 7. Written out, as the definition is: by `any` of profile, which counts by u16,
+// it would be two calls, each with a closure that narrows its number to the u8 of a section; std's `any` of a range says nothing plainer.
 #[tactic(auto, unfolding(crate::specs::steps::Screened::header_broken))]
 pub fn header_breaks(s: &[u8]) -> bool
     ensures { result ≡ header_broken (sheet_of s.now) }

@@ -15,13 +15,14 @@ use languages::list::Languages;
 use sheet::fields::{CONTENTS, OBJECTS, PROGRAMMES, VALUE_SETS};
 use sheet::layout::count;
 use tables::entry_counts::{entries_left, list_entries};
+use tables::marks::count_namings;
 use tables::namings::items;
-use tables::passes::{count_contents, count_lists, count_tops};
+use tables::passes::{count_lists, count_tops};
 use tables::reads::all_once;
 use tables::{Naming, ObjectTables};
 
-// Where the lists of a section have more entries than this together, the sheet is left to the search. It is twice what section 6 can have, so
-// many records share long lists, and to test each list takes too long, for nothing if the sheet doesn't pass.
+// Where the lists of a section have more entries than this together, the sheet is left to the search. It is about twice what section 6 can
+// have, so many records share long lists, and to test each list takes too long, for nothing if the sheet doesn't pass.
 const MANY_ENTRIES: u32 = 65536;
 
 // How many of MANY_ENTRIES the lists of a section leave, where they have no more.
@@ -110,7 +111,7 @@ fn screened(s: &[u8], langs: &Languages, tables: SheetTables) -> bool
     } = tables;
     count_tops(s, tops, named);
     count_lists(s, named, complements, spanned, owners);
-    count_contents(s, listed);
+    count_namings(s, Naming::ContentLists, listed);
     let filled = RecordTables {
         named,
         listed,

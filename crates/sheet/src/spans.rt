@@ -9,7 +9,7 @@ use crate::layout::{offset, start};
 use crate::words::word;
 
 // "A list is two words, first and count, into section 6; a set span is the same into section 7."
-#[derive(Clone, Copy)]
+#[derive(Clone, Copy, PartialEq, Eq)]
 pub struct Span {
     pub first: u16,
     pub count: u16,
@@ -55,8 +55,8 @@ impl Span {
     }
 }
 
-// The entries of a list in a section whose offset is `base`, which is read once for all of them. The sheet stands beside them, as beside all
-// else that is read from it.
+// The entries of a list in a section whose offset is `base`, which is read once for all of them. The sheet stands beside them, as beside
+// all else that is read from it.
 #[derive(Clone, Copy)]
 pub struct Entries {
     pub base: u16,

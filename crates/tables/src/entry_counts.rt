@@ -12,7 +12,7 @@ use sheet::fields::{
 };
 use sheet::layout::number;
 
-// How many entries the lists of a record have.
+// How many entries the lists of a record have. Sections are numbers, as in all crates: the contract holds for every number.
 #[tactic(auto, unfolding(crate::specs::steps::EntryCounts::list_entries))]
 pub fn list_entries(s: &[u8], section: u8, k: u16) -> u32
     ensures { result ≡ list_entries (sheet_of s.now) section k }

@@ -37,6 +37,9 @@ pub fn mark_at<F: Fn(u16) -> u16>(table: &mut [u16], x: u32, mark: F)
     }
 }
 
+// The four loops from here on, and `tally` of coverage, each find the next place in a way of their own. One loop for all would take the
+// place as a second closure beside the mark, and each would be a call with two closures.
+
 // Marks the places of a span.
 fn mark_span<F: Fn(u16) -> u16>(span: Span, mark: F, table: &mut [u16])
     requires { F.IsAlwaysCallable mark }
@@ -152,7 +155,8 @@ pub fn clear(table: &mut [u16])
     table.fill(0);
 }
 
-// Writes 1 for the objects that a programme includes, and 0 for the others.
+// Writes 1 for the objects that a programme includes, and 0 for the others: words and no `bool`, since the lent tables serve for counts
+// too.
 pub fn mark_included(s: &[u8], p: u16, table: &mut [u16])
     ensures { (length table.new ≡ length table.old) × Included (sheet_of s.now) p table.new }
 {

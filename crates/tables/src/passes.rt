@@ -1,12 +1,11 @@
 // Passes over all records of a section that count what they name, some in several tables at once.
 ghost use Rattle.std.specs.Prelude.{suc, ◌<◌, ◌≡◌};
 ghost use Rattle.sheet.specs.Words.{sheet_of};
-ghost use Rattle.tables.specs.steps.Marks.{MarkedTimes, NamingsCounted, counted_once, first_stored, times_by};
+ghost use Rattle.tables.specs.steps.Marks.{MarkedTimes, counted_once, first_stored, times_by};
 ghost use Rattle.tables.specs.steps.Passes.{ListsCounted, TopsCounted};
-ghost use Rattle.tables.specs.declared.Naming.TheVariants.{ContentLists};
 
 use crate::Naming;
-use crate::marks::{count_namings, counted_once, mark_items, mark_object, mark_some};
+use crate::marks::{counted_once, mark_items, mark_object, mark_some};
 use crate::namings::items;
 use sheet::fields::{CONTENTS, OBJECTS};
 use sheet::layout::count;
@@ -20,13 +19,6 @@ pub fn count_tops(s: &[u8], tops: &mut [u16], named: &mut [u16])
         mark_object(s, q, counted_once, tops);
         mark_object(s, q, counted_once, named);
     }
-}
-
-// Counts how often content lists name each content.
-pub fn count_contents(s: &[u8], listed: &mut [u16])
-    ensures { NamingsCounted (sheet_of s.now) ContentLists listed.old listed.new }
-{
-    count_namings(s, Naming::ContentLists, listed);
 }
 
 // A number where 0 stands, which is for none, else what stands there: no `Option` stands in a table of words.

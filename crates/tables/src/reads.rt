@@ -1,6 +1,7 @@
 // Relations read from a table, or found by their own search where the table ends before: with an empty table, always. That the table is
-// right (`Tops`, `Complemented`, `Leaders`, `Owners`, `Included`, `NamedSets`) is a premise in the contracts of one table: a
-// `requires`, or a table type with the fact, is narrower than what callers hand in today, which may not be asked of them.
+// right (`Tops`, `Complemented`, `Leaders`, `Owners`, `Included`, `NamedSets`) is a premise in the contracts of one table: a `requires`, or
+// a table type with the fact, is narrower than what callers hand in today, which may not be asked of them. Each is a `match` on `look`; one
+// for all would take the search and what stands there as closures, and be no shorter.
 ghost use Rattle.std.specs.Prelude.{ℕ, ◌<◌, Some, None, cond, eqb, ltb, get_or, length, not, true, ◌≡◌};
 ghost use Rattle.profile.specs.Counting.{any};
 ghost use Rattle.profile.specs.Relations.{complement, includes, leader_of, lone, names_set, owner, top};
@@ -129,8 +130,8 @@ pub fn names_set_by(s: &[u8], p: u16, sets: &[u16], o: u16) -> bool
     }
 }
 
-// Whether the first n places of a table have 1. No `all`, as above: for the 2,240 value sets of the largest honest sheet it would take
-// 13,000 instructions, and this takes 1,200.
+// Whether the first n places of a table have 1. A table may have more places than the section has records, so that n stands beside it. The
+// loop has no branch, as above.
 pub fn all_once(table: &[u16], n: u16) -> bool
     ensures { result ≡ true → (x : ℕ) → x < n → (x < length table.now) × (get_or table.now x 0 ≡ 1) }
 {

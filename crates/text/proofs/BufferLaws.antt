@@ -17,6 +17,11 @@ unfolding put_text
 put_append b [] t = refl
 put_append b (x ∷ s) t = put_append (put_byte b x) s t
 
+-- texts one behind the other
+pub put_join : (b : Buffer) (s : List ℕ) (ss : List (List ℕ)) → put_text b (join (s ∷ ss)) ≡ put_text (put_text b s) (join ss)
+unfolding join
+put_join b s ss = put_append b s (join ss)
+
 -- a byte that has room
 pub put_room : (bytes : List ℕ) (n x : ℕ) (t : List ℕ) → n < length bytes → put_text (buffer bytes n) (x ∷ t) ≡ put_text (buffer (set bytes n x) (n + 1)) t
 unfolding put_text put_byte

@@ -17,7 +17,7 @@ pub fn same(a: &[u8], b: &[u8]) -> bool
     a == b
 }
 
-// A part of a text; empty where the text has no such part.
+// A part of a text; empty where the text has no such part, as in the definition: no caller asks which of the two it is.
 #[tactic(auto, unfolding(crate::specs::Lines::part))]
 pub fn part(text: &[u8], start: usize, end: usize) -> &[u8]
     ensures { result.now ≡ part text.now start end }
@@ -62,7 +62,7 @@ fn is_blank(b: u8) -> bool
 // `field` and `field_count` begin with one chain. A function for it would need a name for its type, which has those of two closures, and
 // there is no `impl Trait` as a result.
 
-// A field by its number, from 0; empty where the line has fewer.
+// A field by its number, from 0; empty where the line has fewer, as in the definition: no name and no number is empty.
 pub fn field(line: &[u8], k: u8) -> &[u8]
     ensures { result.now ≡ get_or (fields line.now) k [] }
 {

@@ -24,7 +24,9 @@ pub struct ReadFailed {
 }
 
 // Reads until the buffer is full, the input ends or a read fails, and gives how many bytes were read; a read may give less than it is asked
-// for. Where the reader's bytes are known, those are the first of them, and all of them if no read failed and the buffer is not full.
+// for. A number and no part of the buffer: the contract speaks of the whole buffer, and a read that fails leaves what it gave there too. So
+// it is with the functions below. Where the reader's bytes are known, those are the first of them, and all of them if no read failed and
+// the buffer is not full.
 pub fn read_input<R: Read>(reader: &mut R, buffer: &mut [u8]) -> Result<usize, ReadFailed>
     ensures bound { IsPrefixLen (bytes_read result) buffer.new }
     ensures bytes { Consumes (R.remaining reader.old) (R.remaining reader.new) (take (bytes_read result) buffer.new) }

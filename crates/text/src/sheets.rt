@@ -1,4 +1,6 @@
-// Programs that are lent a sheet and a list of languages, and hand both to `tell`, which writes what they say of them.
+// Programs that are lent a sheet and a list of languages, and hand both to `tell`, which writes what they say of them: two arguments, as in
+// the definitions. Each function here makes room for the two, reads them and gives up at the first that is not read; they differ in who
+// reads and in what a failure says, so that one for both would take two closures that read.
 use crate::output::{say_failure, say_usage, write_output};
 use crate::reading::{
     LANGS_ROOM, arg_count, read_argument, read_input, read_langs, write_argument,

@@ -8,7 +8,8 @@ use crate::lines::part;
 use std::fmt;
 use values::Gain;
 
-// A text in a lent buffer: its first `count` bytes. No heap in this project, so the count stands beside the buffer.
+// A text in a lent buffer: its first `count` bytes. No heap in this project, so the count stands beside the buffer. That the buffer is
+// still the same one is a clause of its own where `Appends`, which says it too, doesn't stand.
 #[derive(Drop)]
 pub struct Text<'a> {
     pub buffer: &'a mut [u8],

@@ -31,8 +31,8 @@ pub fn or_else(w: u16, other: u16) -> u16
     if is_absent(w) { other } else { w }
 }
 
-// A legal value, minimum and maximum: each a definition over one of gains and one of offsets; one function for all three would take which of
-// the six to ask.
+// A legal value, minimum and maximum: each a definition over one of gains and one of offsets; one function for all three would take which
+// of the six to ask.
 
 // A legal value of that sort.
 #[tactic(auto, unfolding(crate::specs::Values::is_value))]
@@ -67,8 +67,8 @@ pub fn is_maximum(sort: Sort, w: u16) -> bool
     }
 }
 
-// The value `w` lies in the range from `lo` to `hi`, both included. The word of silence is that of the least number, so one order of
-// numbers serves both sorts: the derived order of gains, which asks first what they are, takes 5 % more instructions on a large sheet.
+// The value `w` lies in the range from `lo` to `hi`, both included. The word of silence is that of the least number, so that one order
+// of numbers serves both sorts, and no sort is asked.
 pub fn in_range(sort: Sort, lo: u16, w: u16, hi: u16) -> bool
     ensures { result ≡ in_range sort lo w hi }
 {

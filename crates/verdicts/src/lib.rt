@@ -1,5 +1,5 @@
 // A verdict as a line of text, for every program that prints one: `verdict_line` is the line of the verdict on lent bytes, a sheet and the
-// list of languages beside it.
+// list of languages beside it, two arguments as in the definitions.
 #![tactic(auto)]
 
 ghost use Rattle.checker.specs.Checked.{checked};
@@ -46,7 +46,8 @@ pub fn verdict_line(sheet: &[u8], langs: &[u8], line: &mut [u8; VERDICT_ROOM]) -
 }
 
 // Prints the line of a sheet's verdict under a list of languages. `write_figures` (crates/figurelines/src/lib.rt) has the same steps over
-// another room: one function for both would take the room and a closure that fills it, and require that its count is at most the room.
+// another room, as `figures_text` has those of `verdict_line`: one function for both would take the room and a closure that fills it, and
+// require that its count is at most the room.
 pub fn write_verdict<R: Print + Eprint>(rt: &R, sheet: &[u8], langs: &[u8]) {
     let mut line = [0u8; VERDICT_ROOM];
     let length = verdict_line(sheet, langs, &mut line);

@@ -10,9 +10,9 @@ pub returns : goal.returns
 returns c =
     λ e.
     let s = sheet_of c.args.s.now in let t = c.args.tables in
-    let nought = c.requires in let tops = c.count_tops.ensures in let lists = c.count_lists.ensures in let contents = c.count_contents.ensures in
+    let nought = c.requires in let tops = c.count_tops.ensures in let lists = c.count_lists.ensures in let contents = c.count_namings.ensures in
     let named_right = named_made s t.named.now c.count_tops.new.named c.count_lists.new.named nought.0 tops.2 lists.0 tops.3 lists.1 in
-    let listed_right = counts_made s t.listed.now c.count_contents.new.listed nought.2 contents.0 ContentLists contents.1 in
+    let listed_right = counts_made s t.listed.now c.count_namings.new.table nought.2 contents.0 ContentLists contents.1 in
     let tops_right = counts_made s t.tops.now c.count_tops.new.tops nought.3 tops.0 ContentObjects tops.1 in
     let complements_right = counts_made s t.complements.now c.count_lists.new.complements nought.4 lists.2 Complements lists.3 in
     let spanned_right = spans_made s t.spanned.now c.count_lists.new.spanned nought.1 lists.4 lists.5 in
