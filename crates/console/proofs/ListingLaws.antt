@@ -31,6 +31,12 @@ tracks_room : (s : Sheet) (langs : List ℕ) (st : State) → listing_answer s l
 tracks_room s langs st d = rw (tracks_number s st) (done_room s langs st enough_words d)
 
 module _ (s : Sheet) (langs : List ℕ) (st : State) (r : Result ℕ Refusal) (words : List ℕ) (e : r ≡ listed s langs st enough_words) (f : words ≡ buffered s langs st (replicate enough_words 0)) where
+  -- the answer of a listing, whether it is refused or done
+  pub listing_answer_lem : ((q : Refusal) → r ≡ Err q → listing_answer s langs st enough_words ≡ Err q) × ((k : ℕ) → r ≡ Ok k → listing_answer s langs st enough_words ≡ Ok tt)
+  unfolding listed
+  listing_answer_lem =
+      (told_refusal r (length (entries s st)) (listing_answer s langs st enough_words) e, λ k g. (told_number r (length (entries s st)) (listing_answer s langs st enough_words) e k g).0)
+
   pub refused_line : (q : Refusal) → r ≡ Err q → listing_line s langs st ≡ tracks_line (listed_tracks s st) (Err q)
   unfolding listed listing_line
   refused_line q g = rw (told_refusal r (length (entries s st)) (listing_answer s langs st enough_words) e q g) refl

@@ -11,7 +11,9 @@ use Rattle.listener.specs.declared.State.{State}
 use Rattle.listener.specs.declared.Refusal.{Refusal}
 use Rattle.listener.specs.declared.Reply.{Reply}
 use Rattle.listener.specs.State.{state_objects}
-use Rattle.listener.specs.Calls.{Answer, Ground, answer_by, reply_by, with_setting}
+use Rattle.sheet.specs.Words.{Sheet}
+use Rattle.listener.specs.Calls.{Answer, Ground, answer_by, chosen_programme, programme_answer, reply_by, with_setting}
+use Rattle.listener.specs.Programme.{started}
 
 -- two grounds, asked before the rest: neither holds, or the call is refused by one
 module _ (g h : Ground) (rest : List Ground) (a : Answer) (e : a ≡ answer_by (g ∷ h ∷ [])) where
@@ -67,3 +69,8 @@ stored st o x l = rw (lt-ltb o state_objects l) refl
 pub unstored : (st : State) (o : ℕ) (x : Setting) → state_objects ≤ o → st ≡ with_setting st o x
 unfolding with_setting
 unstored st o x l = rw (le-ltb o state_objects l) refl
+
+-- a programme choice by its answer
+pub programme_reply : (s : Sheet) (langs : List ℕ) (st : State) (p : ℕ) (a : Answer) → programme_answer s langs st p ≡ a → chosen_programme s langs st p ≡ reply_by a st (started s p)
+unfolding chosen_programme
+programme_reply s langs st p a e = ap (λ (x : Answer). reply_by x st (started s p)) e

@@ -28,15 +28,6 @@ pub slice_bounds-write_words-end : goal.slice_bounds-write_words-end
 slice_bounds-write_words-end c =
     let l = c.list_start in let t = told _ _ _ _ _ l.ensures.0 l.ensures.1 _ c.in_ok-entries.was in sym (length-take-le _ _ (omega (arith, t.most, t.long)))
 
-pub write_words-requires : goal.write_words-requires
-write_words-requires c =
-    let l = c.list_start in
-    let t = told _ _ _ _ _ l.ensures.0 l.ensures.1 _ c.in_ok-entries.was in
-    let e : length (take c.in_ok-entries.entries l.new.buffer) ≡ c.in_ok-entries.entries = length-take-le _ _ (omega (arith, t.most, t.long)) in rw e c.if-buffer-n.false
-
-pub shape_of-buffer : goal.shape_of-buffer
-shape_of-buffer c = ap length c.write_words.ensures ∙ simp length-sets
-
 pub returns : goal.returns
 returns c =
     let l = c.list_start in rw c.write_words.ensures (enough_bytes (told _ _ _ _ _ l.ensures.0 l.ensures.1 _ c.in_ok-entries.was) c.args.buffer.now c.if-buffer-n.false)

@@ -11,9 +11,6 @@ use Rattle.host.proofs.listing.write_words.Goals as goal
 pub loop-i-init : goal.loop-i-init
 loop-i-init c = written_none _ _ _ _
 
-pub overflow_mul-buffer : goal.overflow_mul-buffer
-overflow_mul-buffer c = record { fits = omega (arith, c.requires) }
-
 pub loop-i-preserved : goal.loop-i-preserved
 unfolding two_bytes
 loop-i-preserved c =
