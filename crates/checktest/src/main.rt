@@ -3,11 +3,26 @@
 // (tools/store-sheets).
 #![tactic(auto)]
 
-use text::sheets::tell_pairs;
+use std::io::Write;
+use text::output::Output;
+use text::reading::{arg_count, write_argument};
+use text::sheets::tell_files;
 use verdicts::write_verdict;
 
 fn main(rt: HostRuntime) {
-    tell_pairs(&rt, "checktest LANGS SHEET ..", b": ", |sheet, langs| {
-        write_verdict(&rt, sheet, langs)
-    });
+    let count = arg_count(&rt);
+    if count % 2 == 0 {
+        let _ = eprintln!(rt; "usage: checktest LANGS SHEET ..");
+        return;
+    }
+    for k in 0..count / 2 {
+        let sheet_at = 2 * k + 2;
+        // what can't be read or written is told, and ends nothing
+        let _ = tell_files(&rt, 2 * k + 1, sheet_at, |sheet, langs| {
+            write_argument(&rt, sheet_at);
+            let mut output = Output { rt: &rt };
+            output.write_all(b": ")?;
+            write_verdict(&mut output, sheet, langs)
+        });
+    }
 }

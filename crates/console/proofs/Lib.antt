@@ -3,3 +3,4 @@ mod AnswerLaws
 mod PutLaws
 mod ListingLaws
 pub mod BenchGuaranteed
+pub mod InputLaws

@@ -1,12 +1,13 @@
 -- The listening bench: what a command does to the listener's state, and what it is answered. All its calls are lent one sheet, `s`, and
 -- one list of languages, `langs`. Assumes nothing.
-use Rattle.std.specs.Prelude.{ℕ, Bool, true, false, List, [], ◌∷◌, Option, Some, None}
+use Rattle.std.specs.Prelude.{ℕ, Bool, true, false, cond, not, List, [], ◌∷◌, ◌++◌, Option, Some, None, eqb}
 use Rattle.sheet.specs.Words.{Sheet}
 use Rattle.listener.specs.declared.State.{State}
+use Rattle.listener.specs.Calls.{opened}
 use Rattle.guarantee.specs.Run as run
 use Rattle.guarantee.specs.Run.{reply}
-use Rattle.text.specs.Lines.{part, said}
-use Rattle.text.specs.Buffer.{Buffer, buffer, put_text}
+use Rattle.text.specs.Lines.{part, said, lines}
+use Rattle.text.specs.Buffer.{Buffer, buffer, put_byte, put_text}
 use Rattle.console.specs.declared.commands.Call.{Call}
 use Rattle.console.specs.declared.commands.Call.TheVariants.{Programme, Object, Gain, Offset}
 use Rattle.console.specs.declared.commands.Command.{Command}
@@ -64,3 +65,26 @@ answered_line s langs st line false = record { state = st; line = line; answer =
 -- more bytes of the line were read, and it is whole or not
 unfoldable pub answered_part : Sheet → List ℕ → State → Buffer → List ℕ → Bool → Turn
 answered_part s langs st line more whole = answered_line s langs st (put_text line more) whole
+
+-- a byte of the line was read
+unfoldable pub answered_byte : Sheet → List ℕ → State → Buffer → ℕ → Turn
+answered_byte s langs st line b = cond (eqb b 10) (answered_line s langs st line true) (answered_line s langs st (put_byte line b) false)
+
+-- what is written for an input from here on, where the line was begun: a newline, which is 10, ends the line, and it is answered; at the end of
+-- the input a line without one is answered, unless it is empty
+unfoldable pub answers_from : Sheet → List ℕ → State → Buffer → List ℕ → List ℕ
+answers_from s langs st line [] = (answered_line s langs st line (not (eqb line.count 0))).answer
+answers_from s langs st line (b ∷ input) =
+    let t = answered_byte s langs st line b in
+    t.answer ++ answers_from s langs t.state t.line input
+
+-- what is written for lines, each answered in the state that those before it left
+unfoldable pub lines_answered : Sheet → List ℕ → State → List (List ℕ) → List ℕ
+lines_answered s langs st [] = []
+lines_answered s langs st (line ∷ rest) =
+    let c = command_of (said line) in
+    answer_to s langs st c ++ lines_answered s langs (state_after s langs st c) rest
+
+-- what the program `listen` writes for an input: the opening's answer, and those to the lines of the input
+unfoldable pub bench_text : Sheet → List ℕ → List ℕ → List ℕ
+bench_text s langs input = answer_line (opened s langs).answer ++ lines_answered s langs (opened s langs).state (lines input)

@@ -11,7 +11,8 @@ use Rattle.text.specs.Lines.{lines_from}
 use Rattle.text.specs.Buffer.{Buffer, buffer, put_byte}
 use Rattle.factorlines.specs.FactorLines.{factor_line}
 use Rattle.factorlines.specs.Reading.{Reading, reading, kept, after_byte, after_read, last_answer, written_for}
-use Rattle.factorlines.proofs.KeptLaws.{Holds, holds_none, holds_more, count_none, count_some, kept_answer}
+use Rattle.text.proofs.KeptLaws.{Holds, holds_none, holds_more, count_none, count_some}
+use Rattle.factorlines.proofs.KeptLaws.{kept_answer}
 
 -- the answers to the lines of a text, of whose first line l was read
 abbrev answers : List ℕ → List ℕ → List ℕ

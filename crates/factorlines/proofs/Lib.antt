@@ -3,3 +3,4 @@ pub mod ReadingLaws
 pub mod KeptLaws
 pub mod InputLaws
 pub mod Theorems
+pub mod FromLaws

@@ -8,7 +8,7 @@ use Rattle.text.specs.Buffer.{buffer}
 use Rattle.text.specs.Lines.{lines}
 use Rattle.factorlines.specs.FactorLines.{factor_lines}
 use Rattle.factorlines.specs.Reading.{written_for}
-use Rattle.factorlines.proofs.KeptLaws.{holds_none}
+use Rattle.text.proofs.KeptLaws.{holds_none}
 use Rattle.factorlines.proofs.InputLaws.{input_answered}
 
 -- for an input that comes in any reads, into a line's buffer that has whatever bytes, the answers to its lines are written

@@ -34,3 +34,7 @@ last_answer line = cond (eqb line.count 0) [] (factor_line (kept line))
 unfoldable pub written_for : Buffer → List (List ℕ) → List ℕ
 written_for line [] = last_answer line
 written_for line (s ∷ reads) = (after_read (reading line []) s).answers ++ written_for (after_read (reading line []) s).line reads
+
+-- what is written for an input from here on, where the line was begun
+abbrev pub answers_from : Buffer → List ℕ → List ℕ
+answers_from line input = written_for line (input ∷ [])

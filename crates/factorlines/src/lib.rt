@@ -2,4 +2,5 @@
 #![tactic(auto)]
 
 pub mod answers;
+pub mod converter;
 pub mod reading;

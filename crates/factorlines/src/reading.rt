@@ -4,10 +4,8 @@ ghost use Rattle.factorlines.specs.Reading.{after_read, last_answer, reading};
 ghost use Rattle.text.specs.Buffer.{TextFilled, written};
 
 use crate::answers::put_factor_line;
+use text::answering::READ_ROOM;
 use text::writing::Text;
-
-// The most bytes of a read.
-pub const READ_ROOM: usize = 4096;
 
 // More room than the answers to the lines of a read take: at most 22 bytes for each byte.
 pub const ANSWERS_ROOM: usize = 22 * READ_ROOM;

@@ -2,7 +2,8 @@
 // Sheet and list are two arguments, as in the definitions.
 #![tactic(auto)]
 
-ghost use Rattle.std.specs.Prelude.{map, ◌≡◌};
+ghost use Rattle.std.specs.Io.KnownBytes.{Appends as AppendsKnown};
+ghost use Rattle.std.specs.Prelude.{map, OnOk, ◌≡◌};
 ghost use Rattle.figurelines.specs.FigureLines.{figure_line, figures_text};
 ghost use Rattle.figures.specs.Clashes.{printed};
 ghost use Rattle.figures.specs.Figures.{figures};
@@ -15,7 +16,7 @@ ghost use Rattle.text.specs.Decimal.{signed_decimal};
 use checker::search::check;
 use figures::by_verdict::figures_by;
 use figures::{Figure, FigureNumber, Figures};
-use text::output::write_output;
+use std::io::{Error, Write};
 use text::writing::Text;
 use values::signed::signed;
 use verdicts::put_verdict;
@@ -80,10 +81,12 @@ pub fn figures_text(sheet: &[u8], langs: &[u8], lines: &mut [u8; FIGURES_ROOM]) 
     text.count
 }
 
-// Prints the line of a sheet's verdict under a list of languages and a line for each figure.
-pub fn write_figures<R: Print + Eprint>(rt: &R, sheet: &[u8], langs: &[u8]) {
+// Writes the line of a sheet's verdict under a list of languages and a line for each figure.
+#[tactic(auto, using(text::proofs::AnsweringLaws::filled_written))]
+pub fn write_figures<W: Write>(output: &mut W, sheet: &[u8], langs: &[u8]) -> Result<(), Error>
+    ensures { OnOk result (AppendsKnown (W.contents output.old) (W.contents output.new) (figures_text (sheet_of sheet.now) (words langs.now))) }
+{
     let mut lines = [0u8; FIGURES_ROOM];
     let length = figures_text(sheet, langs, &mut lines);
-    // a failure is told, and ends nothing
-    let _ = write_output(rt, &lines[..length]);
+    output.write_all(&lines[..length])
 }

@@ -4,10 +4,25 @@
 #![tactic(auto)]
 
 use figurelines::write_figures;
-use text::sheets::tell_pairs;
+use std::io::Write;
+use text::output::Output;
+use text::reading::{arg_count, write_argument};
+use text::sheets::tell_files;
 
 fn main(rt: HostRuntime) {
-    tell_pairs(&rt, "figurestest LANGS SHEET ..", b":\n", |sheet, langs| {
-        write_figures(&rt, sheet, langs)
-    });
+    let count = arg_count(&rt);
+    if count % 2 == 0 {
+        let _ = eprintln!(rt; "usage: figurestest LANGS SHEET ..");
+        return;
+    }
+    for k in 0..count / 2 {
+        let sheet_at = 2 * k + 2;
+        // what can't be read or written is told, and ends nothing
+        let _ = tell_files(&rt, 2 * k + 1, sheet_at, |sheet, langs| {
+            write_argument(&rt, sheet_at);
+            let mut output = Output { rt: &rt };
+            output.write_all(b":\n")?;
+            write_figures(&mut output, sheet, langs)
+        });
+    }
 }

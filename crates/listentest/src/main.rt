@@ -9,7 +9,7 @@ use console::Lent;
 use scripts::answer_script;
 use std::env::Env;
 use std::fs::Files;
-use text::output::{say_usage, write_output};
+use text::output::write_output;
 use text::reading::{arg_count, read_argument, refuse_argument, write_argument};
 use text::sheets::tell_files;
 
@@ -33,12 +33,13 @@ fn run_script<R: Env + Files + Print + Eprint>(rt: &R, lent: Lent, i: usize) {
 fn main(rt: HostRuntime) {
     let count = arg_count(&rt);
     if count % 3 != 1 {
-        say_usage(&rt, "listentest LANGS SHEET SCRIPT ..");
+        let _ = eprintln!(rt; "usage: listentest LANGS SHEET SCRIPT ..");
         return;
     }
     for k in 0..count / 3 {
         let script_at = 3 * k + 3;
-        tell_files(&rt, 3 * k + 1, 3 * k + 2, |sheet, langs| {
+        // what can't be read is told, and ends nothing
+        let _ = tell_files(&rt, 3 * k + 1, 3 * k + 2, |sheet, langs| {
             run_script(&rt, Lent { sheet, langs }, script_at)
         });
     }

@@ -2,6 +2,8 @@
 // `accepted`, or a line like `rule 14 section 3 record 0`.
 #![tactic(auto)]
 
+use text::output::Output;
+use text::reading::arg_count;
 use text::sheets::tell_input;
 use verdicts::write_verdict;
 
@@ -9,9 +11,13 @@ use verdicts::write_verdict;
 // can't rise, and breaks rule 33 (`cut_input`, `cut_langs`, crates/verdicts/proofs/LongInput.antt). No file `langs` is an empty list. An
 // argument, or a read that fails, gives no verdict: standard error says why.
 fn main(rt: HostRuntime) {
-    tell_input(
+    if arg_count(&rt) > 1 {
+        let _ = eprintln!(rt; "usage: sheetcheck <FILE");
+        return;
+    }
+    // what can't be read or written is told, and ends the program
+    let _ = tell_input(
         &rt,
-        "sheetcheck <FILE",
-        |sheet, langs| write_verdict(&rt, sheet, langs),
+        |sheet, langs| write_verdict(&mut Output { rt: &rt }, sheet, langs),
     );
 }

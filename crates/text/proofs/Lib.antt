@@ -3,3 +3,5 @@ pub mod BytesLaws
 pub mod DecimalLaws
 mod LineLaws
 pub mod BufferLaws
+pub mod AnsweringLaws
+pub mod KeptLaws

@@ -4,3 +4,5 @@ pub mod Decimal
 pub mod Lines
 pub mod Buffer
 pub mod Reading
+pub mod Answering
+pub mod Sheets

@@ -3,12 +3,14 @@
 #![tactic(auto)]
 
 ghost use Rattle.checker.specs.Checked.{checked};
+ghost use Rattle.std.specs.Io.KnownBytes.{Appends as AppendsKnown};
+ghost use Rattle.std.specs.Prelude.{OnOk};
 ghost use Rattle.verdicts.specs.VerdictLine.{verdict_line};
 ghost use Rattle.text.specs.Buffer.{Appends, TextFilled};
 
 use checker::search::check;
 use profile::Verdict;
-use text::output::write_output;
+use std::io::{Error, Write};
 use text::writing::Text;
 
 // More room than any line of a verdict takes.
@@ -45,12 +47,14 @@ pub fn verdict_line(sheet: &[u8], langs: &[u8], line: &mut [u8; VERDICT_ROOM]) -
     text.count
 }
 
-// Prints the line of a sheet's verdict under a list of languages. `write_figures` (crates/figurelines/src/lib.rt) has the same steps over
+// Writes the line of a sheet's verdict under a list of languages. `write_figures` (crates/figurelines/src/lib.rt) has the same steps over
 // another room, as `figures_text` has those of `verdict_line`: one function for both would take the room and a closure that fills it, and
 // require that its count is at most the room.
-pub fn write_verdict<R: Print + Eprint>(rt: &R, sheet: &[u8], langs: &[u8]) {
+#[tactic(auto, using(text::proofs::AnsweringLaws::filled_written))]
+pub fn write_verdict<W: Write>(output: &mut W, sheet: &[u8], langs: &[u8]) -> Result<(), Error>
+    ensures { OnOk result (AppendsKnown (W.contents output.old) (W.contents output.new) (verdict_line (checked sheet.now langs.now))) }
+{
     let mut line = [0u8; VERDICT_ROOM];
     let length = verdict_line(sheet, langs, &mut line);
-    // a failure is told, and ends nothing
-    let _ = write_output(rt, &line[..length]);
+    output.write_all(&line[..length])
 }
