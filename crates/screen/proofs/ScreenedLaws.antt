@@ -6,6 +6,7 @@ use mathlib.Core.Bool.{Bool, true, false, ◌||◌}
 use native.Mathlib.Omega.{arith}
 use lib.Dec.{eqb, leb, ltb}
 use borrow.Author.Tests.{eqb-true, ltb-true, leb-true, not-false}
+use Rattle.std.specs.List.{list_any, range_with_len}
 use Rattle.sheet.specs.Words.{Sheet}
 use Rattle.sheet.specs.Layout.{count, start, first, number}
 use Rattle.sheet.specs.Fields.{programmes, contents, objects, packs, tracks, value_sets, content_list, set_span}
@@ -95,12 +96,9 @@ module _ (s : Sheet) (langs : List ℕ) (rises : is_rising langs ≡ true) (head
   unfolding rule6
   pack_rule6 k l = simp (pack_at_lem k l).0
 
-  header_parts : (rule1 s 0 0 ≡ false) × (rule2 s 0 0 ≡ false) × (rule3 s 1 0 ≡ false) × (rule3 s 2 0 ≡ false) × (rule3 s 3 0 ≡ false) × (rule3 s 4 0 ≡ false) × (rule3 s 5 0 ≡ false) × (rule3 s 6 0 ≡ false) × (rule3 s 7 0 ≡ false) × (rule7 s 1 0 ≡ false) × (rule7 s 2 0 ≡ false) × (rule7 s 3 0 ≡ false) × (rule7 s 4 0 ≡ false) × (rule7 s 5 0 ≡ false)
+  header_parts : (rule1 s 0 0 ≡ false) × (rule2 s 0 0 ≡ false) × (list_any (λ section. rule3 s section 0) (range_with_len 1 7) ≡ false) × (list_any (λ section. rule7 s section 0) (range_with_len 1 5) ≡ false)
   unfolding header_broken
-  header_parts =
-      let p = or_none_8 (rule1 s 0 0 || rule2 s 0 0 || rule3 s 1 0 || rule3 s 2 0 || rule3 s 3 0 || rule3 s 4 0 || rule3 s 5 0) (rule3 s 6 0) (rule3 s 7 0) (rule7 s 1 0) (rule7 s 2 0) (rule7 s 3 0) (rule7 s 4 0) (rule7 s 5 0) header in
-      let q = or_none_7 (rule1 s 0 0) (rule2 s 0 0) (rule3 s 1 0) (rule3 s 2 0) (rule3 s 3 0) (rule3 s 4 0) (rule3 s 5 0) p.0 in
-      (q.0, q.1, q.2, q.3, q.4, q.5, q.6, p.1, p.2, p.3, p.4, p.5, p.6, p.7)
+  header_parts = or_none_4 (rule1 s 0 0) (rule2 s 0 0) (list_any (λ section. rule3 s section 0) (range_with_len 1 7)) (list_any (λ section. rule7 s section 0) (range_with_len 1 5)) header
 
   -- a rule is kept at all its places
   abbrev kept : ℕ → Type 0
@@ -120,7 +118,7 @@ module _ (s : Sheet) (langs : List ℕ) (rises : is_rising langs ≡ true) (head
 
   kept_3 : kept 3
   unfolding any breaks subjects subject_kind
-  kept_3 = rule_kept s langs 3 (rw (header_parts.2, header_parts.3, header_parts.4, header_parts.5, header_parts.6, header_parts.7, header_parts.8) refl)
+  kept_3 = rule_kept s langs 3 (let sections = header_parts.2 in grind arith)
 
   kept_4 : kept 4
   unfolding any breaks subjects subject_kind
@@ -136,7 +134,7 @@ module _ (s : Sheet) (langs : List ℕ) (rises : is_rising langs ≡ true) (head
 
   kept_7 : kept 7
   unfolding any breaks subjects subject_kind
-  kept_7 = rule_kept s langs 7 (rw (header_parts.9, header_parts.10, header_parts.11, header_parts.12, header_parts.13) refl)
+  kept_7 = rule_kept s langs 7 (let sections = header_parts.3 in grind arith)
 
   kept_8 : kept 8
   unfolding any breaks subjects subject_kind

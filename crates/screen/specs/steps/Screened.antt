@@ -1,4 +1,5 @@
 -- What the screening of a sheet tests of a record. Assumes nothing.
+use Rattle.std.specs.List.{list_any, range_with_len}
 use Rattle.std.specs.Prelude.{ℕ, ◌<◌, Bool, false, ◌||◌, ◌≡◌, List}
 use Rattle.sheet.specs.Words.{Sheet}
 use Rattle.sheet.specs.Layout.{count}
@@ -17,18 +18,8 @@ unfoldable pub header_broken : Sheet → Bool
 header_broken s =
     rule1 s 0 0
     || rule2 s 0 0
-    || rule3 s 1 0
-    || rule3 s 2 0
-    || rule3 s 3 0
-    || rule3 s 4 0
-    || rule3 s 5 0
-    || rule3 s 6 0
-    || rule3 s 7 0
-    || rule7 s 1 0
-    || rule7 s 2 0
-    || rule7 s 3 0
-    || rule7 s 4 0
-    || rule7 s 5 0
+    || list_any (λ section. rule3 s section 0) (range_with_len 1 7)
+    || list_any (λ section. rule7 s section 0) (range_with_len 1 5)
 
 -- no record of sections 1 to 5 breaks a rule from 4 to 20; an object, also by a set of its. Rule 12 is that of contents
 pub record RecordsKept (s : Sheet) (langs : List ℕ) : Type 0 where
