@@ -28,22 +28,13 @@ use tables::ObjectTables;
 use tables::reads::{look, top_by};
 use values::Sort;
 
-// Whether a list or span of so many entries is above a limit. Most have none, and need no limit looked up.
+// Whether a list or span ends beyond a section of so many records, or is above a limit. Most have no entries, and no limit is looked up for
+// them: without that, `children of one object` takes 5.4 % more instructions, where the bar is 5 % (docs/DECISIONS.md, 135).
 #[tactic(auto, using(lists::proofs::LimitLaws::no_excess))]
-fn exceeding(s: &[u8], column: u8, n: u16) -> bool
-    ensures { result ≡ exceeds (sheet_of s.now) column n }
-{
-    if n == 0 {
-        return false;
-    }
-    exceeds(s, column, u64::from(n))
-}
-
-// Whether a list or span ends beyond a section of so many records, or is above a limit.
 fn list_breaks(s: &[u8], many: u16, list: Span, column: u8) -> bool
     ensures { result ≡ (ltb many (list.first + list.count) || exceeds (sheet_of s.now) column list.count) }
 {
-    list.is_beyond(many) | exceeding(s, column, list.count)
+    list.is_beyond(many) | (list.count != 0 && exceeds(s, column, u64::from(list.count)))
 }
 
 impl ObjectValues {
