@@ -5,12 +5,10 @@ ghost use Rattle.sheet.specs.Words.{sheet_of};
 ghost use Rattle.granted.specs.steps.Tables.{ProgrammeTabled};
 
 use crate::settings::resting;
-use crate::sounding::enter_included;
+use crate::sounding::enter_tables;
 use crate::{STATE_OBJECTS, Setting, State};
 use granted::ProgrammeTables;
 use granted::programme::start_value;
-use tables::Naming;
-use tables::marks::first_namers;
 use tables::reads::included_by;
 use values::Sort;
 use values::gains::gain_of;
@@ -32,19 +30,13 @@ fn start_setting(s: &[u8], p: u16, tables: ProgrammeTables, o: u16) -> Setting
 }
 
 // A programme as it starts. What it doesn't include, as all numbers from n on, is at rest. The loop goes by the objects' numbers, which the
-// sheet and the tables are read by. The arrays are this call's own, and the tables lend them: a struct that owned both, made by a function
-// of its own for this one and `sound`, would have 168 words, and its contract would say of the marks and n what `enter_included` says.
+// sheet and the tables are read by.
 pub fn started(s: &[u8], p: u16) -> State
     ensures { result ≡ started (sheet_of s.now) p }
 {
-    let mut leaders: [u16; STATE_OBJECTS] = [0; STATE_OBJECTS];
-    first_namers(s, Naming::Complements, &mut leaders);
-    let mut marks: [u16; STATE_OBJECTS] = [0; STATE_OBJECTS];
-    let n = enter_included(s, p, &mut marks);
-    let tables = ProgrammeTables {
-        leaders: &leaders,
-        included: &marks,
-    };
+    let mut leaders = [0; STATE_OBJECTS];
+    let mut marks = [0; STATE_OBJECTS];
+    let (tables, n) = enter_tables(s, p, &mut leaders, &mut marks);
     let mut objects = [resting(); STATE_OBJECTS];
     for o in 0..n {
         objects[usize::from(o)] = start_setting(s, p, tables, o);

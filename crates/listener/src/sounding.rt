@@ -36,6 +36,27 @@ pub fn enter_included(s: &[u8], p: u16, marks: &mut [u16]) -> u16
     past
 }
 
+// The tables of a programme's objects, written into memory that the caller lends, and the number that `enter_included` gives. That the
+// memory has noughts is a premise, as there.
+pub(crate) fn enter_tables<'a>(
+    s: &[u8],
+    p: u16,
+    leaders: &'a mut [u16],
+    marks: &'a mut [u16],
+) -> (ProgrammeTables<'a>, u16)
+    ensures within { result.1 ≤ state_objects }
+    ensures none_past { (o : ℕ) → result.1 ≤ o → o < state_objects → includes (sheet_of s.now) p o ≡ false }
+    ensures tabled { Standing (λ x. 0) leaders.old → Standing (λ x. 0) marks.old → ProgrammeTabled (sheet_of s.now) p result.0 }
+{
+    first_namers(s, Naming::Complements, leaders);
+    let n = enter_included(s, p, marks);
+    let tables = ProgrammeTables {
+        leaders,
+        included: marks,
+    };
+    (tables, n)
+}
+
 // Whether an object is active: none past the last is.
 fn is_active(state: &State, o: u16) -> bool
     ensures { result ≡ active state.now o }
@@ -67,14 +88,9 @@ pub fn sound(s: &[u8], state: &State) -> bool
     if count(s, PROGRAMMES) <= p {
         return false;
     }
-    let mut leaders: [u16; STATE_OBJECTS] = [0; STATE_OBJECTS];
-    first_namers(s, Naming::Complements, &mut leaders);
-    let mut marks: [u16; STATE_OBJECTS] = [0; STATE_OBJECTS];
-    let n = enter_included(s, p, &mut marks);
-    let tables = ProgrammeTables {
-        leaders: &leaders,
-        included: &marks,
-    };
+    let mut leaders = [0; STATE_OBJECTS];
+    let mut marks = [0; STATE_OBJECTS];
+    let (tables, n) = enter_tables(s, p, &mut leaders, &mut marks);
     let mut good = true;
     for o in 0..n {
         good &= sound_at(s, state, tables, o);

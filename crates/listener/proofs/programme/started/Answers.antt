@@ -6,7 +6,6 @@ use Rattle.listener.specs.State.{state_objects}
 use Rattle.listener.specs.Programme.{started}
 use Rattle.listener.proofs.FillLaws.{begun_none, begun_more, begun_all}
 use Rattle.listener.proofs.RestLaws.{rest_start}
-use Rattle.listener.proofs.StepLaws.{leaders_made}
 use Rattle.listener.proofs.programme.started.Goals as goal
 
 pub loop-o-init : goal.loop-o-init
@@ -14,13 +13,12 @@ loop-o-init c = rw c.resting-objects.ensures (begun_none _ _ _ _)
 
 pub loop-o-preserved : goal.loop-o-preserved
 loop-o-preserved c =
-    let f = c.first_namers in let s = sheet_of c.args.s.now in
+    let t = c.enter_tables-n.ensures in
     rw c.from.ensures
-    (begun_more _ c.loop-o.invariant (omega (arith, c.loop-o-test.true, c.enter_included-n.ensures.1))
-    (c.start_setting.ensures (leaders_made s state_objects f.new.table f.ensures.1, c.enter_included-n.ensures.3 (λ x l. nought state_objects x))))
+    (begun_more _ c.loop-o.invariant (omega (arith, c.loop-o-test.true, t.within)) (c.start_setting.ensures (t.tabled (λ x l. nought state_objects x) (λ x l. nought state_objects x))))
 
 pub returns : goal.returns
 unfolding started
 returns c =
-    let a = c.args in let e : c.loop-o.o ≡ c.enter_included-n.result = omega arith in
-    rw (begun_all c.loop-o.invariant (λ k i j. rest_start (sheet_of a.s.now) a.p k (c.enter_included-n.ensures.2 k (omega (arith, e, i)) j)))
+    let a = c.args in let e : c.loop-o.o ≡ c.enter_tables-n.result.1 = omega arith in
+    rw (begun_all c.loop-o.invariant (λ k i j. rest_start (sheet_of a.s.now) a.p k (c.enter_tables-n.ensures.none_past k (omega (arith, e, i)) j)))

@@ -13,7 +13,7 @@ use Rattle.tables.proofs.MarkLaws.{nought}
 use Rattle.listener.specs.State.{state_objects, setting, is_resting}
 use Rattle.listener.specs.Sound.{sound, sound_at}
 use Rattle.listener.specs.steps.Settings.{resting_from}
-use Rattle.listener.proofs.StepLaws.{and_swap, leaders_made, element_setting}
+use Rattle.listener.proofs.StepLaws.{and_swap, element_setting}
 use Rattle.listener.proofs.RestLaws.{from_none, sound_parts}
 use Rattle.listener.proofs.sounding.sound.Goals as goal
 
@@ -26,13 +26,12 @@ unfolding every
 loop-o-init c = refl
 
 pub sound_at-good-requires : goal.sound_at-good-requires
-sound_at-good-requires c = omega (arith, c.loop-o-test.true, c.enter_included-n.ensures.1)
+sound_at-good-requires c = omega (arith, c.loop-o-test.true, c.enter_tables-n.ensures.within)
 
 pub loop-o-preserved : goal.loop-o-preserved
 unfolding every
 loop-o-preserved c =
-    let l = c.loop-o in let f = c.first_namers in
-    rw (add-one, l.invariant, c.sound_at-good.ensures (leaders_made (sheet_of c.args.s.now) state_objects f.new.table f.ensures.1, c.enter_included-n.ensures.3 (λ x l. nought state_objects x))) refl
+    rw (add-one, c.loop-o.invariant, c.sound_at-good.ensures (c.enter_tables-n.ensures.tabled (λ x l. nought state_objects x) (λ x l. nought state_objects x))) refl
 
 pub loop-o-2-init : goal.loop-o-2-init
 loop-o-2-init c = from_none _ _ _
@@ -41,17 +40,17 @@ pub loop-o-2-preserved : goal.loop-o-2-preserved
 unfolding every
 loop-o-2-preserved c =
     let l = c.loop-o-2 in let i = c.loop-o-2-test.true in let st = c.args.state.now in
-    rw (add-one, l.invariant, c.is_resting-good.ensures, c.from.ensures, element_setting st l.o i, le-ltb l.o c.enter_included-n.result l.auto.o)
-    (and_assoc c.loop-o.good (every (λ q. ltb q c.enter_included-n.result || is_resting (setting st q)) l.o) (is_resting (setting st l.o)))
+    rw (add-one, l.invariant, c.is_resting-good.ensures, c.from.ensures, element_setting st l.o i, le-ltb l.o c.enter_tables-n.result.1 l.auto.o)
+    (and_assoc c.loop-o.good (every (λ q. ltb q c.enter_tables-n.result.1 || is_resting (setting st q)) l.o) (is_resting (setting st l.o)))
 
 pub returns : goal.returns
 unfolding resting_from
 returns c =
-    let l = c.loop-o in let l2 = c.loop-o-2 in let n = c.enter_included-n.result in let a = c.args in let s = sheet_of a.s.now in
-    let e : l2.o ≡ state_objects = omega (arith, c.enter_included-n.ensures.1) in
+    let l = c.loop-o in let l2 = c.loop-o-2 in let n = c.enter_tables-n.result.1 in let a = c.args in let s = sheet_of a.s.now in
+    let e : l2.o ≡ state_objects = omega (arith, c.enter_tables-n.ensures.within) in
     let g : l.o ≡ n = omega arith in
     let good = every (sound_at s a.state.now) in
     l2.invariant
     ∙ ap₂ (λ (a b : Bool). a && b) (l.invariant ∙ ap good g) (ap (every (λ q. ltb q n || is_resting (setting a.state.now q))) e)
     ∙ and_swap (good n) (resting_from a.state.now n)
-    ∙ sym (sound_parts s a.state.now n c.enter_included-n.ensures.1 c.enter_included-n.ensures.2 (rw (← c.count.ensures) c.if-count-p.false))
+    ∙ sym (sound_parts s a.state.now n c.enter_tables-n.ensures.within c.enter_tables-n.ensures.none_past (rw (← c.count.ensures) c.if-count-p.false))
