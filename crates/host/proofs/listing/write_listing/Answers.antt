@@ -1,8 +1,7 @@
 -- The listing on words, which are always enough, as bytes. Assumes nothing.
-use mathlib.Core.Path.{◌≡◌, sym, ap, ◌∙◌}
+use mathlib.Core.Path.{◌≡◌, sym}
 use native.Mathlib.Omega.{arith}
-use lib.ListN.{length, take}
-use lib.Seq.{length-take-le, length-sets}
+use lib.Seq.{length-take-le}
 use borrow.Author.Rules.{rules}
 use Rattle.std.specs.Prelude.{Err}
 use Rattle.sheet.specs.Words.{sheet_of, words}
