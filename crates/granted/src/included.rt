@@ -12,12 +12,13 @@ use tables::reads::{included_by, leader_by};
 
 impl<'a> ProgrammeTables<'a> {
     // Whether the object is in a group that the programme wholly includes.
-    pub fn in_whole_group(&self, s: &[u8], p: u16, o: u16) -> bool
-        ensures { ProgrammeTabled (sheet_of s.now) p self.now → result ≡ in_whole_group (sheet_of s.now) p o }
+    pub fn in_whole_group(&self, s: &[u8], o: u16) -> bool
+        ensures { ProgrammeTabled (sheet_of s.now) self.now → result ≡ in_whole_group (sheet_of s.now) self.now.programme o }
     {
         let l = leader_by(s, self.leaders, o);
         if leader(s, l) {
-            members_passing(s, l, |q| included_by(s, p, self.included, q)) == members(s, l)
+            members_passing(s, l, |q| included_by(s, self.programme, self.included, q))
+                == members(s, l)
         } else {
             false
         }

@@ -101,18 +101,19 @@ pub fn in_whole_group(s: &[u8], p: u16, o: u16) -> bool
     ensures { result ≡ in_whole_group (sheet_of s.now) p o }
 {
     let tables = ProgrammeTables {
+        programme: p,
         leaders: &[],
         included: &[],
     };
-    tables.in_whole_group(s, p, o)
+    tables.in_whole_group(s, o)
 }
 
 impl<'a> ProgrammeTables<'a> {
     // "Active are included objects, but of a wholly included group the leader only."
     #[tactic(auto, unfolding(crate::specs::Granted::starts_active))]
-    pub fn starts_active(&self, s: &[u8], p: u16, o: u16) -> bool
-        ensures { ProgrammeTabled (sheet_of s.now) p self.now → result ≡ starts_active (sheet_of s.now) p o }
+    pub fn starts_active(&self, s: &[u8], o: u16) -> bool
+        ensures { ProgrammeTabled (sheet_of s.now) self.now → result ≡ starts_active (sheet_of s.now) self.now.programme o }
     {
-        !self.in_whole_group(s, p, o) | leader(s, o)
+        !self.in_whole_group(s, o) | leader(s, o)
     }
 }

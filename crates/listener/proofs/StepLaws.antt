@@ -1,12 +1,14 @@
 -- The steps of the code come to the machine's definitions. Assumes nothing.
-use Prim.Native.Nat.{ℕ, zero, suc, ◌<◌}
+use Prim.Native.Nat.{ℕ, zero, suc, ◌+◌, ◌<◌}
 use mathlib.Core.Path.{◌≡◌, refl, ap, ap₂, ◌∙◌}
 use mathlib.Core.Bool.{Bool, true, false, cond, ◌&&◌}
 use mathlib.Core.List.{List}
 use native.Mathlib.Omega.{arith}
 use borrow.Author.Tests.{lt-ltb}
 use lib.Dec.{ltb}
-use lib.ListN.{get_or, replicate}
+use lib.ListN.{get_or, replicate, drop}
+use borrow.Rule.Slice.PartMut.{mid_of}
+use Rattle.std.proofs.lemmas.List.{get_or-take, get_or-drop}
 use Rattle.sheet.specs.Words.{Sheet}
 use Rattle.profile.specs.Counting.{every}
 use Rattle.tables.specs.declared.Naming.TheVariants.{Complements}
@@ -44,6 +46,10 @@ past_active st o e = ap (λ (b : Bool). (cond b (get_or st.objects o blank) blan
 pub element_setting : (st : State) (o : ℕ) → o < state_objects → get_or st.objects o blank ≡ setting st o
 unfolding setting
 element_setting st o l = rw (lt-ltb o state_objects l) refl
+
+-- of the part from n on
+pub part_setting : (st : State) (n k i : ℕ) → n + k ≡ state_objects → i < k → get_or (mid_of n k st.objects) i blank ≡ setting st (n + i)
+part_setting st n k i e l = rw (get_or-take k (drop n st.objects) i blank l, get_or-drop n st.objects i blank) (element_setting st (n + i) (omega arith))
 
 pub element_active : (st : State) (o : ℕ) → o < state_objects → (get_or st.objects o blank).active ≡ active st o
 unfolding active

@@ -15,12 +15,13 @@ use values::gains::gain_of;
 use values::signed::signed;
 
 // What choosing a programme gives an object. That the tables are right is a premise, as in granted, whose functions read them.
-fn start_setting(s: &[u8], p: u16, tables: ProgrammeTables, o: u16) -> Setting
-    ensures { ProgrammeTabled (sheet_of s.now) p tables.entry → result ≡ start_setting (sheet_of s.now) p o }
+fn start_setting(s: &[u8], tables: ProgrammeTables, o: u16) -> Setting
+    ensures { ProgrammeTabled (sheet_of s.now) tables.entry → result ≡ start_setting (sheet_of s.now) tables.entry.programme o }
 {
+    let p = tables.programme;
     if included_by(s, p, tables.included, o) {
         Setting {
-            active: tables.starts_active(s, p, o),
+            active: tables.starts_active(s, o),
             gain: gain_of(start_value(s, p, o, Sort::Gains)),
             offset: signed(start_value(s, p, o, Sort::Offsets)),
         }
@@ -39,7 +40,7 @@ pub fn started(s: &[u8], p: u16) -> State
     let (tables, n) = enter_tables(s, p, &mut leaders, &mut marks);
     let mut objects = [resting(); STATE_OBJECTS];
     for o in 0..n {
-        objects[usize::from(o)] = start_setting(s, p, tables, o);
+        objects[usize::from(o)] = start_setting(s, tables, o);
     }
     State {
         programme: p,

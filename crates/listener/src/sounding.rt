@@ -44,13 +44,15 @@ pub(crate) fn enter_tables<'a>(
     leaders: &'a mut [u16],
     marks: &'a mut [u16],
 ) -> (ProgrammeTables<'a>, u16)
+    ensures programme { result.0.programme ≡ p }
     ensures within { result.1 ≤ state_objects }
     ensures none_past { (o : ℕ) → result.1 ≤ o → o < state_objects → includes (sheet_of s.now) p o ≡ false }
-    ensures tabled { Standing (λ x. 0) leaders.old → Standing (λ x. 0) marks.old → ProgrammeTabled (sheet_of s.now) p result.0 }
+    ensures tabled { Standing (λ x. 0) leaders.old → Standing (λ x. 0) marks.old → ProgrammeTabled (sheet_of s.now) result.0 }
 {
     first_namers(s, Naming::Complements, leaders);
     let n = enter_included(s, p, marks);
     let tables = ProgrammeTables {
+        programme: p,
         leaders,
         included: marks,
     };
@@ -67,12 +69,12 @@ fn is_active(state: &State, o: u16) -> bool
 // One object of a sound state. That the tables are right is a premise, as in granted, whose functions read them.
 fn sound_at(s: &[u8], state: &State, tables: ProgrammeTables, o: u16) -> bool
     requires { o < state_objects }
-    ensures { ProgrammeTabled (sheet_of s.now) state.now.programme tables.entry → result ≡ sound_at (sheet_of s.now) state.now o }
+    ensures { ProgrammeTabled (sheet_of s.now) tables.entry → tables.entry.programme ≡ state.now.programme → result ≡ sound_at (sheet_of s.now) state.now o }
 {
     let p = state.programme;
     let x = state.objects[usize::from(o)];
     if included_by(s, p, tables.included, o) {
-        tables.sound_activity(s, p, |q| is_active(state, q), o)
+        tables.sound_activity(s, |q| is_active(state, q), o)
             & sound_values(s, p, o, x.gain, x.offset)
     } else {
         is_resting(x)
@@ -95,8 +97,8 @@ pub fn sound(s: &[u8], state: &State) -> bool
     for o in 0..n {
         good &= sound_at(s, state, tables, o);
     }
-    for o in n..STATE_END {
-        good &= is_resting(state.objects[usize::from(o)]);
+    for x in &state.objects[usize::from(n)..] {
+        good &= is_resting(*x);
     }
     good
 }

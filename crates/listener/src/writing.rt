@@ -26,7 +26,9 @@ fn number_when(s: &[u8], active: bool, o: u16) -> u64
     }
 }
 
-// How many entries the listing has.
+// How many entries the listing has. By number, as in `write_state`: the sheet is read by it too, and `enumerate` gives a usize to narrow.
+// Tried by `zip` of the numbers and the settings: the invariants then speak of lists of what was yielded, and none of the goals closes by
+// itself.
 fn state_number(s: &[u8], state: &State) -> u64
     ensures { result ≡ state_number (sheet_of s.now) state.now }
 {

@@ -15,7 +15,7 @@ pub loop-o-preserved : goal.loop-o-preserved
 loop-o-preserved c =
     let t = c.enter_tables-n.ensures in
     rw c.from.ensures
-    (begun_more _ c.loop-o.invariant (omega (arith, c.loop-o-test.true, t.within)) (c.start_setting.ensures (t.tabled (λ x l. nought state_objects x) (λ x l. nought state_objects x))))
+    (begun_more _ c.loop-o.invariant (omega (arith, c.loop-o-test.true, t.within)) (rw t.programme at (c.start_setting.ensures (t.tabled (λ x l. nought state_objects x) (λ x l. nought state_objects x)))))
 
 pub returns : goal.returns
 unfolding started

@@ -12,15 +12,15 @@ use Rattle.listener.proofs.sounding.sound_at.Goals as goal
 
 pub returns-then-included_by : goal.returns-then-included_by
 unfolding sound_at
-returns-then-included_by c = λ right.
+returns-then-included_by c = λ right same.
     let a = c.args in let st = a.state.now in let e : get_or st.objects c.from.result blank ≡ setting st a.o = rw c.from.ensures (element_setting st a.o c.requires) in
-    let r = c.sound_activity.ensures (active st) (λ q r l h. search rules) right ∙ activity_active _ st a.o in
+    let r = (rw same at (c.sound_activity.ensures (active st) (λ q r l h. search rules) right)) ∙ activity_active _ st a.o in
     let p : to_z w16 (of_z w16 (get_or st.objects c.from.result blank).offset) ≡ (get_or st.objects c.from.result blank).offset = search rules in
     let q : to_z w16 (of_z w16 (setting st a.o).offset) ≡ (setting st a.o).offset = rw e at p in
-    simp (c.sound_values.ensures, r, and_assoc, e, q) (simp (sym (c.included_by.ensures right.1) ∙ c.if-included_by.true))
+    simp (c.sound_values.ensures, r, and_assoc, e, q) (simp (sym (c.included_by.ensures (rw same at right.1)) ∙ c.if-included_by.true))
 
 pub returns-else-included_by : goal.returns-else-included_by
 unfolding sound_at
-returns-else-included_by c = λ right.
+returns-else-included_by c = λ right same.
     let a = c.args in let st = a.state.now in let e : get_or st.objects c.from.result blank ≡ setting st a.o = rw c.from.ensures (element_setting st a.o c.requires) in
-    simp (sym (c.included_by.ensures right.1) ∙ c.if-included_by.false) (c.is_resting.ensures ∙ ap is_resting e)
+    simp (sym (c.included_by.ensures (rw same at right.1)) ∙ c.if-included_by.false) (c.is_resting.ensures ∙ ap is_resting e)
