@@ -95,7 +95,7 @@ fn put_setting(text: &mut Text, o: u16, x: Setting)
     put_values(text, x.gain, x.offset);
 }
 
-// Each object that is not at rest.
+// Each object that is not at rest: by number, as `state_number` of the listener, which says why.
 #[tactic(auto, unfolding(profile::specs::Counting::concat_below, crate::specs::Answers::object_lines), using(text::proofs::BufferLaws::appends_none))]
 fn put_objects(text: &mut Text, state: State)
     ensures { Appends text.old (object_lines state) text.new }
