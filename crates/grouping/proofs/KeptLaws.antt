@@ -13,11 +13,11 @@ use Rattle.sheet.specs.Words.{Sheet}
 use Rattle.sheet.specs.Layout.{count, field, number, entry}
 use Rattle.sheet.specs.Fields.{programmes, contents, objects, value_sets, content_list, set_list, content_object, complement_list}
 use Rattle.profile.specs.Counting.{any, how_many, two_of}
-use Rattle.profile.specs.Relations.{leader, complement, member, members, leader_of, includes, included, wholly_included, has_set, owner, named_set, names_set}
+use Rattle.profile.specs.Relations.{leader, member, members, leader_of, includes, included, wholly_included, has_set, owner, named_set, names_set}
 use Rattle.profile.specs.Rules.{repeats, rule11, rule21, rule22, owner_at, sets_named, sets_differ}
 use Rattle.profile.proofs.BoolLaws.{or_either, and_both}
 use Rattle.profile.proofs.CountingLaws.{any_none}
-use Rattle.profile.proofs.GroupLaws.{any_witness, own_leader, leader_lists, member_zero, member_at, no_leader}
+use Rattle.profile.proofs.GroupLaws.{any_witness, leader_index, member_zero, member_at, no_leader}
 use Rattle.profile.proofs.SumLaws.{any_nowhere, how_many_eq, how_many_all}
 use Rattle.tables.specs.steps.Marks.{Standing}
 use Rattle.inclusion.specs.steps.Entering.{Changed, Entered, Noted, object_at}
@@ -45,33 +45,25 @@ one_or_all c n b e = ⊎_elim (λ h. one c (leb-true c 1 h)) (λ h. all (not (eq
     all true false r h = refl
     all false q r h = refl
 
--- none or all
+-- two or more are included: sets are named for none or all
+named_alike : (c n t : ℕ) → 1 < c → (leb c 1 || eqb c n && (eqb t 0 || eqb t n)) ≡ true → (eqb t 0 || eqb t n) ≡ true
+named_alike c n t l e = (and_both (eqb c n) (eqb t 0 || eqb t n) (ap (λ (b : Bool). b || eqb c n && (eqb t 0 || eqb t n)) (sym (lt-leb c 1 l)) ∙ e)).1
+
 none_or_all : (c n t : ℕ) → 1 < c → (leb c 1 || eqb c n && (eqb t 0 || eqb t n)) ≡ true → (true && true && not (eqb t 0) && not (eqb t n)) ≡ false
-none_or_all c n t l e =
-    let rest : (eqb c n && (eqb t 0 || eqb t n)) ≡ true = ap (λ (b : Bool). b || eqb c n && (eqb t 0 || eqb t n)) (sym (lt-leb c 1 l)) ∙ e in
-    either (eqb t 0) (eqb t n) (and_both (eqb c n) (eqb t 0 || eqb t n) rest).1
+none_or_all c n t l e = either (eqb t 0) (eqb t n) (named_alike c n t l e)
   where
     either : (p q : Bool) → (p || q) ≡ true → (true && true && not p && not q) ≡ false
     either true q h = refl
     either false true h = refl
     either false false h = absurd (true≢false (sym h))
 
--- two or more are included and some have sets: all have
+-- and where some have sets, all have
 all_set : (c n t : ℕ) → 1 < c → 0 < t → (leb c 1 || eqb c n && (eqb t 0 || eqb t n)) ≡ true → t ≡ n
 all_set c n t l k e =
-    let rest : (eqb c n && (eqb t 0 || eqb t n)) ≡ true = ap (λ (b : Bool). b || eqb c n && (eqb t 0 || eqb t n)) (sym (lt-leb c 1 l)) ∙ e in
-    ⊎_elim (λ h. let z : t ≡ 0 = eqb-true t 0 h in absurd (omega arith)) (λ h. eqb-true t n h) (or_either (eqb t 0) (eqb t n) (and_both (eqb c n) (eqb t 0 || eqb t n) rest).1)
+    ⊎_elim (λ h. let z : t ≡ 0 = eqb-true t 0 h in absurd (omega arith)) (λ h. eqb-true t n h) (or_either (eqb t 0) (eqb t n) (named_alike c n t l e))
 
 all_none : (a b c d : Bool) → a ≡ false → b ≡ false → c ≡ false → d ≡ false → (a || b || c || d) ≡ false
 all_none a b c d p q r t = rw (p, q, r, t) refl
-
--- the leader of an object of the sheet is one too
-leader_inside : (s : Sheet) (o : ℕ) → o < count s objects → leader_of s o < count s objects
-leader_inside s o m =
-    (elim (complement s o) as (λ b. complement s o ≡ b → leader_of s o < count s objects) [
-      | true ↦ λ e. (leader_lists s o e).0
-      | false ↦ λ e. rw (own_leader s o e) m
-    ]) refl
 
 -- what the table tells with the first m sets noted
 module _ (s : Sheet) (p : ℕ) (t₀ t₁ t₂ : List ℕ) (put : ℕ → ℕ) (m : ℕ) (noughts : Standing (λ x. 0) t₀) (long : length t₁ ≡ length t₀) (long₂ : length t₂ ≡ length t₁)
@@ -270,7 +262,7 @@ module _ (s : Sheet) (p : ℕ) (t₀ t₁ t₂ : List ℕ) (put : ℕ → ℕ) (
         let b = member_at s (owner_at s p j) u refl led in
         let va : get_or t₂ (member s u a.0) 0 ≡ put i + 2 = has i (omega arith) a.0 a.2 in
         let vb : get_or t₂ (member s u b.0) 0 ≡ put j + 2 = has j l b.0 b.2 in
-        let whole = kept u (leader_inside s (owner_at s p j) (owner_inside j l)) in
+        let whole = kept u (leader_index s (owner_at s p j) (owner_inside j l)) in
         let other : a.0 ≡ b.0 → ⊥ = λ q. apart (sym a.2 ∙ ap (member s u) q ∙ b.2) in
         let ia : not (eqb (get_or t₂ (member s u a.0) 0) 0) ≡ true = ap not (ne_eqb (get_or t₂ (member s u a.0) 0) 0 (λ q. let y : get_or t₂ (member s u a.0) 0 ≡ 0 = q in absurd (omega (arith, va)))) in
         let ib : not (eqb (get_or t₂ (member s u b.0) 0) 0) ≡ true = ap not (ne_eqb (get_or t₂ (member s u b.0) 0) 0 (λ q. let y : get_or t₂ (member s u b.0) 0 ≡ 0 = q in absurd (omega (arith, vb)))) in

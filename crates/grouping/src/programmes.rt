@@ -54,8 +54,9 @@ fn section_offsets(s: &[u8]) -> SectionOffsets
 }
 
 // How many programmes from the first on can be seen to keep rule 21 and, where there are tables of sets, rule 22, by the rows of the
-// groups, where those before `from` do. The two ways differ in what they do to the tables before the pass, at each programme and after it:
-// one function for both would be given these as closures that write the tables, and as much of them in its contract as it has lines. The
+// groups, where those before `from` do. What the two ways share is the loop with its two questions: they differ in what they do to the
+// tables before it, at each programme and after it. One function for both would take what is done at a programme as a closure that writes
+// the tables, and its contract would say by that closure's `step` what `KeptFrom` says here: the shared six lines are fewer than that. The
 // three tables are lent one by one down from `programmes_pass`, and `KeptFrom` tells of each that it keeps its length; what stands in the
 // first two is another thing in each way, so that a struct would have no names for them.
 fn rows_from(
@@ -171,13 +172,7 @@ pub fn programmes_pass(
 {
     // std's `get_mut(..n)` would say nothing of what the tables end as, not even that they keep their lengths
     let n = usize::from(count(s, OBJECTS));
-    if included.len() < n {
-        return false;
-    }
-    if first.len() < n {
-        return false;
-    }
-    if second.len() < n {
+    if (included.len() < n) || (first.len() < n) || (second.len() < n) {
         return false;
     }
     let sets = SetTables { owners, alike: &[] };

@@ -239,7 +239,7 @@ module _ (s : Sheet) (a : AcceptedSheet s) (few : count s objects ≤ state_obje
   -- an active object is no larger than its unit's share
   in_share : (o : ℕ) → o < count s objects → active st o ≡ true → (leader_of s o < count s objects) × (size s o ≤ share s (leader_of s o))
   in_share o l e = (
-    leader_index s a o l,
+    leader_index s o l,
     cases (leader s (leader_of s o))
         (λ q. member_share s o q)
         (λ q. rw (no_leader s o q) (lone_share s o (active_top o (small o l) e).1 q)),
@@ -268,7 +268,7 @@ module _ (s : Sheet) (a : AcceptedSheet s) (few : count s objects ≤ state_obje
       let one : how_many (λ i. active st (member s g i)) (members s g) ≡ 1 = unfold active_members in whole_active first_object l first_included w in
       let t : any (λ i. active st (member s g i)) (members s g) ≡ true = any_how_many (λ i. active st (member s g i)) (members s g) ∙ ap (λ (n : ℕ). not (eqb n 0)) one in
       let k = any_witness (λ i. active st (member s g i)) (members s g) t in
-      (member s g k.0, member_index s a g k.0 (leader_index s a first_object l) k.1, k.2))
+      (member s g k.0, member_index s a g k.0 (leader_index s first_object l) k.1, k.2))
       (λ w. (first_object, l, single_active first_object l first_included w))
 
   pub listing_least : 1 ≤ length (entries s st)

@@ -158,7 +158,7 @@ module _ (s : Sheet) (a : AcceptedSheet s) (few : count s objects ≤ state_obje
       cases (in_whole_group s p o)
       (λ w.
       let parts = whole_parts s p o w in
-      rw w (eq-eqb (active_members s (started s p) (leader_of s o)) 1 (start_group p (leader_of s o) (leader_index s a o (included_top s a p o l e).0) parts.0 parts.1)))
+      rw w (eq-eqb (active_members s (started s p) (leader_of s o)) 1 (start_group p (leader_of s o) (leader_index s o (included_top s a p o l e).0) parts.0 parts.1)))
       (λ w. rw w (start_active s p o k e ∙ alone w))
     where
       alone : in_whole_group s p o ≡ false → starts_active s p o ≡ true
@@ -265,7 +265,7 @@ module _ (s : Sheet) (a : AcceptedSheet s) (few : count s objects ≤ state_obje
   o_index = (included_top s a st.programme o (sound_programme s st h) e).0
 
   l_index : l < count s objects
-  l_index = leader_index s a o o_index
+  l_index = leader_index s o o_index
 
   l_leader : leader s l ≡ true
   l_leader = (whole_parts s st.programme o w).0
@@ -310,7 +310,7 @@ module _ (s : Sheet) (a : AcceptedSheet s) (few : count s objects ≤ state_obje
   other_activity q k i f x =
       let q_index = (included_top s a st.programme q (sound_programme s st h) i).0 in
       cases (leader s (leader_of s q))
-      (λ y. activity_same s moved st q refl (other_group (leader_of s q) (leader_index s a q q_index) y f) (unfold active in ap (λ (z : Setting). z.active) (moved_other q k f)) x)
+      (λ y. activity_same s moved st q refl (other_group (leader_of s q) (leader_index s q q_index) y f) (unfold active in ap (λ (z : Setting). z.active) (moved_other q k f)) x)
       (λ y. lone_parts s moved q y ∙ unfold active in ap (λ (z : Setting). z.active) (moved_other q k f) ∙ sym (lone_parts s st q y) ∙ x)
 
   group_included : (q : ℕ) → leader_of s q ≡ l → includes s st.programme q ≡ true

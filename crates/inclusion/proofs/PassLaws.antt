@@ -3,12 +3,12 @@ use Prim.Native.Nat.{ℕ, zero, suc, ◌+◌, ◌-◌, ◌*◌, ◌/◌, ◌<◌
 use mathlib.Core.Path.{◌≡◌, refl, sym, ap, ap₂, subst, ◌∙◌}
 use mathlib.Core.Bool.{Bool, true, false, true≢false, cond, not, ◌&&◌, ◌||◌}
 use mathlib.Core.List.{List, [], ◌∷◌}
-use mathlib.Core.Logic.{⊎_elim}
+use mathlib.Core.Logic.{◌⊎◌, ⊎_elim}
 use native.Mathlib.Omega.{arith}
 use native.Mathlib.Nat.{zero-add, le_of_suc-le-suc}
 use native.Mathlib.Numerals.{add-one}
 use borrow.Author.Count.{below_more}
-use borrow.Author.Tests.{eqb-true, eqb-false, eq-eqb, ne_eqb, le-leb, ltb-true, ltb-false, lt-ltb, not-false}
+use borrow.Author.Tests.{eqb-true, eqb-false, eq-eqb, ne_eqb, le-leb, ltb-true, ltb-false, lt-ltb}
 use lib.Dec.{eqb, leb, ltb}
 use lib.ListN.{length, get_or, set, length-set}
 use Rattle.std.specs.Prelude.{Some, None, slice_range}
@@ -16,11 +16,12 @@ use Rattle.std.specs.Option.{unwrap_or}
 use Rattle.sheet.specs.Words.{Sheet, sheet_of, word}
 use Rattle.sheet.specs.Layout.{count, offset, start, record_words, field, number, reference, entry}
 use Rattle.sheet.specs.Fields.{programmes, objects, references, value_sets, content_list, set_list, complement_list, set_gain}
+use Rattle.sheet.specs.declared.spans.Entries.{Entries}
 use Rattle.sheet.proofs.WordLaws.{at as words_at}
 use Rattle.profile.specs.Counting.{any, how_many}
 use Rattle.profile.specs.Relations.{member, members, named_set, owner}
 use Rattle.profile.specs.Rules.{owner_at, sets_differ}
-use Rattle.profile.proofs.BoolLaws.{or_none, or_either, or_true}
+use Rattle.profile.proofs.BoolLaws.{or_none, or_true}
 use Rattle.profile.proofs.CountingLaws.{any_none}
 use Rattle.profile.proofs.GroupLaws.{any_witness, member_zero}
 use Rattle.profile.proofs.SetLaws.{same_sets, sets_own}
@@ -34,7 +35,7 @@ use Rattle.inclusion.proofs.CountLaws.{two_counted}
 use Rattle.inclusion.specs.steps.Entering.{SetsNotedTo, Changed, Noted, object_at, object_from, Begins}
 use Rattle.inclusion.specs.declared.SectionOffsets.{SectionOffsets}
 use Rattle.inclusion.specs.steps.Alike.{representative}
-use Rattle.inclusion.specs.steps.Groups.{ListKept, many_listed, sets_listed, GroupKept, PairKept, group_whole, many_in, sets_in}
+use Rattle.inclusion.specs.steps.Groups.{ListKept, ListsComplements, many_listed, sets_listed, GroupKept, PairKept, group_whole, many_in, sets_in}
 
 -- one place is written
 pub written : (t : List ℕ) (y v : ℕ) → Standing (λ z. cond (eqb y z) v (get_or t z 0)) (set t y v)
@@ -201,24 +202,30 @@ bytes_alike t x y base u v at a b p q same = same_sets (sheet_of t) u v each
         word_of_lem : (u f : ℕ) → field (sheet_of t) value_sets u (set_gain + f) ≡ word (sheet_of t) (offset (sheet_of t) value_sets + u * 7 + (set_gain + f))
         word_of_lem u f = set_word (sheet_of t) u f
 
+-- the leader's set has the words of those of the members
+abbrev SetsAgree : Sheet → List ℕ → ℕ → Type 0
+SetsAgree s t l = 1 < get_or t l 0 → (i : ℕ) → i < members s l → 1 < get_or t (member s l i) 0 → sets_differ s (get_or t l 0 - 2) (get_or t (member s l i) 0 - 2) ≡ false
+
 -- a group by its leader and its list
-module _ (s : Sheet) (t : List ℕ) (sections : SectionOffsets) (first n e l : ℕ) (a : Begins s sections) (b : first ≡ field s objects l complement_list)
-    (c : n ≡ number s objects l complement_list) (d : e ≡ get_or t l 0) where
-  pub many_counted : many_listed s t sections.references first n e ≡ many_in s t l
+module _ (s : Sheet) (t : List ℕ) (sections : SectionOffsets) (others : Entries) (e l : ℕ) (a : Begins s sections) (b : ListsComplements s sections.references l others) (d : e ≡ get_or t l 0) where
+  pub many_counted : many_listed s t others.base others.list.first others.list.count e ≡ many_in s t l
   unfolding many_in members member entry reference
-  many_counted = rw (a.0, b, c, d) (sym (how_many_shift (λ i. not (eqb (get_or t (member s l i) 0) 0)) (number s objects l complement_list)))
+  many_counted = rw (b.begins, a.0, b.first, b.many, d) (sym (how_many_shift (λ i. not (eqb (get_or t (member s l i) 0) 0)) (number s objects l complement_list)))
 
-  sets_counted : sets_listed s t sections.references first n e ≡ sets_in s t l
+  sets_counted : sets_listed s t others.base others.list.first others.list.count e ≡ sets_in s t l
   unfolding sets_in members member entry reference
-  sets_counted = rw (a.0, b, c, d) (sym (how_many_shift (λ i. ltb 1 (get_or t (member s l i) 0)) (number s objects l complement_list)))
+  sets_counted = rw (b.begins, a.0, b.first, b.many, d) (sym (how_many_shift (λ i. ltb 1 (get_or t (member s l i) 0)) (number s objects l complement_list)))
 
-  pub list_kept : ListKept s t sections.references first n e → GroupKept s t l
+  pub list_kept : ListKept s t others.base others.list.first others.list.count e → GroupKept s t l
   unfolding members member entry reference
-  list_kept kept = (ap (λ (k : ℕ). group_whole (suc k) (many_in s t l) (sets_in s t l)) (sym c) ∙ ap₂ (group_whole (suc n)) (sym many_counted) (sym sets_counted) ∙ kept.whole, each)
+  list_kept kept = (
+    ap (λ (k : ℕ). group_whole (suc k) (many_in s t l) (sets_in s t l)) (sym b.many) ∙ ap₂ (group_whole (suc others.list.count)) (sym many_counted) (sym sets_counted) ∙ kept.whole,
+    each,
+  )
     where
-      each : 1 < get_or t l 0 → (i : ℕ) → i < members s l → 1 < get_or t (member s l i) 0 → sets_differ s (get_or t l 0 - 2) (get_or t (member s l i) 0 - 2) ≡ false
+      each : SetsAgree s t l
       each k zero m r = sets_own s (get_or t l 0 - 2)
-      each k (suc i) m r = rw (sym d) (rw (sym a.0, sym b) (kept.agreeing (rw d k) i (rw c (le_of_suc-le-suc m)) (rw (a.0, b) r)))
+      each k (suc i) m r = rw (sym d) (rw (sym a.0, sym b.begins, sym b.first) (kept.agreeing (rw d k) i (rw b.many (le_of_suc-le-suc m)) (rw (b.begins, a.0, b.first) r)))
 
 -- a group is whole where all members are included, and sets are named for all or none
 pub all_whole : (n many set : ℕ) → (eqb many n && (eqb set 0 || eqb set n)) ≡ true → group_whole n many set ≡ true
@@ -238,12 +245,11 @@ pair_whole true true true true h = refl
 
 module _ (s : Sheet) (e c : ℕ) where
   -- one is not included
-  pub pair_none : (eqb e 0 || eqb c 0) ≡ true → PairKept s e c
+  pub pair_none : (e ≡ 0) ⊎ (c ≡ 0) → PairKept s e c
   pair_none h =
-      ⊎_elim
-      (λ q. let z : e ≡ 0 = eqb-true e 0 q in (pair_whole (not (eqb e 0)) (not (eqb c 0)) (ltb 1 e) (ltb 1 c) (λ a b. absurd (true≢false (sym a ∙ ap not q))), λ l m. absurd (omega arith)))
-      (λ q. let z : c ≡ 0 = eqb-true c 0 q in (pair_whole (not (eqb e 0)) (not (eqb c 0)) (ltb 1 e) (ltb 1 c) (λ a b. absurd (true≢false (sym b ∙ ap not q))), λ l m. absurd (omega arith)))
-      (or_either (eqb e 0) (eqb c 0) h)
+      let none : not (eqb e 0) ≡ true → not (eqb c 0) ≡ true → ltb 1 e ≡ ltb 1 c =
+      λ a b. absurd (⊎_elim (λ q. true≢false (sym a ∙ ap not (eq-eqb e 0 q))) (λ q. true≢false (sym b ∙ ap not (eq-eqb c 0 q))) h) in
+      (pair_whole (not (eqb e 0)) (not (eqb c 0)) (ltb 1 e) (ltb 1 c) none, λ l m. absurd (⊎_elim (λ q. let z : e ≡ 0 = q in omega arith) (λ q. let z : c ≡ 0 = q in omega arith) h))
 
   -- both have one number
   pub pair_same : e ≡ c → PairKept s e c
@@ -255,17 +261,6 @@ module _ (s : Sheet) (e c : ℕ) where
   -- both are named
   pub pair_sets : 1 < e → 1 < c → (1 < c → sets_differ s (e - 2) (c - 2) ≡ false) → PairKept s e c
   pair_sets l m h = (pair_whole (not (eqb e 0)) (not (eqb c 0)) (ltb 1 e) (ltb 1 c) (λ a b. lt-ltb 1 e l ∙ sym (lt-ltb 1 c m)), λ a b. h b)
-
-  pub above_one : (eqb e 0 || eqb c 0) ≡ false → (eqb e 1 || eqb c 1) ≡ false → (1 < e) × (1 < c)
-  above_one a b =
-      let x = or_none (eqb e 0) (eqb c 0) a in
-      let y = or_none (eqb e 1) (eqb c 1) b in
-      (more e (eqb-false e 0 x.0) (eqb-false e 1 y.0), more c (eqb-false c 0 x.1) (eqb-false c 1 y.1))
-    where
-      more : (k : ℕ) → (k ≡ 0 → ⊥) → (k ≡ 1 → ⊥) → 1 < k
-      more zero p q = absurd (p refl)
-      more (suc zero) p q = absurd (q refl)
-      more (suc (suc k)) p q = omega arith
 
 -- a group of two, by its members
 module _ (s : Sheet) (t : List ℕ) (l m : ℕ) (e : member s l 1 ≡ m) where
@@ -291,7 +286,7 @@ module _ (s : Sheet) (t : List ℕ) (l : ℕ) where
   unfolding group_whole many_in
   one_kept few = (ap (λ (b : Bool). b || eqb (many_in s t l) (members s l) && (eqb (sets_in s t l) 0 || eqb (sets_in s t l) (members s l))) (le-leb (many_in s t l) 1 few), each)
     where
-      each : 1 < get_or t l 0 → (i : ℕ) → i < members s l → 1 < get_or t (member s l i) 0 → sets_differ s (get_or t l 0 - 2) (get_or t (member s l i) 0 - 2) ≡ false
+      each : SetsAgree s t l
       each a zero k b = ap (λ (x : ℕ). sets_differ s (get_or t l 0 - 2) (get_or t x 0 - 2)) (member_zero s l) ∙ sets_own s (get_or t l 0 - 2)
       each a (suc i) k b =
           absurd (omega (

@@ -13,13 +13,14 @@ use lib.ListN.{get_or}
 use Rattle.sheet.specs.Words.{Sheet}
 use Rattle.sheet.specs.Layout.{count, number, entry}
 use Rattle.sheet.specs.Fields.{objects, complement_list}
+use Rattle.sheet.specs.declared.spans.Entries.{Entries}
 use Rattle.profile.specs.Counting.{any, how_many}
 use Rattle.profile.specs.Relations.{member, members}
 use Rattle.profile.specs.Rules.{sets_differ}
 use Rattle.profile.proofs.CountingLaws.{any_none}
 use Rattle.profile.proofs.GroupLaws.{any_witness}
 use Rattle.profile.proofs.SumLaws.{how_many_eq}
-use Rattle.inclusion.specs.steps.Groups.{GroupKept, PairKept, group_whole, many_in, sets_in}
+use Rattle.inclusion.specs.steps.Groups.{GroupKept, ListsComplements, PairKept, group_whole, many_in, sets_in}
 use Rattle.inclusion.specs.declared.Rows.{Rows}
 use Rattle.inclusion.specs.steps.Rows.{HasListed, HasRow, OnlyComplement, RowAdded, RowKept, RowsComplete, SameLists}
 use Rattle.profile.proofs.SetLaws.{sets_own}
@@ -68,10 +69,12 @@ listed_next s rows l j z before =
       each = before.each;
     }
 
--- the group of a leader with one complement
-pub led_pair : (s : Sheet) (t : List ℕ) (l m : ℕ) → number s objects l complement_list ≡ 1 → OnlyComplement s l m → PairKept s (get_or t l 0) (get_or t m 0) → GroupKept s t l
+-- the group of a leader whose list has one complement, by what the table has for both
+pub led_pair : (s : Sheet) (t : List ℕ) (base l m e c : ℕ) (others : Entries) → ListsComplements s base l others → others.list.count ≡ 1 → OnlyComplement s l m → e ≡ get_or t l 0 → c ≡ get_or t m 0 → PairKept s e c → GroupKept s t l
 unfolding members member
-led_pair s t l m one partner kept = pair_group s t l m (sym (partner one)) (ap suc one) kept
+led_pair s t base l m e c others led one only d r kept =
+    let z : number s objects l complement_list ≡ 1 = sym led.many ∙ one in
+    pair_group s t l m (sym (only z)) (ap suc z) (rw (sym d, sym r) kept)
 
 -- one test for all
 same_test : (b : Bool) (n : ℕ) → how_many (λ i. b) n ≡ cond b n 0

@@ -4,12 +4,12 @@
 // sheet, the offsets and the table of what is included are lent to these few functions beside one another, and not as a struct: the table
 // is written anew for each programme, so that such a struct would be made for each call.
 ghost use Rattle.std.specs.Prelude.{ℕ, IsSome, ◌+◌, ◌-◌, ◌<◌, ◌≤◌, get_or, length, false, true, ◌⊎◌, ◌≡◌};
-ghost use Rattle.inclusion.specs.steps.Groups.{GroupKept, ListKept, PairKept, many_listed};
+ghost use Rattle.inclusion.specs.steps.Groups.{GroupKept, ListKept, ListsComplements, PairKept, many_listed};
 ghost use Rattle.inclusion.specs.steps.Entering.{Begins};
 ghost use Rattle.inclusion.specs.steps.Rows.{HasListed, OnlyComplement, RowAdded, RowsComplete, SameLists};
 ghost use Rattle.profile.specs.Rules.{sets_differ};
-ghost use Rattle.sheet.specs.Fields.{complement_list, objects, value_sets};
-ghost use Rattle.sheet.specs.Layout.{count, field, number, offset};
+ghost use Rattle.sheet.specs.Fields.{objects, value_sets};
+ghost use Rattle.sheet.specs.Layout.{count, offset};
 ghost use Rattle.sheet.specs.Words.{sheet_of};
 
 use crate::lists::ends_before;
@@ -25,23 +25,12 @@ use sheet::spans::{Entries, Span};
 fn noted_differ(s: &[u8], sets: u16, e: u16, c: u16) -> bool
     ensures { result ≡ false → sets ≡ offset (sheet_of s.now) value_sets → 1 < e → 1 < c → sets_differ (sheet_of s.now) (e - 2) (c - 2) ≡ false }
 {
-    if e == c {
-        return false;
-    }
-    if e <= 1 {
-        return false;
-    }
-    if c <= 1 {
-        return false;
-    }
-    sets_differ(s, sets, e - 2, c - 2)
+    (e != c) && (1 < e) && (1 < c) && sets_differ(s, sets, e - 2, c - 2)
 }
 
 // The complements of a leader, where section 6 begins at `base`.
 fn complements(s: &[u8], base: u16, l: u16) -> Entries
-    ensures base { result.base ≡ base }
-    ensures first { result.list.first ≡ field (sheet_of s.now) objects l complement_list }
-    ensures count { result.list.count ≡ number (sheet_of s.now) objects l complement_list }
+    ensures { ListsComplements (sheet_of s.now) base l result }
 {
     Entries {
         base,
@@ -75,16 +64,7 @@ fn members_kept(s: &[u8], sets: u16, others: Entries, included: &[u16], e: u16) 
 fn pair_kept(s: &[u8], sets: u16, e: u16, c: u16) -> bool
     ensures { result ≡ true → sets ≡ offset (sheet_of s.now) value_sets → PairKept (sheet_of s.now) e c }
 {
-    if e == c {
-        return true;
-    }
-    if (e == 0) | (c == 0) {
-        return true;
-    }
-    if (e == 1) | (c == 1) {
-        return false;
-    }
-    !noted_differ(s, sets, e, c)
+    (e == c) || (e == 0) || (c == 0) || ((e != 1) && (c != 1) && !noted_differ(s, sets, e, c))
 }
 
 // The group of a leader of which two members or more are included; m is its complement where it has one.

@@ -64,6 +64,14 @@ leader_lists s o e =
     let f : lowest p (count s objects) < count s objects = ltb-true _ _ (finds p (count s objects) w.0 w.1 w.2) in
     rw e (f, lowest_holds p (count s objects) f)
 
+-- the leader of an object of the sheet is one too
+pub leader_index : (s : Sheet) (o : ℕ) → o < count s objects → leader_of s o < count s objects
+leader_index s o m =
+    (elim (complement s o) as (λ b. complement s o ≡ b → leader_of s o < count s objects) [
+      | true ↦ λ e. (leader_lists s o e).0
+      | false ↦ λ e. rw (own_leader s o e) m
+    ]) refl
+
 -- who lists something is a leader
 pub lists_leader : (s : Sheet) (l x : ℕ) → lists s objects l complement_list x ≡ true → leader s l ≡ true
 unfolding leader
@@ -162,14 +170,6 @@ module _ (s : Sheet) (a : AcceptedSheet s) where
   unfolding members
   member_top l zero m h k = rw (member_zero s l) (a.leader_top l m h)
   member_top l (suc i) m h k = rw (member_suc s l i) (a.complement_top l i m (le_of_suc-le-suc k))
-
-  -- the leader of an object of the sheet is one too
-  pub leader_index : (o : ℕ) → o < count s objects → leader_of s o < count s objects
-  leader_index o m =
-      (elim (complement s o) as (λ b. complement s o ≡ b → leader_of s o < count s objects) [
-        | true ↦ λ e. (leader_lists s o e).0
-        | false ↦ λ e. rw (own_leader s o e) m
-      ]) refl
 
   -- what a programme includes is a top object of the sheet
   pub included_top : (p o : ℕ) → p < count s programmes → includes s p o ≡ true → (o < count s objects) × (top s o ≡ true)

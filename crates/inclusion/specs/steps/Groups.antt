@@ -1,6 +1,9 @@
 -- What of a group is read in a table of what a programme includes. Assumes nothing.
 use Rattle.std.specs.Prelude.{ℕ, suc, ◌+◌, ◌-◌, ◌<◌, ◌≡◌, Bool, true, false, cond, not, ◌&&◌, ◌||◌, List, eqb, leb, ltb, get_or}
 use Rattle.sheet.specs.Words.{Sheet, word}
+use Rattle.sheet.specs.Layout.{field, number}
+use Rattle.sheet.specs.Fields.{objects, complement_list}
+use Rattle.sheet.specs.declared.spans.Entries.{Entries}
 use Rattle.profile.specs.Counting.{how_many}
 use Rattle.profile.specs.Relations.{member, members}
 use Rattle.profile.specs.Rules.{sets_differ}
@@ -46,3 +49,9 @@ sets_listed s t base first n e = cond (ltb 1 e) 1 0 + how_many (λ i. ltb 1 (lis
 pub record ListKept (s : Sheet) (t : List ℕ) (base first n e : ℕ) : Type 0 where
   pub whole : group_whole (suc n) (many_listed s t base first n e) (sets_listed s t base first n e) ≡ true
   pub agreeing : 1 < e → (i : ℕ) → i < n → 1 < listed_in s t base first i → sets_differ s (e - 2) (listed_in s t base first i - 2) ≡ false
+
+-- a list is the complements of a leader, where section 6 begins at base
+pub record ListsComplements (s : Sheet) (base l : ℕ) (others : Entries) : Type 0 where
+  pub begins : others.base ≡ base
+  pub first : others.list.first ≡ field s objects l complement_list
+  pub many : others.list.count ≡ number s objects l complement_list

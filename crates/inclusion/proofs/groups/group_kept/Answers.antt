@@ -1,15 +1,10 @@
 -- As a group of two, or by its list. Assumes nothing.
-use mathlib.Core.Path.{sym, ◌∙◌}
-use Rattle.sheet.specs.Words.{sheet_of}
 use Rattle.inclusion.proofs.PassLaws.{list_kept}
 use Rattle.inclusion.proofs.RowLaws.{led_pair}
 use Rattle.inclusion.proofs.groups.group_kept.Goals as goal
 
 pub returns-then-others-eq1 : goal.returns-then-others-eq1
-returns-then-others-eq1 c =
-    let a = c.args in λ e at only. led_pair (sheet_of a.s.now) a.included.now a.l a.m (sym c.complements-others.ensures.count ∙ c.if-others-eq1.true) only (rw (sym c.at-e.ensures, sym c.at.ensures) (c.pair_kept.ensures e at.2))
+returns-then-others-eq1 c = λ t at only. led_pair _ _ _ c.args.l c.args.m _ _ _ c.complements-others.ensures c.if-others-eq1.true only c.at-e.ensures c.at.ensures (c.pair_kept.ensures t at.2)
 
 pub returns : goal.returns
-returns c =
-    let a = c.args in let others = c.complements-others in let e = c.at-e in λ t at only.
-    list_kept (sheet_of a.s.now) a.included.now a.sections others.result.list.first others.result.list.count e.result a.l at others.ensures.first others.ensures.count e.ensures (rw others.ensures.base at c.members_kept.ensures t at.2)
+returns c = λ t at only. list_kept _ _ c.args.sections _ _ c.args.l at c.complements-others.ensures c.at-e.ensures (c.members_kept.ensures t at.2)

@@ -1,15 +1,12 @@
 -- By what stands for both. Assumes nothing.
+use Rattle.std.proofs.Common.{arith}
 use borrow.Author.Tests.{not-true}
-use Rattle.sheet.specs.Words.{sheet_of}
-use Rattle.inclusion.proofs.PassLaws.{above_one, pair_none, pair_same, pair_sets}
+use mathlib.Core.Logic.{⊎_elim, inl, inr}
+use Rattle.inclusion.proofs.PassLaws.{pair_none, pair_same, pair_sets}
 use Rattle.inclusion.proofs.groups.pair_kept.Goals as goal
 
-pub returns-then-e-c : goal.returns-then-e-c
-returns-then-e-c c = λ e at. pair_same (sheet_of c.args.s.now) c.args.e c.args.c c.if-e-c.true
+pub returns-then-c-eq0 : goal.returns-then-c-eq0
+returns-then-c-eq0 c = λ e at. ⊎_elim (pair_same _ _ _) (λ none. pair_none _ _ _ (⊎_elim (λ q. inl q.1) (λ q. inr q.2) none)) c.if-c-eq0.either
 
-pub returns-then-e-c-2 : goal.returns-then-e-c-2
-returns-then-e-c-2 c = λ e at. pair_none (sheet_of c.args.s.now) c.args.e c.args.c c.if-e-c-2.true
-
-pub returns : goal.returns
-returns c =
-    λ e at. let more = above_one (sheet_of c.args.s.now) c.args.e c.args.c c.if-e-c-2.false c.if-e-c-3.false in pair_sets (sheet_of c.args.s.now) c.args.e c.args.c more.0 more.1 (c.noted_differ.ensures (not-true _ e) at more.0)
+pub returns-then-c-ne1 : goal.returns-then-c-ne1
+returns-then-c-ne1 c = λ e at. pair_sets _ _ _ (omega arith) (omega arith) (c.noted_differ.ensures (not-true _ e) at (omega arith))

@@ -1,5 +1,5 @@
 -- Sets with the same bytes have the same words. Assumes nothing.
-use Rattle.std.proofs.Common.{ℕ, ◌+◌, ◌*◌, ◌≡◌, sym, ◌∙◌, ap, arith}
+use Rattle.std.proofs.Common.{◌+◌, ◌*◌, ◌≡◌, sym, ◌∙◌, arith}
 use lib.Pointwise.{bytes_decides}
 use borrow.Author.Tests.{not-false}
 use Rattle.inclusion.proofs.PassLaws.{bytes_alike}
