@@ -74,10 +74,7 @@ pub fn kept_programmes(s: &[u8]) -> u16
     ensures { GroupsApart (sheet_of s.now) → KeptBelow (sheet_of s.now) result }
 {
     let m = usize::from(count(s, OBJECTS));
-    if 2048 < m {
-        return 0;
-    }
-    if !sets_once(s) {
+    if (2048 < m) || !sets_once(s) {
         return 0;
     }
     let mut owners: [u16; 4680] = [0; 4680];

@@ -38,13 +38,8 @@ impl Asked {
                 Table::Listed
             },
             14 => Table::Strays,
-            15 => Table::Tops,
-            17 => Table::Owners,
-            18 => Table::Owners,
-            19 => Table::Tops,
-            22 => Table::Owners,
-            23 => Table::Tops,
-            24 => Table::Tops,
+            15 | 19 | 23 | 24 => Table::Tops,
+            17 | 18 | 22 => Table::Owners,
             _ => Table::Nothing,
         }
     }
@@ -57,10 +52,8 @@ impl Asked {
         match self.rule {
             5 => Table::Lacking(second_target(self.section)),
             14 => Table::Ordinals,
-            19 => Table::Complements,
+            19 | 23 | 24 => Table::Complements,
             22 => Table::Leaders,
-            23 => Table::Complements,
-            24 => Table::Complements,
             _ => Table::Nothing,
         }
     }

@@ -89,37 +89,27 @@ const PROGRAMME_RECORDS: [SubjectKind; 8] = [
     Nothing, Records, Nothing, Nothing, Nothing, Nothing, Nothing, Nothing,
 ];
 
-// What of each section, from 0 on, a rule can have as its place. One arm a rule, as in the list of rules that the definition has. Rules are
-// document 01's numbers and the contract holds for each number: for an enum of rules a caller would have to show first that it is one.
+// What of each section, from 0 on, a rule can have as its place. Rules are document 01's numbers and the contract holds for each number:
+// for an enum of rules a caller would have to show first that it is one. The rows of the header and of objects have two arms each: with
+// one, `1 | 2 | 23 | 24 | 33` and `13..=16 | 19 | 20`, tried, the goals `returns-in-1` and `returns-in-13-to-16` stay open.
+#[tactic(auto, using(crate::proofs::SubjectLaws::kinds_right), unfolding(profile::specs::Counting::every, crate::specs::steps::Rows::kind_number, profile::specs::Verdict::subject_kind))]
 pub fn subject_kinds(rule: u8) -> [SubjectKind; 8]
     ensures { KindsOf rule result }
 {
     match rule {
-        1 => HEADER,
-        2 => HEADER,
+        1 | 2 => HEADER,
         3 => EACH_SECTION,
-        4 => LISTING,
+        4 | 8 => LISTING,
         5 => REFERRING,
         6 => WITH_VALUES,
         7 => LIMITED_SECTIONS,
-        8 => LISTING,
-        9 => LABELLED,
+        9 | 12 => LABELLED,
         10 => PACK_RECORDS,
-        11 => OBJECT_AND_SET_RECORDS,
-        12 => LABELLED,
-        13 => OBJECT_RECORDS,
-        14 => OBJECT_RECORDS,
-        15 => OBJECT_RECORDS,
-        16 => OBJECT_RECORDS,
-        17 => OBJECT_AND_SET_RECORDS,
-        18 => OBJECT_AND_SET_RECORDS,
-        19 => OBJECT_RECORDS,
-        20 => OBJECT_RECORDS,
-        21 => PROGRAMME_RECORDS,
-        22 => PROGRAMME_RECORDS,
-        23 => HEADER,
-        24 => HEADER,
-        33 => HEADER,
+        13..=16 => OBJECT_RECORDS,
+        11 | 17 | 18 => OBJECT_AND_SET_RECORDS,
+        19 | 20 => OBJECT_RECORDS,
+        21 | 22 => PROGRAMME_RECORDS,
+        23 | 24 | 33 => HEADER,
         _ => [Nothing; 8],
     }
 }
