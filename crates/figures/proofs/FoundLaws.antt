@@ -4,6 +4,8 @@ use Prim.Native.Nat.{ℕ, zero, suc, ◌<◌}
 use mathlib.Core.Path.{◌≡◌, refl, sym, ap, ap₂, ◌∙◌}
 use mathlib.Core.Bool.{Bool, true, false, true≢false, ◌||◌}
 use mathlib.Core.List.{List, [], ◌∷◌}
+use mathlib.Core.Logic.{⊎_elim}
+use native.Mathlib.Nat.{eq-or-lt_of_le, le_of_suc-le-suc}
 use native.Mathlib.Omega.{arith}
 use borrow.Author.Tests.{ne_eqb}
 use Rattle.std.specs.Prelude.{Option, Some, None, is_some, IfSome}
@@ -39,6 +41,21 @@ pub below_found : (f : ℕ → Option Clash) (n : ℕ) → is_some (first_below 
 unfolding first_below any
 below_found f zero = refl
 below_found f (suc n) = earlier_found (first_below f n) (f n) ∙ ap (λ (t : Bool). t || is_some (f n)) (below_found f n)
+
+-- what a search gives that ends with none, and one that ends at the first
+pub below_none : (f : ℕ → Option Clash) (n : ℕ) → ((i : ℕ) → i < n → f i ≡ None) → first_below f n ≡ None
+unfolding first_below earlier
+below_none f zero none = refl
+below_none f (suc n) none = rw (below_none f n (λ i l. none i (omega arith))) (none n (omega arith))
+
+pub below_first : (f : ℕ → Option Clash) (n i : ℕ) (x : Clash) → i < n → ((j : ℕ) → j < i → f j ≡ None) → f i ≡ Some x → first_below f n ≡ Some x
+unfolding first_below earlier
+below_first f zero i x l none is = absurd (omega arith)
+below_first f (suc n) i x l none is =
+    ⊎_elim
+    (λ e. let z : i ≡ n = e in rw (below_none f n (λ j k. none j (omega arith)), ← z) is)
+    (λ m. rw (below_first f n i x m none is) refl)
+    (eq-or-lt_of_le (le_of_suc-le-suc l))
 
 pub any_eq : (p q : ℕ → Bool) (n : ℕ) → ((k : ℕ) → p k ≡ q k) → any p n ≡ any q n
 unfolding any

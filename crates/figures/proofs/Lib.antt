@@ -1,8 +1,9 @@
 pub mod FiguresLaws
 pub mod GivenLaws
 pub mod FoundLaws
+pub mod MappedLaws
 pub mod KeptLaws
-mod OrderLaws
+pub mod OrderLaws
 pub mod WordLaws
 pub mod MemberLaws
 pub mod RangeLaws

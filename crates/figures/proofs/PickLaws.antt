@@ -38,6 +38,9 @@ module _ (p : ℕ → Bool) (f : ℕ → Figure) where
   unfolding concat_below
   more n e = rw e refl
 
+  longer : (n : ℕ) → p n ≡ true → length (picked (suc n)) ≡ length (picked n) + 1
+  longer n e = ap length (more n e) ∙ length-append (picked n) (f n ∷ [])
+
   same : (n : ℕ) → p n ≡ false → picked (suc n) ≡ picked n
   unfolding concat_below
   same n e = rw (e, append-nil) refl
@@ -76,7 +79,7 @@ module _ (p : ℕ → Bool) (f : ℕ → Figure) where
 
       go : (b : Bool) → p n ≡ b → ((j : ℕ) → j < length (picked n) → Entry n (figure_at (picked n) j)) → Entry (suc n) (figure_at (picked (suc n)) i)
       go true e ih =
-          let l : length (picked (suc n)) ≡ length (picked n) + 1 = ap length (more n e) ∙ length-append (picked n) (f n ∷ []) in
+          let l = longer n e in
           let at : i ≤ length (picked n) = omega arith in
           rw (more n e)
           (⊎_elim
@@ -115,7 +118,7 @@ module _ (p : ℕ → Bool) (f : ℕ → Figure) where
     where
       go : (b : Bool) → p n ≡ b → ((j : ℕ) → suc j < length (picked n) → record_at (picked n) j < record_at (picked n) (suc j)) → record_at (picked (suc n)) i < record_at (picked (suc n)) (suc i)
       go true e ih =
-          let l : length (picked (suc n)) ≡ length (picked n) + 1 = ap length (more n e) ∙ length-append (picked n) (f n ∷ []) in
+          let l = longer n e in
           let last : (i : ℕ) → i < length (picked n) → record_at (picked n) i < (f n).index =
           λ i m. let w = picked_each n i m in let here : record_at (picked n) i ≡ w.0 = ap (λ x. x.index) w.1.1.1 ∙ own w.0 in omega (arith, here, own n, w.1.0)
           in

@@ -62,16 +62,11 @@ fn kind_clash(s: &[u8], l: u16, q: u16) -> Option<Clash>
     unequal(kind_figure(s, l), kind_figure(s, q))
 }
 
-// The first unequal word. This loop and that of `leader_clash` are each the definition `first_below` of what they ask: a function for both
-// would take the question as a closure, and count words and members alike by numbers.
+// The first unequal word.
 fn word_clashes(s: &[u8], l: u16, q: u16) -> Option<Clash>
     ensures { result ≡ word_clashes (sheet_of s.now) l q }
 {
-    let mut first = None;
-    for at in COMPARED {
-        first = first.or(word_clash(s, l, q, at));
-    }
-    first
+    COMPARED.iter().find_map(|at| word_clash(s, l, q, *at))
 }
 
 // What a leader and a member differ in first: the words, then the kinds.
@@ -86,10 +81,7 @@ fn member_clash(s: &[u8], l: u16, q: u16) -> Option<Clash>
 pub fn leader_clash(s: &[u8], l: u16) -> Option<Clash>
     ensures { result ≡ leader_clash (sheet_of s.now) l }
 {
-    let mut first = None;
-    for i in 0..number(s, OBJECTS, l, COMPLEMENT_LIST) {
-        let q = entry(s, OBJECTS, l, COMPLEMENT_LIST, i);
-        first = first.or(member_clash(s, l, q));
-    }
-    first
+    (0..number(s, OBJECTS, l, COMPLEMENT_LIST)).find_map(|i| {
+        member_clash(s, l, entry(s, OBJECTS, l, COMPLEMENT_LIST, i))
+    })
 }

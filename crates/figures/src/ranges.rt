@@ -91,6 +91,7 @@ impl RangePlaces {
 
     // The bound that a value outside its range is told with. The word of silence is that of the least number, so one order serves both
     // sorts.
+    #[tactic(auto, using(crate::proofs::OrderLaws::below_words), unfolding(crate::specs::Ranges::bound_place))]
     fn bound(self, s: &[u8], sort: Sort) -> WordPlace
         ensures { result ≡ bound_place (sheet_of s.now) sort self.value self.minimum self.maximum }
     {
