@@ -4,7 +4,6 @@ ghost use Rattle.languages.specs.steps.Table.{Tabled};
 ghost use Rattle.sheet.specs.Words.{words};
 ghost use Rattle.values.specs.Language.{three_letters};
 
-use sheet::words::{word, word_count};
 use values::language::three_letters;
 
 // Enough for every word of three letters: the last is zzz.
@@ -21,12 +20,12 @@ fn mark_code(w: u16, table: &mut [u8; LANGUAGE_WORDS])
 }
 
 // Fills a table: 1 at the codes of three letters that the list has, 0 at other words.
-#[tactic(auto, unfolding(sheet::specs::Words::sheet_of, sheet::specs::Words::word, sheet::specs::Words::word_count, profile::specs::Languages::is_listed), using(crate::proofs::TableLaws::tabled_more))]
+#[tactic(auto, unfolding(sheet::specs::Words::sheet_of, sheet::specs::Words::word, sheet::specs::Words::word_count, profile::specs::Languages::is_listed), using(crate::proofs::TableLaws::tabled_more, sheet::proofs::WordLaws::word_of_pair, sheet::proofs::WordLaws::how_many_lem))]
 pub fn fill(langs: &[u8], table: &mut [u8; LANGUAGE_WORDS])
     ensures { Tabled (words langs.now) table.new }
 {
     *table = [0; LANGUAGE_WORDS];
-    for i in 0..word_count(langs) {
-        mark_code(word(langs, i), table);
+    for code in langs.as_chunks::<2>().0 {
+        mark_code(u16::from_be_bytes(*code), table);
     }
 }

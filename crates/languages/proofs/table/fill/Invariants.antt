@@ -4,5 +4,5 @@ use Rattle.sheet.specs.Words.{words}
 use Rattle.languages.proofs.TableLaws.{TabledTo}
 use Rattle.languages.proofs.table.fill.Given as goal
 
-abbrev pub invariant-loop-i : goal.invariant-loop-i
-invariant-loop-i l = (length l.table ≡ 27483) × TabledTo (words l.langs) l.i l.table
+abbrev pub invariant-loop-code : goal.invariant-loop-code
+invariant-loop-code l = (length l.table ≡ 27483) × TabledTo (words l.langs) l.code-index l.table
