@@ -1,5 +1,5 @@
 -- A list that rises is found in by halves: its words are the numbers of its pairs of bytes. Assumes nothing.
-use Rattle.std.proofs.Common.{ℕ, zero, suc, eqb, ltb, ◌+◌, ◌/◌, ◌<◌, ◌≤◌, ◌≡◌, refl, sym, ap, ◌∙◌, true, false, true≢false, List, [], ◌∷◌, length, get_or, arith}
+use Rattle.std.proofs.Common.{ℕ, zero, suc, eqb, ltb, ◌+◌, ◌/◌, ◌<◌, ◌≡◌, refl, sym, ap, ◌∙◌, true, false, true≢false, List, [], length, get_or, arith}
 use Rattle.std.specs.Simd.{first_chunks}
 use Rattle.std.specs.Int.{from_be_bytes, w16}
 use Rattle.std.specs.Ordering.{nat_cmp, is_eq, is_lt}

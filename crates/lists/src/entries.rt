@@ -7,6 +7,7 @@ ghost use Rattle.sheet.specs.Words.{sheet_of};
 
 use languages::list::Languages;
 use profile::counting::any;
+use relations::entries::two_entries;
 use relations::objects::has_objects_pack;
 use sheet::fields::{TRACK_ORDINAL, TRACK_PACK, TRACKS};
 use sheet::layout::{count, field};
@@ -28,22 +29,11 @@ pub fn any_no_language(s: &[u8], entries: Entries, langs: &Languages) -> bool
     any(entries.list.count, |i| !langs.good(entries.at(s, i)))
 }
 
-// Whether the entry at a place is that of an earlier place. With `any_twice` it is `two_references` of rules with `==`. One function below
-// both would take a test of two places, and so read the entry at j anew for each place before it.
-#[tactic(auto, unfolding(crate::specs::steps::Entries::entry_at, crate::specs::steps::Entries::same_at))]
-fn is_earlier(s: &[u8], entries: Entries, j: u16) -> bool
-    ensures { result ≡ any (λ i. same_at (sheet_of s.now) entries.base entries.list.first i j) j }
-{
-    let y = entries.at(s, j);
-    any(j, |i| entries.at(s, i) == y)
-}
-
 // Whether two places have the same entry.
-#[tactic(auto, unfolding(profile::specs::Counting::two_of))]
 pub fn any_twice(s: &[u8], entries: Entries) -> bool
     ensures { result ≡ two_of (same_at (sheet_of s.now) entries.base entries.list.first) entries.list.count }
 {
-    any(entries.list.count, |j| is_earlier(s, entries, j))
+    two_entries(s, entries, |x, y| x == y)
 }
 
 // Whether the entries are good languages and each is above the one before; then none comes twice.

@@ -2,8 +2,8 @@
 // of any test that a closure computes. There is no branch for a number that passes, as there would be in the library's `any`, `all` and
 // `filter` of a range, but in `lowest` and `all`, which end early: written as `(0..n).find(..)` and `(0..n).all(test)` their three clauses
 // were not proved, since the library's contracts speak of a run of the range, and the invariants of these loops of the numbers themselves.
-ghost use Rattle.std.specs.Prelude.{ℕ, Bool, true, ◌<◌, ◌≤◌, ◌≡◌};
-ghost use Rattle.profile.specs.Counting.{ComputesBelow, any, every, how_many, lowest};
+ghost use Rattle.std.specs.Prelude.{ℕ, Bool, true, ◌*◌, ◌<◌, ◌≤◌, ◌≡◌};
+ghost use Rattle.profile.specs.Counting.{ComputesBelow, any, every, how_many, lowest, sum};
 
 // Whether some number below n passes.
 #[tactic(auto, unfolding(crate::specs::Counting::any))]
@@ -43,6 +43,20 @@ pub fn how_many<F: Fn(u16) -> bool>(n: u16, test: F) -> u16
         found += u16::from(test(i));
     }
     found
+}
+
+// What a closure gives the numbers below n, added up.
+#[tactic(auto, unfolding(crate::specs::Counting::sum))]
+pub fn sum<F: Fn(u16) -> u16>(n: u16, part: F) -> u32
+    requires { F.IsAlwaysCallable part }
+    ensures added { (f : ℕ → ℕ) → ComputesBelow n (F.post part) f → result ≡ sum f n }
+    ensures at_most { result ≤ 65535 * n }
+{
+    let mut total = 0;
+    for i in 0..n {
+        total += u32::from(part(i));
+    }
+    total
 }
 
 // The lowest number below n that passes, or n: a number and no `Option`, as the definition has it, by which verdicts and relations compare

@@ -1,14 +1,27 @@
 // The entries of the list at a position of a record, by a test that the caller gives. The list is named by section, record and position, as in
 // the definitions `entry`, `number`, `lists` and `times`, which take the three: a struct of them would be built at each call, where section and
 // position are constants, and taken apart again to state the contract. Where both words of a list are read, `Span` (sheet) has them.
-ghost use Rattle.std.specs.Prelude.{ℕ, Bool, ◌≤◌, ◌≡◌};
-ghost use Rattle.profile.specs.Counting.{ComputesBelow, any, how_many};
+ghost use Rattle.std.specs.Prelude.{ℕ, Bool, ◌+◌, ◌≤◌, ◌≡◌};
+ghost use Rattle.profile.specs.Counting.{ComputesBelow, ComputesPairsBelow, any, how_many, two_of};
 ghost use Rattle.profile.specs.Relations.{lists, times};
 ghost use Rattle.sheet.specs.Layout.{entry, number};
-ghost use Rattle.sheet.specs.Words.{sheet_of};
+ghost use Rattle.sheet.specs.Words.{sheet_of, word};
 
 use profile::counting::{any, how_many};
 use sheet::layout::{entry, number};
+use sheet::spans::Entries;
+
+// Whether two entries of a list pass together, the earlier one first.
+#[tactic(auto, unfolding(profile::specs::Counting::two_of))]
+pub fn two_entries<F: Fn(u16, u16) -> bool>(s: &[u8], entries: Entries, test: F) -> bool
+    requires { F.IsAlwaysCallable test }
+    ensures { (p : ℕ → ℕ → Bool) → ComputesPairsBelow 65536 (F.post test) p → result ≡ two_of (λ i j. p (word (sheet_of s.now) (entries.base + (entries.list.first + i))) (word (sheet_of s.now) (entries.base + (entries.list.first + j)))) entries.list.count }
+{
+    any(entries.list.count, |j| {
+        let y = entries.at(s, j);
+        any(j, |i| test(entries.at(s, i), y))
+    })
+}
 
 // How many entries pass.
 pub fn how_many_entries<F: Fn(u16) -> bool>(s: &[u8], section: u8, k: u16, at: u8, test: F) -> u16

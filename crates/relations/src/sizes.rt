@@ -6,21 +6,18 @@ ghost use Rattle.sheet.specs.Words.{sheet_of};
 
 use crate::groups::{member, members};
 use crate::objects::has_children;
+use profile::counting::sum;
 use sheet::fields::{CHILD_LIST, OBJECTS, TRACK_LIST};
 use sheet::layout::{entry, number};
 
 // The tracks of an object's children.
-#[tactic(auto, unfolding(crate::specs::steps::Sizes::children_tracks, profile::specs::Counting::sum))]
+#[tactic(auto, unfolding(crate::specs::steps::Sizes::children_tracks))]
 pub fn children_tracks(s: &[u8], o: u16) -> u32
     ensures { result ≡ children_tracks (sheet_of s.now) o }
 {
-    let n = number(s, OBJECTS, o, CHILD_LIST);
-    let mut total: u32 = 0;
-    for i in 0..n {
-        let child = entry(s, OBJECTS, o, CHILD_LIST, i);
-        total += u32::from(number(s, OBJECTS, child, TRACK_LIST));
-    }
-    total
+    sum(number(s, OBJECTS, o, CHILD_LIST), |i| {
+        number(s, OBJECTS, entry(s, OBJECTS, o, CHILD_LIST, i), TRACK_LIST)
+    })
 }
 
 // "An object's size is its track count, or its children's added up."

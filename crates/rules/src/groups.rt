@@ -9,13 +9,12 @@ ghost use Rattle.tables.specs.steps.Right.{Complemented, Included, ObjectsTabled
 
 use crate::differences::differs;
 use crate::naming::total_times;
-use crate::references::any_reference;
 use profile::counting::any;
+use relations::entries::any_entry;
 use relations::groups::members;
 use relations::objects::leader;
 use sheet::fields::{COMPLEMENT_LIST, OBJECTS};
 use sheet::layout::count;
-use sheet::spans::Span;
 use tables::ObjectTables;
 use tables::members::members_passing;
 use tables::reads::{included_by, look, top_by};
@@ -41,15 +40,15 @@ pub fn bad_complement(s: &[u8], tables: &ObjectTables, q: u16) -> bool
 pub fn rule19(s: &[u8], tables: &ObjectTables, section: u8, o: u16) -> bool
     ensures { ObjectsTabled (sheet_of s.now) tables.now → result ≡ rule19 (sheet_of s.now) section o }
 {
-    let complements = Span::at(s, OBJECTS, o, COMPLEMENT_LIST);
-    any_reference(s, complements, |q| bad_complement(s, tables, q))
+    any_entry(s, OBJECTS, o, COMPLEMENT_LIST, |q| {
+        bad_complement(s, tables, q)
+    })
 }
 
 pub fn rule20(s: &[u8], section: u8, o: u16) -> bool
     ensures { result ≡ rule20 (sheet_of s.now) section o }
 {
-    let complements = Span::at(s, OBJECTS, o, COMPLEMENT_LIST);
-    any_reference(s, complements, |q| differs(s, o, q))
+    any_entry(s, OBJECTS, o, COMPLEMENT_LIST, |q| differs(s, o, q))
 }
 
 // The programme includes some of a leader's group, but neither one member nor all.

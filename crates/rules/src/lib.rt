@@ -19,7 +19,6 @@ pub mod lists;
 pub mod naming;
 pub mod objects;
 pub mod ranges;
-pub mod references;
 pub mod repeats;
 pub mod sets;
 pub mod totals;

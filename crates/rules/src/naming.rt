@@ -13,7 +13,7 @@ ghost use Rattle.sheet.specs.Words.{sheet_of};
 ghost use Rattle.tables.specs.steps.Right.{Listed, Named, Spanned};
 
 use crate::repeats::repeats_by;
-use profile::counting::{any, how_many};
+use profile::counting::{any, how_many, sum};
 use relations::entries::{lists, times};
 use relations::sets::has_set;
 use sheet::fields::{
@@ -23,15 +23,11 @@ use sheet::layout::{count, field};
 use tables::reads::look;
 
 // How often all lists at a position of the objects name x.
-#[tactic(auto, unfolding(crate::specs::steps::Loops::total_times, profile::specs::Counting::sum))]
+#[tactic(auto, unfolding(crate::specs::steps::Loops::total_times))]
 pub fn total_times(s: &[u8], at: u8, x: u16) -> u32
     ensures { result ≡ total_times (sheet_of s.now) at x }
 {
-    let mut total = 0;
-    for q in 0..count(s, OBJECTS) {
-        total += u32::from(times(s, OBJECTS, q, at, x));
-    }
-    total
+    sum(count(s, OBJECTS), |q| times(s, OBJECTS, q, at, x))
 }
 
 // How often contents and child lists name an object.

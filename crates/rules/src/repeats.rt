@@ -13,9 +13,8 @@ ghost use Rattle.tables.specs.steps.Marks.{Standing};
 ghost use Rattle.tables.specs.steps.Right.{Owners, GroupsTabled, told};
 
 use crate::differences::sets_differ;
-use crate::references::two_references;
 use profile::counting::any;
-use relations::entries::{any_entry, how_many_entries};
+use relations::entries::{any_entry, how_many_entries, two_entries};
 use relations::objects::channels;
 use relations::programmes::named_set;
 use runs::reads::look_up;
@@ -62,7 +61,7 @@ fn alike<F: Fn(u16) -> u16>(s: &[u8], section: u8, k: u16, at: u8, key: F) -> bo
 {
     let list = Span::at(s, section, k, at);
     if list.count <= SHORT {
-        two_references(s, list, |x, y| key(x) == key(y))
+        two_entries(s, list.entries(s), |x, y| key(x) == key(y))
     } else {
         keys_alike(s, section, k, at, key)
     }
@@ -155,7 +154,9 @@ fn group_pairs_differ(s: &[u8], tables: &GroupTables, p: u16) -> bool
     ensures { GroupsTabled (sheet_of s.now) tables.now → result ≡ sets_differ_in_group (sheet_of s.now) p }
 {
     let sets = Span::at(s, PROGRAMMES, p, SET_LIST);
-    two_references(s, sets, |u, v| differ_in_one_group(s, tables, u, v))
+    two_entries(s, sets.entries(s), |u, v| {
+        differ_in_one_group(s, tables, u, v)
+    })
 }
 
 // The same for a long list: each is compared with the first of its group. No sheet has more than 2,046 objects; a larger number would

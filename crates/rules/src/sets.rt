@@ -5,14 +5,13 @@ ghost use Rattle.rules.specs.steps.Loops.{partly_set};
 ghost use Rattle.sheet.specs.Words.{sheet_of};
 ghost use Rattle.tables.specs.steps.Right.{Included, NamedSets, GroupsTabled};
 
-use crate::references::any_reference;
 use crate::repeats::{differ_in_group, one_owner};
 use profile::counting::any;
+use relations::entries::any_entry;
 use relations::groups::members;
 use relations::objects::leader;
 use sheet::fields::{OBJECTS, PROGRAMMES, SET_LIST};
 use sheet::layout::count;
-use sheet::spans::Span;
 use tables::GroupTables;
 use tables::marks::mark_named_sets;
 use tables::members::members_passing;
@@ -40,8 +39,7 @@ fn partly_set(s: &[u8], p: u16, marks: &[u16], sets: &[u16], l: u16) -> bool
 pub fn rule22(s: &[u8], tables: &GroupTables, marks: &[u16], section: u8, p: u16) -> bool
     ensures { GroupsTabled (sheet_of s.now) tables.now → Included (sheet_of s.now) p marks.now → result ≡ rule22 (sheet_of s.now) section p }
 {
-    let named = Span::at(s, PROGRAMMES, p, SET_LIST);
-    if any_reference(s, named, |v| {
+    if any_entry(s, PROGRAMMES, p, SET_LIST, |v| {
         !included_by(s, p, marks, owner_by(s, tables.owners, v))
     }) {
         return true;
