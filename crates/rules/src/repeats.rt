@@ -5,7 +5,7 @@ ghost use Rattle.profile.specs.Counting.{ComputesBelow};
 ghost use Rattle.profile.specs.Relations.{channels, owner};
 ghost use Rattle.profile.specs.Rules.{repeats};
 ghost use Rattle.runs.specs.steps.Runs.{RepeatRight};
-ghost use Rattle.rules.specs.steps.Loops.{bad_channel, differ_in_one_group, keys_alike, sets_differ_in_group, tracks_with};
+ghost use Rattle.rules.specs.steps.Loops.{bad_channel, differ_in_one_group, keys_alike, sets_differ_in_group};
 ghost use Rattle.sheet.specs.Words.{sheet_of};
 ghost use Rattle.sheet.specs.Fields.{objects, programmes, set_list, track_list};
 ghost use Rattle.sheet.specs.Layout.{number};
@@ -13,9 +13,7 @@ ghost use Rattle.tables.specs.steps.Marks.{Standing};
 ghost use Rattle.tables.specs.steps.Right.{Owners, GroupsTabled, told};
 
 use crate::differences::sets_differ;
-use profile::counting::any;
-use relations::entries::{any_entry, how_many_entries, two_entries};
-use relations::objects::channels;
+use relations::entries::{any_entry, two_entries};
 use relations::programmes::named_set;
 use runs::reads::look_up;
 use sheet::fields::{OBJECTS, PROGRAMMES, SET_LIST, TRACK_LIST, TRACK_ORDINAL, TRACKS};
@@ -88,35 +86,14 @@ pub fn one_owner(s: &[u8], owners: &[u16], p: u16) -> bool
     alike(s, PROGRAMMES, p, SET_LIST, |v| owner_by(s, owners, v))
 }
 
-// How many of the object's tracks have an ordinal.
-fn tracks_with(s: &[u8], o: u16, ordinal: u16) -> u16
-    ensures { result ≡ tracks_with (sheet_of s.now) o ordinal }
-{
-    how_many_entries(s, OBJECTS, o, TRACK_LIST, |t| {
-        field(s, TRACKS, t, TRACK_ORDINAL) == ordinal
-    })
-}
-
-// Whether some channel is not the ordinal of exactly one of the object's tracks.
-#[tactic(auto, unfolding(crate::specs::steps::Loops::bad_channel))]
-pub fn bad_channel(s: &[u8], o: u16) -> bool
-    ensures { result ≡ bad_channel (sheet_of s.now) o }
-{
-    any(channels(s, o), |c| tracks_with(s, o, c) != 1)
-}
-
-// Whether some channel of n is not the ordinal of exactly one of the object's n tracks. A short list is left to `bad_channel`: by `alike`,
-// which takes lists of any length, that public function would stay without a caller.
+// Whether some channel of n is not the ordinal of exactly one of the object's n tracks: some ordinal is too high, or two are alike.
 pub fn bad_ordinals(s: &[u8], o: u16) -> bool
     ensures { number (sheet_of s.now) objects o track_list ≡ channels (sheet_of s.now) o → result ≡ bad_channel (sheet_of s.now) o }
 {
     let n = number(s, OBJECTS, o, TRACK_LIST);
-    if n <= SHORT {
-        return bad_channel(s, o);
-    }
     any_entry(s, OBJECTS, o, TRACK_LIST, |t| {
         n <= field(s, TRACKS, t, TRACK_ORDINAL)
-    }) | keys_alike(s, OBJECTS, o, TRACK_LIST, |t| {
+    }) | alike(s, OBJECTS, o, TRACK_LIST, |t| {
         field(s, TRACKS, t, TRACK_ORDINAL)
     })
 }

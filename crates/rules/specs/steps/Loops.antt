@@ -42,13 +42,9 @@ fields_differ s section from a b = any (λ f. not (eqb (field s section a (from 
 unfoldable pub total_times : Sheet → ℕ → ℕ → ℕ
 total_times s at x = sum (λ q. times s objects q at x) (count s objects)
 
--- how many of an object's tracks have an ordinal
-abbrev pub tracks_with : Sheet → ℕ → ℕ → ℕ
-tracks_with s o n = how_many (λ i. eqb (field s tracks (track_at s o i) track_ordinal) n) (number s objects o track_list)
-
 -- some channel is not the ordinal of exactly one of the object's tracks
 unfoldable pub bad_channel : Sheet → ℕ → Bool
-bad_channel s o = any (λ n. not (eqb (tracks_with s o n) 1)) (channels s o)
+bad_channel s o = any (λ n. not (eqb (how_many (λ i. eqb (field s tracks (track_at s o i) track_ordinal) n) (number s objects o track_list)) 1)) (channels s o)
 
 -- some set of the object has own 1
 unfoldable pub own_set : Sheet → ℕ → Bool

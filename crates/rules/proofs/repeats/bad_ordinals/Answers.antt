@@ -1,4 +1,4 @@
--- By the channels, or by ordinals that are too high or alike. Assumes nothing.
+-- By ordinals that are too high or alike. Assumes nothing.
 use Rattle.std.proofs.Common.{rules}
 use Prim.Native.Nat.{ℕ}
 use mathlib.Core.Path.{sym, ap, ap₂, ◌∙◌}
@@ -19,4 +19,4 @@ returns c =
     let a = c.args in let s = sheet_of a.s.now in let n = number s objects a.o track_list in
     let f : ℕ → ℕ = λ i. field s tracks (track_at s a.o i) track_ordinal in
     let past = c.any_entry.ensures (λ t. leb c.number-n.result (field s tracks t track_ordinal)) (λ t r l q. search rules) ∙ ap (λ (m : ℕ). any (λ i. leb m (f i)) n) c.number-n.ensures in
-    λ e. ap₂ (λ (a b : Bool). a || b) past (c.keys_alike.ensures (λ t. field s tracks t track_ordinal) (λ t r l q. search rules)) ∙ sym (once_each f n) ∙ ap (any (λ h. not (eqb (how_many (λ i. eqb (f i) h) n) 1))) e
+    λ e. ap₂ (λ (a b : Bool). a || b) past (c.alike.ensures (λ t. field s tracks t track_ordinal) (λ t r l q. search rules)) ∙ sym (once_each f n) ∙ ap (any (λ h. not (eqb (how_many (λ i. eqb (f i) h) n) 1))) e
