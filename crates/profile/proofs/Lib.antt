@@ -9,3 +9,4 @@ pub mod RisingLaws
 pub mod VerdictLaws
 pub mod HeaderLaws
 pub mod AcceptedLaws
+mod RangeLaws

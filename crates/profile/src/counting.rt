@@ -6,29 +6,11 @@ ghost use Rattle.std.specs.Prelude.{ℕ, Bool, true, ◌*◌, ◌<◌, ◌≤◌
 ghost use Rattle.profile.specs.Counting.{ComputesBelow, any, every, how_many, lowest, sum};
 
 // Whether some number below n passes.
-#[tactic(auto, unfolding(crate::specs::Counting::any))]
 pub fn any<F: Fn(u16) -> bool>(n: u16, test: F) -> bool
     requires { F.IsAlwaysCallable test }
     ensures { (p : ℕ → Bool) → ComputesBelow n (F.post test) p → result ≡ any p n }
 {
-    let mut found = false;
-    for i in 0..n {
-        found |= test(i);
-    }
-    found
-}
-
-// Whether every number below n passes.
-#[tactic(auto, unfolding(crate::specs::Counting::every))]
-pub fn every<F: Fn(u16) -> bool>(n: u16, test: F) -> bool
-    requires { F.IsAlwaysCallable test }
-    ensures { (p : ℕ → Bool) → ComputesBelow n (F.post test) p → result ≡ every p n }
-{
-    let mut passing = true;
-    for i in 0..n {
-        passing &= test(i);
-    }
-    passing
+    (0..n).any(|i| test(i))
 }
 
 // How many numbers below n pass.
@@ -65,12 +47,7 @@ pub fn lowest<F: Fn(u16) -> bool>(n: u16, test: F) -> u16
     requires { F.IsAlwaysCallable test }
     ensures { (p : ℕ → Bool) → ComputesBelow n (F.post test) p → result ≡ lowest p n }
 {
-    for i in 0..n {
-        if test(i) {
-            return i;
-        }
-    }
-    n
+    (0..n).find(|i| test(*i)).unwrap_or(n)
 }
 
 // Whether every number below n passes, ending at the first that doesn't. Where the test itself shows no more than that a number is good
@@ -80,10 +57,5 @@ pub fn all<F: Fn(u16) -> bool>(n: u16, test: F) -> bool
     ensures computed { (p : ℕ → Bool) → ComputesBelow n (F.post test) p → result ≡ every p n }
     ensures each { result ≡ true → (i : ℕ) → i < n → F.post test i true }
 {
-    for i in 0..n {
-        if !test(i) {
-            return false;
-        }
-    }
-    true
+    (0..n).all(|i| test(i))
 }

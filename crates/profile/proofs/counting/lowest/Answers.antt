@@ -1,15 +1,10 @@
-use Rattle.std.proofs.Common.{sym, arith}
-use borrow.Author.Count.{below_more}
-use Rattle.profile.proofs.CountingLaws.{lowest_at, lowest_none}
+-- What the library tells of the numbers of the range. Assumes nothing.
+use Rattle.std.proofs.Common.{true, false, rules, tests, ◌<◌, ◌≡◌, sym, ◌∙◌}
+use Rattle.std.proofs.lemmas.Iterator.{first_from_Range}
+use Rattle.profile.proofs.RangeLaws.{is_lowest}
 use Rattle.profile.proofs.counting.lowest.Goals as goal
 
-pub returns-then-test : goal.returns-then-test
-returns-then-test g c = λ p h.
-    sym (lowest_at _ _ _ c.loop-i-test.true (c.loop-i.invariant p h) (rw (← h _ _ c.loop-i-test.true c.test.ensures) c.if-test.true))
-
-pub loop-i-preserved : goal.loop-i-preserved
-loop-i-preserved g c = λ p h.
-    below_more _ _ (c.loop-i.invariant p h) (rw (← h _ _ c.loop-i-test.true c.test.ensures) c.if-test.false)
-
 pub returns : goal.returns
-returns g c = λ p h. sym (lowest_none _ _ (λ j l. c.loop-i.invariant p h j (omega arith)))
+returns g c = λ p h.
+    let n = c.args.n in
+    c.unwrap_or.ensures ∙ is_lowest p n c.find.result (first_from_Range _ _ _ _ (λ i. i < n → p i ≡ true) (λ i. i < n → p i ≡ false) c.find.ensures.ran (λ x q k l. sym (h x true l (search (rules, tests)))) (λ x q k. (search rules, λ l. sym (h x false l (search (rules, tests))))))
