@@ -1,7 +1,6 @@
 // The counting definitions over a test that the caller gives: each function is the definition of the same name, and `all` that of `every`,
-// of any test that a closure computes. There is no branch for a number that passes, as there would be in the library's `any`, `all` and
-// `filter` of a range, but in `lowest` and `all`, which end early: written as `(0..n).find(..)` and `(0..n).all(test)` their three clauses
-// were not proved, since the library's contracts speak of a run of the range, and the invariants of these loops of the numbers themselves.
+// of any test that a closure computes. `how_many` and `sum` are loops: by `map(..).sum()` the goal `sum-requires-clause-fits` and those of
+// the clauses stayed open, and the check asked that each value of the closure's type may be called, which is more than a caller shows.
 ghost use Rattle.std.specs.Prelude.{ℕ, Bool, true, ◌*◌, ◌<◌, ◌≤◌, ◌≡◌};
 ghost use Rattle.profile.specs.Counting.{ComputesBelow, any, every, how_many, lowest, sum};
 

@@ -32,7 +32,8 @@ pub fn size(s: &[u8], o: u16) -> u32
     }
 }
 
-// The size of the largest member of a leader's group.
+// The size of the largest member of a leader's group. A function for `largest` beside `sum` of profile::counting would have this one
+// caller, whose count and numbers take 32 bits.
 #[tactic(auto, unfolding(crate::specs::steps::Sizes::largest_member, profile::specs::Counting::largest))]
 pub fn largest_member(s: &[u8], l: u16) -> u32
     ensures { result ≡ largest_member (sheet_of s.now) l }

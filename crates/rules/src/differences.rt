@@ -9,8 +9,8 @@ use sheet::fields::{INTERACT, OBJECTS, SET_GAIN, VALUE_SETS};
 use sheet::layout::field;
 
 // Whether two records of a section differ in one of the seven words from a position on. Three places compare these words by other ways:
-// inclusion and screen know the index at which the words begin, of value sets and of an object, and don't find the record for each word;
-// figures tells which word differs.
+// inclusion, which does not stand on rules, compares two value sets as slices of the sheet, and may say that one past its end differs;
+// screen reads the words of its `ObjectWords`, as all words of an object; figures tells which word differs.
 #[tactic(auto, unfolding(crate::specs::steps::Loops::fields_differ, profile::specs::Counting::any))]
 fn fields_differ(s: &[u8], section: u8, from: u8, a: u16, b: u16) -> bool
     requires { from ≤ 7 }
