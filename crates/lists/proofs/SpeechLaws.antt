@@ -2,19 +2,15 @@
 use Prim.Native.Nat.{ℕ, ◌+◌}
 use mathlib.Core.Path.{◌≡◌}
 use mathlib.Core.List.{List}
-use mathlib.Core.Bool.{Bool, false, not, ◌||◌}
+use mathlib.Core.Bool.{Bool, false, ◌||◌}
 use lib.Dec.{leb, ltb}
 use Rattle.sheet.specs.Words.{Sheet, word}
 use Rattle.sheet.specs.Layout.{count, field, number, start, entry, reference}
 use Rattle.sheet.specs.Fields.{programmes, contents, objects, references, value_sets, content_language, content_object, content_labels, content_loudness, programme_language, content_list, set_list, programme_labels, programme_loudness}
-use Rattle.values.specs.Language.{loudness}
-use Rattle.profile.specs.Counting.{any, two_of}
-use Rattle.profile.specs.Languages.{good_language}
 use Rattle.profile.specs.Limits.{exceeds, labels_limit, programme_contents_limit, programme_sets_limit}
 use Rattle.profile.specs.Rules.{rule4, rule5, rule6, rule8, rule9, beyond, lacks, list_lacks, bad_speech, bad_label, repeats, outside}
 use Rattle.profile.proofs.BoolLaws.{or_false, or_none_3, or_none_4}
 use Rattle.lists.specs.steps.Entries.{entry_at, lacking_at, no_language_at, same_at}
-use Rattle.lists.proofs.LimitLaws.{no_excess}
 use Rattle.lists.specs.steps.Speech.{speech_broken, content_broken, programme_lists_broken, programme_broken}
 
 -- an or of six that fails
@@ -23,11 +19,6 @@ or_none_6 a b c d e f h =
     let l = or_none_3 (a || b || c || d) e f h in
     let m = or_none_4 a b c d l.0 in
     (m.0, m.1, m.2, m.3, l.1, l.2)
-
--- a record without labels
-pub no_labels : (s : Sheet) (langs : List ℕ) (lang first loud : ℕ) → (ltb (count s references) (first + 0) || (not (good_language langs lang) || not (loudness loud))) ≡ speech_broken s langs lang first 0 loud
-unfolding speech_broken any two_of
-no_labels s langs lang first loud = simp (no_excess s labels_limit, or_false)
 
 -- the words of a content at their places
 pub content_kept : (s : Sheet) (langs : List ℕ) (k : ℕ) {at lang object first n loud : ℕ} → at ≡ start s contents k → lang ≡ word s (at + content_language) → object ≡ word s (at + content_object) → first ≡ word s (at + content_labels) → n ≡ word s (at + (content_labels + 1))

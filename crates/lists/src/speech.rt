@@ -41,20 +41,6 @@ impl Speech {
         }
     }
 
-    // Whether they break a rule, where there are no labels. By `breaks`, which is right of an empty list too, the screening of
-    // examples/play.sheet took 669 instructions more, 6.8 % of its check, where the bar is 5 % (docs/DECISIONS.md, 135).
-    #[tactic(auto, using(crate::proofs::SpeechLaws::no_labels))]
-    fn breaks_without_labels(self, s: &[u8], langs: &Languages) -> bool
-        ensures { result ≡ speech_broken (sheet_of s.now) langs.now self.language self.labels.first 0 self.loudness }
-    {
-        let labels = Span {
-            first: self.labels.first,
-            count: 0,
-        };
-        labels.is_beyond(count(s, REFERENCES))
-            | (!langs.good(self.language) | !loudness(self.loudness))
-    }
-
     // Whether they break a rule.
     #[tactic(auto, unfolding(crate::specs::steps::Speech::speech_broken))]
     fn breaks(self, s: &[u8], langs: &Languages) -> bool
@@ -90,9 +76,6 @@ pub fn content_breaks(s: &[u8], langs: &Languages, k: u16) -> bool
     }
     if count(s, OBJECTS) <= word_at(s, at, CONTENT_OBJECT) {
         return true;
-    }
-    if speech.labels.count == 0 {
-        return speech.breaks_without_labels(s, langs);
     }
     speech.breaks(s, langs)
 }

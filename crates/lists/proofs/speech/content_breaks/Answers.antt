@@ -5,13 +5,6 @@ use Rattle.sheet.specs.Words.{sheet_of}
 use Rattle.lists.proofs.SpeechLaws.{content_kept}
 use Rattle.lists.proofs.speech.content_breaks.Goals as goal
 
-pub returns-then-speech-eq0 : goal.returns-then-speech-eq0
-returns-then-speech-eq0 c =
-    λ e.
-    let in_section = rw c.count.ensures at (lt-leb c.count.result c.word_at.result c.if-count-word_at.false) in
-    content_kept (sheet_of c.args.s.now) c.args.langs.now c.args.k c.record_at-at.ensures c.at-speech.ensures.language c.word_at.ensures c.at-speech.ensures.first c.at-speech.ensures.count c.at-speech.ensures.loudness
-    (rw c.if-speech-eq0.true (sym c.breaks_without_labels.ensures ∙ e)) in_section
-
 pub returns : goal.returns
 returns c =
     λ e.
