@@ -41,11 +41,14 @@ impl Speech {
         }
     }
 
-    // Whether they break a rule.
+    // Whether they may break a rule: a long list of labels is left to the search.
     #[tactic(auto, unfolding(crate::specs::steps::Speech::speech_broken))]
     fn breaks(self, s: &[u8], langs: &Languages) -> bool
-        ensures { result ≡ speech_broken (sheet_of s.now) langs.now self.language self.labels.first self.labels.count self.loudness }
+        ensures { result ≡ false → speech_broken (sheet_of s.now) langs.now self.language self.labels.first self.labels.count self.loudness ≡ false }
     {
+        if LONGEST < self.labels.count {
+            return true;
+        }
         let n = u64::from(self.labels.count);
         let entries = self.labels.entries(s);
         if labels_rise(s, entries, langs) {
@@ -62,7 +65,8 @@ impl Speech {
     }
 }
 
-// Whether a content may break one of rules 4, 5, 6, 8 and 9.
+// Whether a content may break one of rules 4, 5, 6, 8 and 9. It opens as `programme_breaks` does: one function for both openings would
+// give the index and the words of speech or neither, and each caller would take them apart, and say its section and positions still.
 pub fn content_breaks(s: &[u8], langs: &Languages, k: u16) -> bool
     ensures { result ≡ false → content_broken (sheet_of s.now) langs.now k ≡ false }
 {
@@ -71,13 +75,7 @@ pub fn content_breaks(s: &[u8], langs: &Languages, k: u16) -> bool
         return true;
     }
     let speech = Speech::at(s, at, CONTENT_SPEECH);
-    if LONGEST < speech.labels.count {
-        return true;
-    }
-    if count(s, OBJECTS) <= word_at(s, at, CONTENT_OBJECT) {
-        return true;
-    }
-    speech.breaks(s, langs)
+    (count(s, OBJECTS) <= word_at(s, at, CONTENT_OBJECT)) | speech.breaks(s, langs)
 }
 
 // The content list and the set list of a programme.
@@ -103,9 +101,6 @@ pub fn programme_breaks(s: &[u8], langs: &Languages, k: u16) -> bool
         return true;
     }
     let speech = Speech::at(s, at, PROGRAMME_SPEECH);
-    if LONGEST < speech.labels.count {
-        return true;
-    }
     speech.breaks(s, langs)
         | programme_lists_break(s, span_at(s, at, CONTENT_LIST), span_at(s, at, SET_LIST))
 }
