@@ -1,6 +1,7 @@
 // Whether a lent list rises. This is asked at every call, so it is written for the compiler to test many words at once: over all bytes,
-// with a number for each test, and no branch: 105 ns for 506 words, where one word after the other, as by `windows` too, took 1.3 µs
-// (docs/SPEED.md).
+// with a number for each test, and no branch: 105 ns for 506 words, where one word after the other took 1.3 µs (docs/SPEED.md). Tried as
+// `is_sorted_by` of the pairs of bytes, which is proved too: 3,378 instructions more for 506 words, where a whole check of sheet A under
+// them takes 1,944, with the reading of both; a call may take 5 % more (docs/DECISIONS.md, 135).
 ghost use Rattle.std.specs.Prelude.{cond, length, ◌+◌, ◌<◌, ◌≡◌};
 ghost use Rattle.languages.specs.steps.Falls.{falls_at};
 ghost use Rattle.profile.specs.Languages.{is_rising};
