@@ -1,5 +1,5 @@
-// What the screening asks of the entries of a list: each function but `labels_rise` is one call of `any` with a test of its own, as its
-// definition is, and has no branch for an entry that passes. The sheet stands beside the entries, as beside all that is read from it.
+// What the screening asks of the entries of a list: each function but `labels_rise` is one call of `any` or `two_entries` with a test of its
+// own, as its definition is. The sheet stands beside the entries, as beside all that is read from it.
 ghost use Rattle.std.specs.Prelude.{false, true, ◌≡◌};
 ghost use Rattle.profile.specs.Counting.{any, two_of};
 ghost use Rattle.lists.specs.steps.Entries.{bad_child_at, lacking_at, no_language_at, out_of_order_at, same_at};
