@@ -1,5 +1,5 @@
 -- Counting by cover: what the runs name, record by record, is what the indices name, each as often as runs cover it. Assumes nothing.
-use Prim.Native.Nat.{ℕ, zero, suc, ◌+◌, ◌<◌, ◌≤◌}
+use Prim.Native.Nat.{ℕ, zero, suc, ◌+◌, ◌%◌, ◌<◌, ◌≤◌}
 use mathlib.Core.Path.{◌≡◌, refl, sym, ap, ap₂, ◌∙◌}
 use mathlib.Core.Bool.{Bool, true, false, cond, ◌&&◌}
 use mathlib.Core.Logic.{⊎_elim}
@@ -9,7 +9,7 @@ use native.Mathlib.Nat.{add-zero, eq-or-lt_of_le}
 use native.Mathlib.Numerals.{add-one}
 use borrow.Author.Tests.{eq-eqb, ne_eqb, lt-ltb, le-ltb, ltb-true, ltb-false, leb-true, leb-false}
 use lib.Dec.{eqb, leb, ltb}
-use lib.ListN.{length, get_or}
+use lib.ListN.{get_or}
 use Rattle.sheet.specs.Words.{Sheet}
 use Rattle.sheet.specs.Layout.{entry}
 use Rattle.profile.specs.Counting.{how_many, sum}
@@ -128,31 +128,14 @@ indices_more f t₀ t t' g c y w k ew ek before now = (
     step true n d = sym (repeat_add f n (c y) d)
     step false n d = ap (λ (k : ℕ). repeat f k d) (sym (add-zero n))
 
--- where each place has q at most, and one is added at a place, each has one more at most
-pub added_most : (t t' : List ℕ) (w q : ℕ) → Filled (λ z. cond (eqb w z) (get_or t z 0 + 1) (get_or t z 0)) t t' → ((x : ℕ) → x < length t → get_or t x 0 ≤ q)
-    → (x : ℕ) → x < length t' → get_or t' x 0 ≤ q + 1
-added_most t t' w q now most x l =
-    (elim (eqb w x) as (λ b. get_or t' x 0 ≡ cond b (get_or t x 0 + 1) (get_or t x 0) → get_or t' x 0 ≤ q + 1) [
-      | true ↦ λ e. omega (arith, e, most x (rw now.0 at l))
-      | false ↦ λ e. omega (arith, e, most x (rw now.0 at l))
-    ]) (now.1 x l)
-
--- one edge more
-pub edges_more : (e : ℕ → ℕ) (t₀ t t' : List ℕ) (q w : ℕ) → w ≡ e q → Filled (λ y. how_many (λ j. eqb (e j) y) q) t₀ t
-    → Filled (λ z. cond (eqb w z) (get_or t z 0 + 1) (get_or t z 0)) t t' → Filled (λ y. how_many (λ j. eqb (e j) y) (q + 1)) t₀ t'
-unfolding how_many
-edges_more e t₀ t t' q w ew before now = (
-  now.0 ∙ before.0,
-  λ x l.
-      now.1 x l
-      ∙ ap₂ (λ (n v : ℕ). cond (eqb v x) (n + 1) n) (before.1 x (rw now.0 at l)) ew
-      ∙ step (eqb (e q) x) (how_many (λ j. eqb (e j) x) q)
-      ∙ ap (how_many (λ j. eqb (e j) x)) (sym (add-one q)),
-)
+-- counting up from 0 in a word, which doesn't wrap
+pub counted_up : (n : ℕ) → n < 65536 → repeat (λ (c : ℕ). (c + 1) % 65536) n 0 ≡ n
+unfolding repeat
+counted_up zero l = refl
+counted_up (suc n) l = let before = counted_up n (omega arith) in ap (λ (c : ℕ). (c + 1) % 65536) before ∙ wrapped n l
   where
-    step : (b : Bool) (n : ℕ) → cond b (n + 1) n ≡ n + cond b 1 0
-    step true n = refl
-    step false n = sym (add-zero n)
+    wrapped : (n : ℕ) → suc n < 65536 → (n + 1) % 65536 ≡ suc n
+    wrapped n l = omega arith
 
 module _ (s : Sheet) where
   -- what a record names is what the indices of its run name

@@ -9,7 +9,7 @@ ghost use Rattle.tables.specs.steps.Namings.{namers};
 
 use crate::Naming;
 use crate::entry_counts::entries_left;
-use crate::marks::{count_namings, counted_once, mark_at};
+use crate::marks::{count_namings, counted_once, mark_at, mark_each};
 use crate::namings::{items, namers};
 use sheet::fields::{
     CHILD_LIST, COMPLEMENT_LIST, CONTENT_LIST, CONTENT_OBJECT, CONTENTS, OBJECTS, PROGRAMMES,
@@ -73,9 +73,8 @@ fn tally<F: Fn(u16) -> u32>(n: u16, edge: F, table: &mut [u16])
     requires noughts { Standing (λ x. 0) table.old }
     ensures { (f : ℕ → ℕ) → NumbersBelow n (F.post edge) f → (length table.new ≡ length table.old) × Tallied f n table.new }
 {
-    for q in 0..n {
-        mark_at(table, edge(q), |c| c + 1);
-    }
+    // no more than n are counted at one place, so nothing wraps
+    mark_each(n, edge, |c| c.wrapping_add(1), table);
 }
 
 // A count that goes on so many times.

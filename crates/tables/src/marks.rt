@@ -37,17 +37,28 @@ pub fn mark_at<F: Fn(u16) -> u16>(table: &mut [u16], x: u32, mark: F)
     }
 }
 
-// The four loops from here on, and `tally` of coverage, each find the next place in a way of their own. One loop for all would take the
-// place as a second closure beside the mark, and each would be a call with two closures.
+// Marks the place that a closure gives of each number below n.
+pub fn mark_each<P: Fn(u16) -> u32, F: Fn(u16) -> u16>(n: u16, place: P, mark: F, table: &mut [u16])
+    requires places { P.IsAlwaysCallable place }
+    requires marks { F.IsAlwaysCallable mark }
+    ensures { (g : ℕ → ℕ) → NumbersBelow n (P.post place) g → (f : ℕ → ℕ) → NumbersBelow 65536 (F.post mark) f → MarkedTimes f (λ x. how_many (λ j. eqb (g j) x) n) table.old table.new }
+{
+    for i in 0..n {
+        mark_at(table, place(i), &mark);
+    }
+}
 
 // Marks the places of a span.
 fn mark_span<F: Fn(u16) -> u16>(span: Span, mark: F, table: &mut [u16])
     requires { F.IsAlwaysCallable mark }
     ensures { (f : ℕ → ℕ) → NumbersBelow 65536 (F.post mark) f → MarkedTimes f (λ x. how_many (λ j. eqb (span.first + j) x) span.count) table.old table.new }
 {
-    for i in 0..span.count {
-        mark_at(table, u32::from(span.first) + u32::from(i), &mark);
-    }
+    mark_each(
+        span.count,
+        |i| u32::from(span.first) + u32::from(i),
+        mark,
+        table,
+    );
 }
 
 // Marks the entries of a list.
@@ -55,9 +66,12 @@ pub fn mark_list<F: Fn(u16) -> u16>(s: &[u8], entries: Entries, mark: F, table: 
     requires { F.IsAlwaysCallable mark }
     ensures { (f : ℕ → ℕ) → NumbersBelow 65536 (F.post mark) f → MarkedTimes f (λ x. how_many (λ j. eqb (word (sheet_of s.now) (entries.base + (entries.list.first + j))) x) entries.list.count) table.old table.new }
 {
-    for i in 0..entries.list.count {
-        mark_at(table, u32::from(entries.at(s, i)), &mark);
-    }
+    mark_each(
+        entries.list.count,
+        |i| u32::from(entries.at(s, i)),
+        mark,
+        table,
+    );
 }
 
 // Marks the object that a content names.
@@ -78,10 +92,8 @@ pub fn mark_objects<F: Fn(u16) -> u16>(s: &[u8], p: u16, mark: F, table: &mut [u
     ensures { (f : ℕ → ℕ) → NumbersBelow 65536 (F.post mark) f → MarkedTimes f (times_by (sheet_of s.now) IncludedObjects p) table.old table.new }
 {
     let contents = Span::at(s, PROGRAMMES, p, CONTENT_LIST).entries(s);
-    for i in 0..contents.list.count {
-        let object = field(s, CONTENTS, contents.at(s, i), CONTENT_OBJECT);
-        mark_at(table, u32::from(object), &mark);
-    }
+    let object = |i| u32::from(field(s, CONTENTS, contents.at(s, i), CONTENT_OBJECT));
+    mark_each(contents.list.count, object, mark, table);
 }
 
 // Marks the entries of the list at a position of a record.

@@ -1,9 +1,0 @@
--- The places passed are marked. Assumes nothing.
-use Rattle.std.proofs.Common.{ℕ, ◌+◌, eqb}
-use Rattle.sheet.specs.Words.{sheet_of, word}
-use Rattle.profile.specs.Counting.{how_many}
-use Rattle.tables.specs.steps.Marks.{MarkedTimes, NumbersBelow}
-use Rattle.tables.proofs.marks.mark_list.Given as goal
-
-abbrev pub invariant-loop-i : goal.invariant-loop-i
-invariant-loop-i g l = (f : ℕ → ℕ) → NumbersBelow 65536 (goal.F-post g l.mark) f → MarkedTimes f (λ x. how_many (λ j. eqb (word (sheet_of l.s) (l.entries.base + (l.entries.list.first + j))) x) l.i) l.initial.table l.table
