@@ -90,7 +90,9 @@ fn counted_on(c: u16, times: u32) -> u16
 }
 
 // Counts what the indices below m name, each as often as runs cover it: those that began and have not ended. Both tables are locals of its
-// one caller: a struct of the two would be made for this call alone. They are read by number, since `named_at` takes the number too.
+// one caller: a struct of the two would be made for this call alone. They are read by number, as `named_at`: with
+// `(0..m).zip(begins.iter().zip(ends))`, tried and proved, the loop has as many lines, its answers take 75 lines in place of 39, and the
+// sheets of the benchmark up to 0.4 % more instructions.
 fn count_indices(s: &[u8], kind: Naming, m: u16, begins: &[u16], ends: &[u16], table: &mut [u16])
     requires { (m ≤ length begins.now) × (m ≤ length ends.now) × Tallied (run_begin (sheet_of s.now) kind) (namers (sheet_of s.now) kind) begins.now × Tallied (run_end (sheet_of s.now) kind) (namers (sheet_of s.now) kind) ends.now }
     ensures { MarkedTimes counted_once (λ x. sum (λ y. cond (eqb (named_at (sheet_of s.now) kind y) x) (cover (sheet_of s.now) kind y) 0) m) table.old table.new }
