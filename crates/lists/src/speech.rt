@@ -41,14 +41,11 @@ impl Speech {
         }
     }
 
-    // Whether they may break a rule: a long list of labels is left to the search.
+    // Whether they break a rule.
     #[tactic(auto, unfolding(crate::specs::steps::Speech::speech_broken))]
     fn breaks(self, s: &[u8], langs: &Languages) -> bool
-        ensures { result ≡ false → speech_broken (sheet_of s.now) langs.now self.language self.labels.first self.labels.count self.loudness ≡ false }
+        ensures { result ≡ speech_broken (sheet_of s.now) langs.now self.language self.labels.first self.labels.count self.loudness }
     {
-        if LONGEST < self.labels.count {
-            return true;
-        }
         let n = u64::from(self.labels.count);
         let entries = self.labels.entries(s);
         if labels_rise(s, entries, langs) {
@@ -66,7 +63,8 @@ impl Speech {
 }
 
 // Whether a content may break one of rules 4, 5, 6, 8 and 9. It opens as `programme_breaks` does: one function for both openings would
-// give the index and the words of speech or neither, and each caller would take them apart, and say its section and positions still.
+// give the index and the words of speech or neither, and each caller would take them apart, and say its section and positions still. The
+// test of a long list stands in both: tried in `Speech::breaks`, the largest sheet takes 5,002 instructions more, 0.5 % of its check.
 pub fn content_breaks(s: &[u8], langs: &Languages, k: u16) -> bool
     ensures { result ≡ false → content_broken (sheet_of s.now) langs.now k ≡ false }
 {
@@ -75,7 +73,13 @@ pub fn content_breaks(s: &[u8], langs: &Languages, k: u16) -> bool
         return true;
     }
     let speech = Speech::at(s, at, CONTENT_SPEECH);
-    (count(s, OBJECTS) <= word_at(s, at, CONTENT_OBJECT)) | speech.breaks(s, langs)
+    if LONGEST < speech.labels.count {
+        return true;
+    }
+    if count(s, OBJECTS) <= word_at(s, at, CONTENT_OBJECT) {
+        return true;
+    }
+    speech.breaks(s, langs)
 }
 
 // The content list and the set list of a programme.
@@ -101,6 +105,9 @@ pub fn programme_breaks(s: &[u8], langs: &Languages, k: u16) -> bool
         return true;
     }
     let speech = Speech::at(s, at, PROGRAMME_SPEECH);
+    if LONGEST < speech.labels.count {
+        return true;
+    }
     speech.breaks(s, langs)
         | programme_lists_break(s, span_at(s, at, CONTENT_LIST), span_at(s, at, SET_LIST))
 }

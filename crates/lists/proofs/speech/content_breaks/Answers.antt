@@ -1,5 +1,6 @@
 -- The words are those of the content. Assumes nothing.
-use Rattle.profile.proofs.BoolLaws.{or_none}
+use Rattle.std.proofs.Common.{sym, ◌∙◌}
+use borrow.Author.Tests.{lt-leb}
 use Rattle.sheet.specs.Words.{sheet_of}
 use Rattle.lists.proofs.SpeechLaws.{content_kept}
 use Rattle.lists.proofs.speech.content_breaks.Goals as goal
@@ -7,6 +8,6 @@ use Rattle.lists.proofs.speech.content_breaks.Goals as goal
 pub returns : goal.returns
 returns c =
     λ e.
-    let p = or_none _ c.breaks.result e in
+    let in_section = rw c.count.ensures at (lt-leb c.count.result c.word_at.result c.if-count-word_at.false) in
     content_kept (sheet_of c.args.s.now) c.args.langs.now c.args.k c.record_at-at.ensures c.at-speech.ensures.language c.word_at.ensures c.at-speech.ensures.first c.at-speech.ensures.count c.at-speech.ensures.loudness
-    (c.breaks.ensures p.1) (rw c.count.ensures at p.0)
+    (sym c.breaks.ensures ∙ e) in_section
