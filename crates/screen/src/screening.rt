@@ -51,13 +51,7 @@ fn few_entries(s: &[u8]) -> bool {
 fn header_passes(s: &[u8]) -> bool
     ensures { result ≡ true → header_broken (sheet_of s.now) ≡ false }
 {
-    if s.len() < 32 {
-        return false;
-    }
-    if header_breaks(s) {
-        return false;
-    }
-    few_entries(s)
+    s.len() >= 32 && !header_breaks(s) && few_entries(s)
 }
 
 // Whether the records keep rules 4 to 20, each value set is in one span, and the sheet keeps rules 23 and 24.

@@ -10,25 +10,16 @@ ghost use Rattle.tables.specs.steps.Namings.{namers};
 use crate::Naming;
 use crate::entry_counts::entries_left;
 use crate::marks::{count_namings, counted_once, mark_at, mark_each};
-use crate::namings::{items, namers};
-use sheet::fields::{
-    CHILD_LIST, COMPLEMENT_LIST, CONTENT_LIST, CONTENT_OBJECT, CONTENTS, OBJECTS, PROGRAMMES,
-    SET_LIST, SET_SPAN,
-};
+use crate::namings::{items, namers, place_of};
+use sheet::fields::{CONTENT_OBJECT, CONTENTS};
 use sheet::layout::{field, reference};
 
 // The index at which a record's run begins.
 fn run_begin(s: &[u8], kind: Naming, q: u16) -> u16
     ensures { result ≡ run_begin (sheet_of s.now) kind q }
 {
-    match kind {
-        Naming::ContentObjects => field(s, CONTENTS, q, CONTENT_OBJECT),
-        Naming::Children => field(s, OBJECTS, q, CHILD_LIST),
-        Naming::Complements => field(s, OBJECTS, q, COMPLEMENT_LIST),
-        Naming::ContentLists | Naming::Included => field(s, PROGRAMMES, q, CONTENT_LIST),
-        Naming::SetLists => field(s, PROGRAMMES, q, SET_LIST),
-        Naming::SetSpans => field(s, OBJECTS, q, SET_SPAN),
-    }
+    let (section, at) = place_of(kind);
+    field(s, section, q, at)
 }
 
 // The index after its last.

@@ -1,36 +1,43 @@
-// Who names what. The section and position of a way's lists stand here, in `run_begin` and in `mark_items`: one function for the pair would
-// need a definition of its own, and in each of the three a proof by the ways, which now is the match itself.
+// Who names what.
 ghost use Rattle.std.specs.Prelude.{◌≡◌};
 ghost use Rattle.sheet.specs.Words.{sheet_of};
-ghost use Rattle.tables.specs.steps.Namings.{items, namers};
+ghost use Rattle.tables.specs.steps.Namings.{items, namers, place_of};
 
 use crate::Naming;
 use sheet::fields::{
-    CHILD_LIST, COMPLEMENT_LIST, CONTENT_LIST, CONTENTS, OBJECTS, PROGRAMMES, SET_LIST, SET_SPAN,
+    CHILD_LIST, COMPLEMENT_LIST, CONTENT_LIST, CONTENT_OBJECT, CONTENTS, OBJECTS, PROGRAMMES,
+    SET_LIST, SET_SPAN,
 };
 use sheet::layout::{count, number};
+
+// Where a way's names stand: the section of the records that name, and the position of the index, the list or the span in each.
+pub(crate) fn place_of(kind: Naming) -> (u8, u8)
+    ensures { result ≡ place_of kind }
+{
+    match kind {
+        Naming::ContentObjects => (CONTENTS, CONTENT_OBJECT),
+        Naming::Children => (OBJECTS, CHILD_LIST),
+        Naming::Complements => (OBJECTS, COMPLEMENT_LIST),
+        Naming::ContentLists | Naming::Included => (PROGRAMMES, CONTENT_LIST),
+        Naming::SetLists => (PROGRAMMES, SET_LIST),
+        Naming::SetSpans => (OBJECTS, SET_SPAN),
+    }
+}
 
 // How many records name others in that way.
 pub fn namers(s: &[u8], kind: Naming) -> u16
     ensures { result ≡ namers (sheet_of s.now) kind }
 {
-    match kind {
-        Naming::ContentObjects => count(s, CONTENTS),
-        Naming::Children | Naming::Complements | Naming::SetSpans => count(s, OBJECTS),
-        Naming::ContentLists | Naming::Included | Naming::SetLists => count(s, PROGRAMMES),
-    }
+    count(s, place_of(kind).0)
 }
 
 // How many records a record names.
 pub fn items(s: &[u8], kind: Naming, q: u16) -> u16
     ensures { result ≡ items (sheet_of s.now) kind q }
 {
+    let (section, at) = place_of(kind);
     match kind {
         Naming::ContentObjects => 1,
-        Naming::Children => number(s, OBJECTS, q, CHILD_LIST),
-        Naming::Complements => number(s, OBJECTS, q, COMPLEMENT_LIST),
-        Naming::ContentLists | Naming::Included => number(s, PROGRAMMES, q, CONTENT_LIST),
-        Naming::SetLists => number(s, PROGRAMMES, q, SET_LIST),
-        Naming::SetSpans => number(s, OBJECTS, q, SET_SPAN),
+        _ => number(s, section, q, at),
     }
 }

@@ -5,20 +5,17 @@ ghost use Rattle.tables.specs.steps.Marks.{MarkedTimes, counted_once, first_stor
 ghost use Rattle.tables.specs.steps.Passes.{ListsCounted, TopsCounted};
 
 use crate::Naming;
-use crate::marks::{counted_once, mark_items, mark_object, mark_some};
+use crate::marks::{count_namings, counted_once, mark_items, mark_some};
 use crate::namings::items;
-use sheet::fields::{CONTENTS, OBJECTS};
+use sheet::fields::OBJECTS;
 use sheet::layout::count;
 
 // Counts how often contents name each object, in two tables.
 pub fn count_tops(s: &[u8], tops: &mut [u16], named: &mut [u16])
     ensures { TopsCounted (sheet_of s.now) tops.old named.old tops.new named.new }
 {
-    let n = count(s, CONTENTS);
-    for q in 0..n {
-        mark_object(s, q, counted_once, tops);
-        mark_object(s, q, counted_once, named);
-    }
+    count_namings(s, Naming::ContentObjects, tops);
+    count_namings(s, Naming::ContentObjects, named);
 }
 
 // A number where 0 stands, which is for none, else what stands there: no `Option` stands in a table of words.
@@ -29,7 +26,7 @@ fn first_stored(v: u16, c: u16) -> u16
 }
 
 // Counts the records that a record names, mostly none, and keeps its own number, one more, where it is the first to name one. With
-// `mark_some` for each of the two tables the test would be made twice.
+// `mark_some` for each of the two tables the test would be made twice; what it saves is told there (marks.rt).
 fn mark_both(s: &[u8], kind: Naming, q: u16, counts: &mut [u16], firsts: &mut [u16])
     requires { q < 65535 }
     ensures { MarkedTimes counted_once (times_by (sheet_of s.now) kind q) counts.old counts.new × MarkedTimes (first_stored (suc q)) (times_by (sheet_of s.now) kind q) firsts.old firsts.new }

@@ -2,23 +2,17 @@
 -- of its span. How many runs cover an index. Assumes nothing.
 use Rattle.std.specs.Prelude.{ℕ, ◌+◌, ◌<◌, ◌≤◌, ◌&&◌, List, eqb, leb, ltb}
 use Rattle.sheet.specs.Words.{Sheet}
-use Rattle.sheet.specs.Layout.{field, first, reference}
-use Rattle.sheet.specs.Fields.{programmes, contents, objects, content_list, set_list, content_object, child_list, complement_list, set_span}
+use Rattle.sheet.specs.Layout.{field, reference}
+use Rattle.sheet.specs.Fields.{contents, content_object}
 use Rattle.profile.specs.Counting.{how_many}
 use Rattle.tables.specs.declared.Naming.{Naming}
 use Rattle.tables.specs.declared.Naming.TheVariants.{ContentObjects, Children, Complements, ContentLists, Included, SetLists, SetSpans}
-use Rattle.tables.specs.steps.Namings.{namers, items}
+use Rattle.tables.specs.steps.Namings.{namers, items, place_of}
 use Rattle.tables.specs.steps.Marks.{Standing}
 
 -- the index at which a record's run begins
 abbrev pub run_begin : Sheet → Naming → ℕ → ℕ
-run_begin s ContentObjects q = field s contents q content_object
-run_begin s Children q = first s objects q child_list
-run_begin s Complements q = first s objects q complement_list
-run_begin s ContentLists q = first s programmes q content_list
-run_begin s Included q = first s programmes q content_list
-run_begin s SetLists q = first s programmes q set_list
-run_begin s SetSpans q = first s objects q set_span
+run_begin s kind q = field s (place_of kind).0 q (place_of kind).1
 
 -- the record that an index names
 abbrev pub named_at : Sheet → Naming → ℕ → ℕ

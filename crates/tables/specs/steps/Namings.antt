@@ -6,25 +6,24 @@ use Rattle.sheet.specs.Fields.{programmes, contents, objects, content_list, set_
 use Rattle.tables.specs.declared.Naming.{Naming}
 use Rattle.tables.specs.declared.Naming.TheVariants.{ContentObjects, Children, Complements, ContentLists, Included, SetLists, SetSpans}
 
+-- where a way's names stand: the section of the records that name, and the position of the index, the list or the span in each
+abbrev pub place_of : Naming → ℕ × ℕ
+place_of ContentObjects = (contents, content_object)
+place_of Children = (objects, child_list)
+place_of Complements = (objects, complement_list)
+place_of ContentLists = (programmes, content_list)
+place_of Included = (programmes, content_list)
+place_of SetLists = (programmes, set_list)
+place_of SetSpans = (objects, set_span)
+
 -- how many records name others in that way
 abbrev pub namers : Sheet → Naming → ℕ
-namers s ContentObjects = count s contents
-namers s Children = count s objects
-namers s Complements = count s objects
-namers s ContentLists = count s programmes
-namers s Included = count s programmes
-namers s SetLists = count s programmes
-namers s SetSpans = count s objects
+namers s kind = count s (place_of kind).0
 
 -- how many records a record names
 abbrev pub items : Sheet → Naming → ℕ → ℕ
 items s ContentObjects q = 1
-items s Children q = number s objects q child_list
-items s Complements q = number s objects q complement_list
-items s ContentLists q = number s programmes q content_list
-items s Included q = number s programmes q content_list
-items s SetLists q = number s programmes q set_list
-items s SetSpans q = number s objects q set_span
+items s kind q = number s (place_of kind).0 q (place_of kind).1
 
 -- the one it names at a place
 abbrev pub item : Sheet → Naming → ℕ → ℕ → ℕ
