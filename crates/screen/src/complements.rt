@@ -28,7 +28,7 @@ impl<'a> ObjectWords<'a> {
     }
 
     // Whether they differ in interact, gain, offset or the four range words. Written out: by std's `any` of the positions, tried and proved,
-    // the check of the benchmark's sets of one object takes 3.6 % more instructions, that of the largest honest sheet 0.8 %, where all forms
+    // the check of the benchmark's sets of one object takes 3.4 % more instructions, that of the largest honest sheet 0.8 %, where all forms
     // of the pass together may take 2 % (docs/DECISIONS.md, 135).
     #[tactic(auto, unfolding(profile::specs::Counting::any))]
     fn words_differ(&self, other: &ObjectWords) -> bool
