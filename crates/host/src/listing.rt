@@ -34,7 +34,7 @@ fn write_listing(
 {
     let mut words: [u16; MOST_ENTRIES] = [0; MOST_ENTRIES];
     let entries = list_start(sheet, langs, programme, &mut words)?;
-    // it fits, as below: 28 at most
+    // it fits: 28 at most
     let n = entries as usize;
     if buffer.len() < 2 * n {
         return Err(Refusal::TooFewWords);
@@ -54,6 +54,7 @@ pub extern "C" fn sheet_start_listing(
     ensures { (result ≡ host_listed (sheet_of sheet.now) (words langs.now) programme (length buffer.old)) × (buffer.new ≡ host_buffered (sheet_of sheet.now) (words langs.now) programme buffer.old) }
 {
     match write_listing(sheet, langs, programme, buffer) {
+        // it fits: 28 at most
         Ok(entries) => entries as i32,
         // "the refusal's number negated"
         Err(refusal) => -i32::from(u16::from(refusal)),

@@ -1,4 +1,5 @@
-// Document 01's numbers of the listener's own refusals, which are the declared ones.
+// Document 01's numbers of the listener's own refusals, which are the declared ones. std has no derive for them, and no trait by which one
+// `From` would serve all enums with numbers.
 ghost use Rattle.std.specs.Prelude.{◌≡◌};
 ghost use Rattle.listener.specs.State.{refusal_number};
 

@@ -19,7 +19,7 @@ pub struct WordList {
 }
 
 impl WordList {
-    pub fn as_bytes(&self) -> &[u8] {
+    pub(crate) fn as_bytes(&self) -> &[u8] {
         part(&self.bytes, 0, self.count)
     }
 }
