@@ -91,7 +91,7 @@ fn one_included(s: &[u8], others: Entries, included: &[u16], e: u16) -> bool
 }
 
 // The group of a leader that has m as a complement. Where one of the two is not included, all are not, so that one member at most may be.
-// A call of `group_kept` in place of what it does took 39,000 instructions more on the largest honest sheet, 2.5 % of its check, where the
+// A call of `group_kept` in place of what it does took 39,000 instructions more on the largest honest sheet, 3.7 % of its check, where the
 // bar is 2 % (docs/DECISIONS.md, 135).
 fn row_kept(s: &[u8], sections: SectionOffsets, included: &[u16], l: u16, m: u16) -> bool
     ensures { result ≡ true → Begins (sheet_of s.now) sections → OnlyComplement (sheet_of s.now) l m → GroupKept (sheet_of s.now) included.now l }

@@ -29,7 +29,7 @@ use tables::reads::{look, top_by};
 use values::Sort;
 
 // Whether a list or span ends beyond a section of so many records, or is above a limit. Most have no entries, and no limit is looked up for
-// them: without that, `children of one object` takes 5.4 % more instructions, where the bar is 5 % (docs/DECISIONS.md, 135).
+// them: without that, the check of `children of one object` takes 9.2 % more instructions, where the bar is 5 % (docs/DECISIONS.md, 135).
 #[tactic(auto, using(lists::proofs::LimitLaws::no_excess))]
 fn list_breaks(s: &[u8], many: u16, list: Span, column: u8) -> bool
     ensures { result ≡ (ltb many (list.first + list.count) || exceeds (sheet_of s.now) column list.count) }
