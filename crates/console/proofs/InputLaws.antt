@@ -16,8 +16,8 @@ use Rattle.listener.specs.Calls.{opened}
 use Rattle.text.specs.Answering.{AnsweredInput, AnsweredRead}
 use Rattle.text.specs.Lines.{part, said, lines, lines_from}
 use Rattle.text.specs.Buffer as put
-use Rattle.text.specs.Buffer.{Buffer, buffer, put_byte, put_text, written}
-use Rattle.text.proofs.KeptLaws.{Holds, holds_none, holds_more, count_none, count_some, kept, kept_says}
+use Rattle.text.specs.Buffer.{Buffer, buffer, kept, put_byte, put_text, written}
+use Rattle.text.proofs.KeptLaws.{Holds, holds_none, holds_more, count_none, count_some, kept_says}
 use Rattle.console.specs.Commands.{command_of}
 use Rattle.console.specs.Answers.{answer_line}
 use Rattle.console.specs.declared.input.Bench.{Bench}
@@ -73,11 +73,6 @@ module _ (s : Sheet) (langs : List ℕ) where
   opened_answered st None before mid after e p a = tt
   opened_answered st (Some bytes) before mid after e p a =
       rw (← e) (Appends-trans before mid after (answer_line (opened s langs).answer) (lines_answered s langs st (lines bytes)) p a)
-
-  -- a line that is whole, of which no more bytes are read
-  pub no_more : (st : State) (line : Buffer) → answered_part s langs st line [] true ≡ answered_line s langs st line true
-  unfolding answered_part put_text
-  no_more st line = refl
 
   -- at the end of the input there is no line, or one without a newline
   module _ (st : State) (line : Buffer) (before after : Option (List ℕ)) where

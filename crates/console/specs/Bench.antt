@@ -6,8 +6,8 @@ use Rattle.listener.specs.declared.State.{State}
 use Rattle.listener.specs.Calls.{opened}
 use Rattle.guarantee.specs.Run as run
 use Rattle.guarantee.specs.Run.{reply}
-use Rattle.text.specs.Lines.{part, said, lines}
-use Rattle.text.specs.Buffer.{Buffer, buffer, put_byte, put_text}
+use Rattle.text.specs.Lines.{said, lines}
+use Rattle.text.specs.Buffer.{Buffer, buffer, kept, put_byte, put_text}
 use Rattle.console.specs.declared.commands.Call.{Call}
 use Rattle.console.specs.declared.commands.Call.TheVariants.{Programme, Object, Gain, Offset}
 use Rattle.console.specs.declared.commands.Command.{Command}
@@ -58,7 +58,7 @@ pub record Turn : Type 0 where
 -- a line that is whole is answered, and the next one begins
 unfoldable pub answered_line : Sheet → List ℕ → State → Buffer → Bool → Turn
 answered_line s langs st line true =
-    let c = command_of (said (part line.bytes 0 line.count)) in
+    let c = command_of (said (kept line)) in
     record { state = state_after s langs st c; line = buffer line.bytes 0; answer = answer_to s langs st c }
 answered_line s langs st line false = record { state = st; line = line; answer = [] }
 

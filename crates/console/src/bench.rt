@@ -93,7 +93,8 @@ pub fn obey(
 }
 
 // Adds what was read to the line, and answers the line if it is whole. `whole` is a flag, since the definition `answered_part` takes one,
-// and `cut_anywhere`, that it doesn't matter how a line is cut into reads, holds for both of its values.
+// and `cut_anywhere`, that it doesn't matter how a line is cut into reads, holds for both of its values. `answer_lines` (input.rt) ends each
+// line by it, with no more bytes.
 #[tactic(auto, unfolding(crate::specs::Bench::answered_part, crate::specs::Bench::answered_line))]
 pub fn answer_part(
     lent: Lent,

@@ -27,7 +27,7 @@ struct Bench<'a> {
 impl<'a> Bench<'a> {
     // Answers the line, and begins the next.
     #[tactic(auto, unfolding(crate::specs::Bench::answered_part, text::specs::Buffer::put_text), using(text::proofs::AnsweringLaws::part_written))]
-    fn answer_line<W: Write>(&mut self, output: &mut W) -> Result<(), Error>
+    fn end_line<W: Write>(&mut self, output: &mut W) -> Result<(), Error>
         ensures same_lent { self.new.lent ≡ self.old.lent }
         ensures state_value { self.new.state ≡ (answered_line (sheet_of self.old.lent.sheet.now) (words self.old.lent.langs.now) self.old.state (written self.old.line) true).state }
         ensures line_after { written self.new.line ≡ (answered_line (sheet_of self.old.lent.sheet.now) (words self.old.lent.langs.now) self.old.state (written self.old.line) true).line }
@@ -54,7 +54,7 @@ impl<'a> Answering for Bench<'a> {
     fn answer_read<W: Write>(&mut self, read: &[u8], output: &mut W) -> Result<(), Error> {
         for byte in read {
             if *byte == b'\n' {
-                self.answer_line(output)?;
+                self.end_line(output)?;
             } else {
                 self.line.byte(*byte);
             }
@@ -68,7 +68,7 @@ impl<'a> Answering for Bench<'a> {
         if self.line.count == 0 {
             return Ok(());
         }
-        self.answer_line(output)
+        self.end_line(output)
     }
 }
 

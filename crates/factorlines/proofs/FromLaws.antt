@@ -10,10 +10,10 @@ use Rattle.std.specs.Io.KnownBytes.{Appends}
 use Rattle.text.specs.Answering.{AnsweredInput}
 use Rattle.text.specs.Bytes.{join}
 use Rattle.text.specs.Lines.{part}
-use Rattle.text.specs.Buffer.{Buffer, buffer, put_byte, TextFilled}
+use Rattle.text.specs.Buffer.{Buffer, buffer, put_byte, TextFilled, kept}
 use Rattle.text.proofs.AnsweringLaws.{part_written}
 use Rattle.factorlines.specs.FactorLines.{factor_line, factor_lines}
-use Rattle.factorlines.specs.Reading.{Reading, reading, kept, after_byte, after_read, last_answer, written_for, answers_from}
+use Rattle.factorlines.specs.Reading.{Reading, reading, after_byte, after_read, last_answer, written_for, answers_from}
 use Rattle.factorlines.proofs.ReadingLaws.{read_append}
 use Rattle.factorlines.proofs.Theorems.{whole_input}
 
@@ -63,7 +63,7 @@ input_from line e n (Some bytes) before after a =
     ap (λ (b : Buffer). answers_from b bytes) begun ∙ whole_input line.bytes e (bytes ∷ []) ∙ ap factor_lines (append-nil bytes) in
     subst (Appends before after) all a
 
--- a read is answered
+-- a read is answered: `AnsweredRead` of the converter, spelled out by its line
 pub read_answered : (line next : Buffer) (s : List ℕ) (before after : Option (List ℕ)) → next ≡ (after_read (reading line []) s).line
     → Appends before after (after_read (reading line []) s).answers → (written : List ℕ) × Appends before after written × ((rest : List ℕ) → answers_from line (s ++ rest) ≡ written ++ answers_from next rest)
 read_answered line next s before after e a = ((after_read (reading line []) s).answers, a, λ rest. rw e (read_from line s rest))

@@ -8,9 +8,9 @@ use borrow.Author.Tests.{eq-eqb, ne_eqb}
 use lib.Dec.{eqb}
 use Rattle.text.specs.Bytes.{join}
 use Rattle.text.specs.Lines.{lines_from}
-use Rattle.text.specs.Buffer.{Buffer, buffer, put_byte}
+use Rattle.text.specs.Buffer.{Buffer, buffer, put_byte, kept}
 use Rattle.factorlines.specs.FactorLines.{factor_line}
-use Rattle.factorlines.specs.Reading.{Reading, reading, kept, after_byte, after_read, last_answer, written_for}
+use Rattle.factorlines.specs.Reading.{Reading, reading, after_byte, after_read, last_answer, written_for}
 use Rattle.text.proofs.KeptLaws.{Holds, holds_none, holds_more, count_none, count_some}
 use Rattle.factorlines.proofs.KeptLaws.{kept_answer}
 

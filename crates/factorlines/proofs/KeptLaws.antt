@@ -2,10 +2,9 @@
 use Prim.Native.Nat.{ℕ}
 use mathlib.Core.Path.{◌≡◌, ap}
 use mathlib.Core.List.{List}
-use Rattle.text.specs.Buffer.{Buffer}
+use Rattle.text.specs.Buffer.{Buffer, kept}
 use Rattle.text.proofs.KeptLaws.{Holds, kept_says}
 use Rattle.factorlines.specs.FactorLines.{factor_answer, factor_of, factor_line}
-use Rattle.factorlines.specs.Reading.{kept}
 
 pub kept_answer : (b : Buffer) (l : List ℕ) → Holds b l → factor_line (kept b) ≡ factor_line l
 unfolding factor_line

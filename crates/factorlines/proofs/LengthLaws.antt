@@ -12,10 +12,10 @@ use Rattle.factors.specs.declared.FactorRefusal.TheVariants.{FactorTooHigh}
 use Rattle.factors.specs.Conversion.{conversion}
 use Rattle.text.specs.Decimal.{decimal, spelled}
 use Rattle.text.specs.Lines.{said}
-use Rattle.text.specs.Buffer.{buffer, put_byte}
+use Rattle.text.specs.Buffer.{buffer, put_byte, kept}
 use Rattle.text.proofs.DecimalLaws.{gain_fits_lem}
 use Rattle.factorlines.specs.FactorLines.{conversion_text, factor_answer, factor_of, factor_line}
-use Rattle.factorlines.specs.Reading.{Reading, reading, kept, after_byte, after_read}
+use Rattle.factorlines.specs.Reading.{Reading, reading, after_byte, after_read}
 
 conversion_fits : (c : Result Gain FactorRefusal) → length (conversion_text c) ≤ 21
 unfolding conversion_text decimal spelled

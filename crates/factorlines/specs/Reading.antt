@@ -2,8 +2,7 @@
 -- known. That what is written is `factor_lines` of the whole input, however it is cut into reads, is `whole_input` (proofs/Theorems.antt).
 -- Assumes nothing.
 use Rattle.std.specs.Prelude.{ℕ, cond, List, [], ◌∷◌, ◌++◌, eqb}
-use Rattle.text.specs.Lines.{part}
-use Rattle.text.specs.Buffer.{Buffer, buffer, put_byte}
+use Rattle.text.specs.Buffer.{Buffer, buffer, kept, put_byte}
 use Rattle.factorlines.specs.FactorLines.{factor_line}
 
 -- the line that is being read, and the answers to the lines before it
@@ -13,10 +12,6 @@ pub record Reading : Type 0 where
 
 abbrev pub reading : Buffer → List ℕ → Reading
 reading line answers = record { line = line; answers = answers }
-
--- the bytes of the line
-abbrev pub kept : Buffer → List ℕ
-kept line = part line.bytes 0 line.count
 
 -- a newline, which is 10, ends the line, and it is answered; another byte is one more of the line
 unfoldable pub after_byte : Reading → ℕ → Reading

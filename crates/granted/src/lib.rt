@@ -17,8 +17,8 @@ pub struct Range {
 }
 
 // A programme with the tables that its objects are looked up in: `leaders` has the leader of each object's group, `included` what the
-// programme includes. That they are right is a premise and no invariant, since the public functions over them ask nothing of their caller but that a
-// closure may be called.
+// programme includes. That they are right is a premise and no invariant, since the public functions over them ask nothing of their caller
+// but that a closure may be called.
 #[derive(Clone, Copy)]
 pub struct ProgrammeTables<'a> {
     pub programme: u16,

@@ -64,7 +64,8 @@ impl Speech {
 
 // Whether a content may break one of rules 4, 5, 6, 8 and 9. It opens as `programme_breaks` does: one function for both openings would
 // give the index and the words of speech or neither, and each caller would take them apart, and say its section and positions still. The
-// test of a long list stands in both: tried in `Speech::breaks`, the largest sheet takes 5,002 instructions more, 0.5 % of its check.
+// test of a long list stands in both: in `Speech::breaks`, tried and proved, the check of the largest honest sheet takes 0.5 % more, where
+// the forms taken up before had used up its 2 % (docs/DECISIONS.md, 135).
 pub fn content_breaks(s: &[u8], langs: &Languages, k: u16) -> bool
     ensures { result ≡ false → content_broken (sheet_of s.now) langs.now k ≡ false }
 {

@@ -1,6 +1,7 @@
 // The entries of the list at a position of a record, by a test that the caller gives. The list is named by section, record and position, as in
 // the definitions `entry`, `number`, `lists` and `times`, which take the three: a struct of them would be built at each call, where section and
-// position are constants, and taken apart again to state the contract. Where both words of a list are read, `Span` (sheet) has them.
+// position are constants, and taken apart again to state the contract. Where both words of a list are read, `Span` (sheet) has them,
+// and `two_entries` takes its entries, since those who call it have them.
 ghost use Rattle.std.specs.Prelude.{ℕ, Bool, ◌+◌, ◌≤◌, ◌≡◌};
 ghost use Rattle.profile.specs.Counting.{ComputesBelow, ComputesPairsBelow, any, how_many, two_of};
 ghost use Rattle.profile.specs.Relations.{lists, times};

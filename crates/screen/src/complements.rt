@@ -27,9 +27,9 @@ impl<'a> ObjectWords<'a> {
         self.word(position) != other.word(position)
     }
 
-    // Whether they differ in interact, gain, offset or the four range words. Written out: by std's `any` of the positions, tried and proved,
-    // the check of the benchmark's sets of one object takes 3.4 % more instructions, that of the largest honest sheet 0.8 %, where all forms
-    // of the pass together may take 2 % (docs/DECISIONS.md, 135).
+    // Whether they differ in interact, gain, offset or the four range words. Written out: by std's `any` of the positions, tried and
+    // proved, the check of the largest honest sheet takes 0.8 % more instructions, where the forms taken up before had used up its 2 %
+    // (docs/DECISIONS.md, 135).
     #[tactic(auto, unfolding(profile::specs::Counting::any))]
     fn words_differ(&self, other: &ObjectWords) -> bool
         ensures { result ≡ any (λ f. not (eqb (field (sheet_of self.now.s.now) objects self.now.o (interact + f)) (field (sheet_of other.now.s.now) objects other.now.o (interact + f)))) 7 }

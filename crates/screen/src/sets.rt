@@ -66,8 +66,8 @@ fn gain_breaks(gains: Values, v: ObjectValues) -> bool
 }
 
 // A set with any words. That an offset or its range is present is written out: by `!offsets.none_present()`, which `set_breaks` asked before,
-// tried and proved, the check of the benchmark's sets of one object takes 4.3 % more instructions, that of the largest honest sheet 1.1 %,
-// where all forms of the pass together may take 2 % (docs/DECISIONS.md, 135).
+// tried and proved, the check of the largest honest sheet takes 1.1 % more instructions, where the forms taken up before had used up its
+// 2 % (docs/DECISIONS.md, 135).
 #[tactic(auto, unfolding(crate::specs::steps::Values::set_words_broken))]
 fn words_of_set_break(own: u16, gains: Values, offsets: Values, v: ObjectValues) -> bool
     ensures { result ≡ set_words_broken own gains offsets v }

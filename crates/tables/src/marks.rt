@@ -125,7 +125,7 @@ pub fn mark_items<F: Fn(u16) -> u16>(s: &[u8], kind: Naming, q: u16, mark: F, ta
 
 // The same, with nothing to do for a record that names none, as most. `mark_items` has no such test, which would be made for the lists of
 // programmes and contents too, that are mostly not empty. Without it, here and in `mark_both` (passes.rt), tried and proved, the check of
-// the benchmark's children of one object takes 6.2 % more instructions, that of the largest honest sheet 1.4 %.
+// the benchmark's children of one object takes 6.2 % more instructions, where the bar is 5 % (docs/DECISIONS.md, 135).
 #[tactic(auto, unfolding(crate::specs::steps::Marks::times_by, profile::specs::Counting::how_many, crate::specs::steps::Marks::repeat))]
 pub fn mark_some<F: Fn(u16) -> u16>(s: &[u8], kind: Naming, q: u16, mark: F, table: &mut [u16])
     requires { F.IsAlwaysCallable mark }

@@ -109,7 +109,7 @@ pub fn included_by(s: &[u8], p: u16, marks: &[u16], o: u16) -> bool
 }
 
 // Whether some place is marked. By std's `any`, and `all_once` by `all`, tried and proved, the check of the benchmark's sets of one object
-// takes 5.9 % more instructions, that of the largest honest sheet 1.4 %: they end at the first place, and this has no branch.
+// takes 5.9 % more instructions, where the bar is 5 % (docs/DECISIONS.md, 135): they end at the first place, and this has no branch.
 fn any_marked(places: &[u16]) -> bool
     ensures { result ≡ any (λ k. not (eqb (get_or places.now k 0) 0)) (length places.now) }
 {

@@ -9,11 +9,7 @@ use borrow.Author.Tests.{le-leb, lt-leb, lt-ltb, le-ltb}
 use lib.ListN.{length, length-append, length-set, take}
 use lib.Seq.{take-suc-set, length-take-le}
 use Rattle.text.specs.Lines.{part, said}
-use Rattle.text.specs.Buffer.{Buffer, buffer, put_byte}
-
--- the bytes of the line that the buffer has
-abbrev pub kept : Buffer → List ℕ
-kept b = part b.bytes 0 b.count
+use Rattle.text.specs.Buffer.{Buffer, buffer, kept, put_byte}
 
 -- the buffer has the bytes l of a line, which are at most 256, or the line is longer, and so is what the buffer has
 pub record Short (b : Buffer) (l : List ℕ) : Type 0 where

@@ -2,6 +2,7 @@
 use Rattle.std.specs.Prelude.{ℕ, ◌+◌, ◌≡◌, cond, List, [], ◌∷◌, ◌++◌, ltb, length, drop, set}
 use Rattle.text.specs.declared.writing.Text.{Text}
 use Rattle.io.specs.Counts.{IsPrefixLen}
+use Rattle.text.specs.Lines.{part}
 
 -- a buffer's bytes, and how many of them are written
 pub record Buffer : Type 0 where
@@ -10,6 +11,10 @@ pub record Buffer : Type 0 where
 
 abbrev pub buffer : List ℕ → ℕ → Buffer
 buffer bytes count = record { bytes = bytes; count = count }
+
+-- the bytes written
+abbrev pub kept : Buffer → List ℕ
+kept b = part b.bytes 0 b.count
 
 -- a byte behind those written, if there is room
 unfoldable pub put_byte : Buffer → ℕ → Buffer

@@ -22,7 +22,7 @@ pub trait Answering {
     // What is written for the input from here on.
     ghost answers: { Self → List ℕ → List ℕ };
 
-    // Answers what was read.
+    // Answers what was read, which is no more than `answer_input` reads at once.
     fn answer_read<W: Write>(&mut self, read: &[u8], output: &mut W) -> Result<(), Error>
         ensures { length read.now ≤ READ_ROOM → OnOk result (AnsweredRead answers self.old self.new read.now (W.contents output.old) (W.contents output.new)) };
 
@@ -33,7 +33,7 @@ pub trait Answering {
 
 // Answers what is there before more is read, until the input ends, a read fails or an answer can't be written. Where the bytes of input and
 // output are known, what was written answers the whole input, however it was cut into reads. A proved loop has to end, and nothing says
-// that the input does: so this one counts its turns, to a number that no run comes to.
+// that the input does: so this one counts its turns, to a number that no run comes to, and past it answers as where a read fails.
 #[tactic(auto, using(crate::proofs::AnsweringLaws::none_answered, crate::proofs::AnsweringLaws::read_answered, crate::proofs::AnsweringLaws::input_answered))]
 pub fn answer_input<I: Read, W: Write, A: Answering>(
     input: &mut I,

@@ -20,7 +20,8 @@ pub fn write_output<R: Print + Eprint>(rt: &R, text: &[u8]) -> Result<(), Error>
         .inspect_err(|error| say_unwritten(rt, *error))
 }
 
-// Standard output, for what writes to any writer. Where a write fails, standard error says why.
+// Standard output, for what writes to any writer. Where a write fails, standard error says why. Its bytes are not known: no contract says
+// what standard output has.
 #[derive(Drop)]
 pub struct Output<'a, R> {
     pub rt: &'a R,

@@ -1,6 +1,7 @@
 // Programs that are lent a sheet and a list of languages: both are read and handed to `tell`, two arguments as in the definitions. Each
 // function here makes room for the two, reads them and gives up at the first that is not read, of which standard error says why; they differ
-// in who reads and in what a failure says, so that one for both would take two closures that read.
+// in who reads and in what a failure says, so that one for both would take two closures that read. The two programs over `tell_input`, and
+// the two test programs over `tell_files`, each have a `main` of their own: what they share besides is how they ask for their arguments.
 ghost use Rattle.std.specs.Prelude.{IfSome};
 ghost use Rattle.text.specs.Sheets.{Told};
 

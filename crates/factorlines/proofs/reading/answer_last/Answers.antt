@@ -3,8 +3,8 @@ use native.Mathlib.Omega.{arith}
 use borrow.Author.Tests.{eq-eqb, ne_eqb}
 use mathlib.Core.Path.{refl}
 use Rattle.text.proofs.BufferLaws.{appends_fills, put_fills}
-use Rattle.text.specs.Buffer.{put_text, written}
-use Rattle.factorlines.specs.Reading.{kept, last_answer}
+use Rattle.text.specs.Buffer.{put_text, written, kept}
+use Rattle.factorlines.specs.Reading.{last_answer}
 use Rattle.factorlines.proofs.LengthLaws.{line_fits}
 use Rattle.factorlines.proofs.reading.answer_last.Goals as goal
 

@@ -4,7 +4,7 @@ use mathlib.Core.Path.{refl}
 use Rattle.text.proofs.AnsweringLaws.{byte_answered}
 use Rattle.console.specs.declared.input.Bench.{Bench}
 use Rattle.console.proofs.InputLaws.{bench_answers, newline_read, byte_read}
-use Rattle.console.proofs.input.BenchAnswering.answer_read.Goals.{then-byte-eq10+in_ok-answer_line, else-byte-eq10}
+use Rattle.console.proofs.input.BenchAnswering.answer_read.Goals.{then-byte-eq10+in_ok-end_line, else-byte-eq10}
 use Rattle.console.proofs.input.BenchAnswering.answer_read.Goals as goal
 
 pub loop-byte-preserved : goal.loop-byte-preserved
@@ -13,12 +13,12 @@ loop-byte-preserved g c =
     let now = c.loop-byte.self in
     let out = g.W.Write.contents c.loop-byte.output in
     elim c.if-byte-eq10.branch [
-      | then-byte-eq10+in_ok-answer_line w ↦
-          let next = w.answer_line.new.self in
-          let turn = w.answer_line.ensures in
+      | then-byte-eq10+in_ok-end_line w ↦
+          let next = w.end_line.new.self in
+          let turn = w.end_line.ensures in
           rw (w.self-is, w.output-is)
           (byte_answered bench_answers start now next _ _ _ out _ c.loop-byte-test.true c.loop-byte.invariant
-          (newline_read now next _ out (g.W.Write.contents w.answer_line.new.output) w.if-byte-eq10.true turn.same_lent turn.state_value turn.line_after (search rules)))
+          (newline_read now next _ out (g.W.Write.contents w.end_line.new.output) w.if-byte-eq10.true turn.same_lent turn.state_value turn.line_after (search rules)))
       | else-byte-eq10 w ↦
           let next : Bench = record { lent = now.lent; state = now.state; line = w.byte.new.self; answer = now.answer } in
           rw (w.self-is, w.output-is)
