@@ -19,11 +19,17 @@ use Rattle.profile.proofs.BoolLaws.{or_false, or_none, or_none_3, or_none_4, and
 use Rattle.profile.proofs.CountingLaws.{any_none}
 use Rattle.profile.proofs.SumLaws.{any_nowhere, how_many_eq}
 use Rattle.lists.specs.steps.Entries.{entry_at, bad_child_at, out_of_order_at}
-use Rattle.std.proofs.Math.Bool.{and-false}
+use Rattle.std.proofs.Math.Bool.{and-false, or_assoc}
+use Rattle.std.specs.List.{list_any, range_with_len}
 use Rattle.screen.specs.steps.Values.{values_at, none_present, own_leaves, value_leaves, set_words_broken, set_broken}
 use Rattle.relations.specs.declared.sets.Values.{Values}
 use Rattle.screen.specs.declared.ObjectValues.{ObjectValues}
 use Rattle.screen.specs.steps.Objects.{object_lists_broken, object_sort, object_values, sort_broken, offsets_broken, values_broken, children_broken, tracks_broken, source_kept, complement_broken, complements_kept, sets_broken, is_plain, rest_kept, object_broken}
+
+-- seven words from interact on, one after the other and as they are counted
+pub seven_words : (p : ℕ → Bool) → list_any p (range_with_len interact 7) ≡ any (λ f. p (interact + f)) 7
+unfolding any
+seven_words p = simp (or_assoc, or_false)
 
 -- two tests of each number below n
 module _ (p q : ℕ → Bool) (n : ℕ) (e : any (λ i. p i || q i) n ≡ false) where

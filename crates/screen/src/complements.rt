@@ -12,10 +12,7 @@ use crate::object_words::ObjectWords;
 use profile::counting::any;
 use relations::objects::{kind, lacks};
 use rules::groups::bad_complement;
-use sheet::fields::{
-    COMPLEMENT_LIST, INTERACT, OBJECT_GAIN, OBJECT_GAIN_MAXIMUM, OBJECT_GAIN_MINIMUM,
-    OBJECT_OFFSET, OBJECT_OFFSET_MAXIMUM, OBJECT_OFFSET_MINIMUM, OBJECTS,
-};
+use sheet::fields::{COMPLEMENT_LIST, INTERACT, OBJECTS};
 use sheet::spans::Entries;
 use tables::ObjectTables;
 
@@ -27,20 +24,12 @@ impl<'a> ObjectWords<'a> {
         self.word(position) != other.word(position)
     }
 
-    // Whether they differ in interact, gain, offset or the four range words. Written out: by std's `any` of the positions, tried and
-    // proved, the check of the largest honest sheet takes 0.8 % more instructions, where the forms taken up before had used up its 2 %
-    // (docs/DECISIONS.md, 135).
+    // Whether they differ in interact, gain, offset or the four range words: seven words that stand one behind the other.
     #[tactic(auto, unfolding(profile::specs::Counting::any))]
     fn words_differ(&self, other: &ObjectWords) -> bool
         ensures { result ≡ any (λ f. not (eqb (field (sheet_of self.now.s.now) objects self.now.o (interact + f)) (field (sheet_of other.now.s.now) objects other.now.o (interact + f)))) 7 }
     {
-        self.word_differs(other, INTERACT)
-            | self.word_differs(other, OBJECT_GAIN)
-            | self.word_differs(other, OBJECT_GAIN_MINIMUM)
-            | self.word_differs(other, OBJECT_GAIN_MAXIMUM)
-            | self.word_differs(other, OBJECT_OFFSET)
-            | self.word_differs(other, OBJECT_OFFSET_MINIMUM)
-            | self.word_differs(other, OBJECT_OFFSET_MAXIMUM)
+        (INTERACT..INTERACT + 7).any(|position| self.word_differs(other, position))
     }
 
     // Whether a complement of this leader may break one of them.
