@@ -201,7 +201,7 @@ fn large_verdict(sheet: &[u8], langs: &Languages) -> Verdict
 fn tabled_verdict(sheet: &[u8], langs: &Languages) -> Verdict
     ensures { result ≡ verdict (sheet_of sheet.now) langs.now }
 {
-    let mut table = [0u8; LANGUAGE_WORDS];
+    let mut table = [false; LANGUAGE_WORDS];
     let tabled = langs.tabled(&mut table);
     large_verdict(sheet, &tabled)
 }

@@ -1,3 +1,7 @@
-mod TableLaws
-mod SearchLaws
+mod CodeLaws
+mod ReservedLaws
 mod RisingLaws
+mod SearchLaws
+mod GoodLaws
+mod TableLaws
+pub mod Theorems

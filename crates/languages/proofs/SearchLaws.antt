@@ -1,64 +1,108 @@
--- A list that rises is found in by halves: its words are the numbers of its pairs of bytes. Assumes nothing.
-use Rattle.std.proofs.Common.{ℕ, zero, suc, eqb, ltb, ◌+◌, ◌/◌, ◌<◌, ◌≡◌, refl, sym, ap, ◌∙◌, true, false, true≢false, List, [], length, get_or, arith}
-use Rattle.std.specs.Simd.{first_chunks}
-use Rattle.std.specs.Int.{from_be_bytes, w16}
-use Rattle.std.specs.Ordering.{nat_cmp, is_eq, is_lt}
-use Rattle.std.specs.declared.cmp.Ordering.TheVariants.{Equal, Greater}
-use Rattle.std.specs.declared.result.Result.{Result}
-use Rattle.std.specs.declared.result.Result.TheVariants.{Ok, Err}
-use Rattle.std.specs.Result.{is_ok}
-use Rattle.std.specs.List.Sorted.{IsBinarySearchResult, IsSearchInRange, IsSortedBy}
-use Rattle.std.specs.Cmp.{nat_cmp_is}
-use Rattle.std.proofs.lemmas.Cmp.{nat_cmp_total}
-use Rattle.std.proofs.lemmas.Map.Lookups.{exact_unsigned}
-use Rattle.std.proofs.lemmas.List.Sorted.{searchable_from_sorted}
-use borrow.Author.Tests.{eq-eqb, ne_eqb, ltb-true, ltb-false}
-use Rattle.sheet.specs.Words.{words}
-use Rattle.sheet.proofs.WordLaws.{how_many_lem, pair_word}
+-- The index of a word is narrowed by steps that are halved. Assumes nothing.
+use Rattle.std.proofs.Common.{ℕ, zero, suc, eqb, leb, ltb, ◌+◌, ◌<◌, ◌≤◌, ◌≡◌, refl, sym, ◌∙◌, Bool, true, false, true≢false, cond, ◌&&◌, List, [], ◌∷◌, length, get_or, arith}
+use borrow.Author.Tests.{leb-false, eq-eqb, ne_eqb, leb-true, ltb-true, ltb-false, lt-ltb, eqb-true}
+use Rattle.std.proofs.lemmas.Bool.{and_parts}
+use Rattle.profile.specs.Counting.{any}
 use Rattle.profile.specs.Languages.{is_listed, is_rising}
-use Rattle.profile.proofs.RisingLaws.{rising_later}
+use Rattle.profile.proofs.RisingLaws.{at_least, rising_later}
 use Rattle.profile.proofs.SumLaws.{any_one, any_nowhere}
+use Rattle.languages.specs.declared.search.TheConstants.{STEPS}
 
--- the number of two bytes
-abbrev key : List ℕ → ℕ
-key = from_be_bytes w16
+-- so many indices are left before the step of a number: those of a list that rises, and then as many as the step that was taken last
+abbrev pub left : ℕ → ℕ
+left j = get_or (65536 ∷ STEPS) j 0
 
-pairs_long : (n : ℕ) (bytes : List ℕ) → length (first_chunks 2 n bytes) ≡ n
-pairs_long zero bytes = refl
-pairs_long (suc n) bytes = ap suc (pairs_long n _)
+halves : List ℕ → Bool
+halves [] = true
+halves (a ∷ []) = true
+halves (a ∷ b ∷ ns) = eqb a (b + b) && halves (b ∷ ns)
 
--- two numbers that don't compare as equal
-differ : (v w : ℕ) → is_eq (nat_cmp v w) ≡ false → eqb v w ≡ false
-differ v w e = ne_eqb v w (λ q. let z : v ≡ w = q in true≢false (ap is_eq (nat_cmp_is w w Equal refl) ∙ rw z at e))
+steps_halve : halves (65536 ∷ STEPS) ≡ true
+unfolding halves
+steps_halve = refl
 
-module _ (bytes : List ℕ) (rises : is_rising (words bytes) ≡ true) (w : ℕ) where
-  abbrev n : ℕ
-  n = length bytes / 2
+halves_at : (ns : List ℕ) → halves ns ≡ true → (j : ℕ) → suc j < length ns → get_or ns j 0 ≡ get_or ns (suc j) 0 + get_or ns (suc j) 0
+unfolding halves
+halves_at [] h j l = absurd (omega arith)
+halves_at (a ∷ []) h j l = absurd (omega arith)
+halves_at (a ∷ b ∷ ns) h zero l = eqb-true _ _ (and_parts (eqb a (b + b)) (halves (b ∷ ns)) h).0
+halves_at (a ∷ b ∷ ns) h (suc j) l = halves_at (b ∷ ns) (and_parts (eqb a (b + b)) (halves (b ∷ ns)) h).1 j (omega arith)
 
-  abbrev pairs : List (List ℕ)
-  pairs = first_chunks 2 n bytes
+-- each step is half of what was left
+pub left_halved : (j : ℕ) → j < 16 → left j ≡ get_or STEPS j 0 + get_or STEPS j 0
+left_halved j l = halves_at (65536 ∷ STEPS) steps_halve j (omega arith)
 
-  at : (k : ℕ) (d : List ℕ) → k < n → key (get_or pairs k d) ≡ get_or (words bytes) k 0
-  at k d h = pair_word n bytes k d (omega arith) h
+-- and is what is left after it
+pub left_next : (j : ℕ) → left (j + 1) ≡ get_or STEPS j 0
+left_next j = let e : j + 1 ≡ suc j = omega arith in rw e refl
 
-  sorted : IsSortedBy (λ x y. is_lt (nat_cmp (key x) (key y))) pairs
-  sorted k d l h =
-      let inside : k + 1 < n = rw (pairs_long n bytes) at h in
-      let up = rising_later (words bytes) rises k (k + 1) (omega arith) (omega (arith, how_many_lem bytes, inside)) in
-      rw (at k d (omega (arith, inside)), at (k + 1) d inside, ← nat_cmp_is (get_or (words bytes) (k + 1) 0) (get_or (words bytes) k 0) Greater up) refl
+-- the word at an index is at most that at a later one, or at itself
+not_above : (langs : List ℕ) → is_rising langs ≡ true → (i j : ℕ) → i < length langs → j ≤ i → get_or langs j 0 ≤ get_or langs i 0
+not_above langs rises i j l m =
+    (elim (ltb j i) as (λ b. ltb j i ≡ b → get_or langs j 0 ≤ get_or langs i 0) [
+      | true ↦ λ e. omega (arith, rising_later langs rises j i (ltb-true j i e) l)
+      | false ↦ λ e. let z : j ≡ i = omega (arith, ltb-false j i e, m) in rw z (omega arith)
+    ]) refl
 
-  -- what the search finds is listed, and what it doesn't find is not
-  pub listed_by_search : (r : Result ℕ ℕ) → IsSearchInRange r n → IsBinarySearchResult (λ y. nat_cmp (key y) w) pairs r → is_ok r ≡ is_listed (words bytes) w
+-- the word at an index that was reached is at most the one looked for; 0 is reached without a word
+abbrev pub AtMost : List ℕ → ℕ → ℕ → Type 0
+AtMost langs w last = 0 < last → (last < length langs) × (get_or langs last 0 ≤ w)
+
+-- from an index on, all words of a list that rises are above it
+abbrev pub Above : List ℕ → ℕ → ℕ → Type 0
+Above langs w n = is_rising langs ≡ true → (i : ℕ) → n ≤ i → i < length langs → w < get_or langs i 0
+
+-- such a list has at most 65,536 words
+pub above_first : (langs : List ℕ) (w : ℕ) → w < 65536 → Above langs w 65536
+above_first langs w fits rises i m l = omega (arith, at_least langs rises i l, m, fits)
+
+-- a step to an index whose word is at most the one looked for is taken, another is not
+pub narrowed : (langs : List ℕ) (w last s : ℕ) (taken : Bool) → taken ≡ (ltb (last + s) (length langs) && leb (get_or langs (last + s) 0) w) → AtMost langs w last → Above langs w (last + (s + s))
+    → AtMost langs w (cond taken (last + s) last) × Above langs w (cond taken (last + s) last + s)
+narrowed langs w last s true e at above =
+    let both = and_parts (ltb (last + s) (length langs)) (leb (get_or langs (last + s) 0) w) (sym e) in
+    let e : last + s + s ≡ last + (s + s) = omega arith in
+    (λ k. (ltb-true _ _ both.0, leb-true _ _ both.1), rw e above)
+narrowed langs w last s false e at above = (at, λ rises i m l. go rises i m l (leb (get_or langs (last + s) 0) w) refl)
+  where
+    go : is_rising langs ≡ true → (i : ℕ) → last + s ≤ i → i < length langs → (b : Bool) → leb (get_or langs (last + s) 0) w ≡ b → w < get_or langs i 0
+    go rises i m l true q = absurd (true≢false (sym (e ∙ rw (lt-ltb (last + s) (length langs) (omega (arith, m, l)), q) refl)))
+    go rises i m l false q = omega (arith, leb-false _ _ q, not_above langs rises i (last + s) l m)
+
+-- the sum of the steps taken stays within a bound
+pub within : (last s n : ℕ) (taken : Bool) → last + (s + s) ≤ n → cond taken (last + s) last + s ≤ n
+within last s n true l = omega (arith, l)
+within last s n false l = omega (arith, l)
+
+module _ (langs : List ℕ) (w last : ℕ) (at : AtMost langs w last) (above : Above langs w (suc last)) (rises : is_rising langs ≡ true) where
+  -- a word before it is below the one looked for
+  earlier : (k : ℕ) → k < last → get_or langs k 0 < w
+  earlier k l = let here = at (omega (arith, l)) in omega (arith, rising_later langs rises k last l here.0, here.1)
+
+  other : eqb (get_or langs last 0) w ≡ false → (k : ℕ) → k < length langs → eqb (get_or langs k 0) w ≡ false
+  other e k m = ne_eqb _ _ (λ q. let z : get_or langs k 0 ≡ w = q in apart z (ltb k last) refl (ltb last k) refl)
+    where
+      apart : get_or langs k 0 ≡ w → (b : Bool) → ltb k last ≡ b → (c : Bool) → ltb last k ≡ c → ⊥
+      apart z true p c q = omega (arith, earlier k (ltb-true _ _ p), z)
+      apart z false p true q = omega (arith, above rises k (ltb-true _ _ q) m, z)
+      apart z false p false q = let same : k ≡ last = omega (arith, ltb-false _ _ p, ltb-false _ _ q) in true≢false (sym (eq-eqb _ _ (rw same at z)) ∙ e)
+
+  -- the word stands there or nowhere
+  pub found_or_nowhere : last < length langs → eqb (get_or langs last 0) w ≡ is_listed langs w
   unfolding is_listed
-  listed_by_search (Ok i) inside found =
-      let here : get_or (words bytes) i 0 ≡ w = sym (at i [] inside) ∙ exact_unsigned (key (get_or pairs i [])) w (found []) in
-      sym (any_one (λ i. eqb (get_or (words bytes) i 0) w) (length (words bytes)) i (omega (arith, how_many_lem bytes, inside)) (eq-eqb _ _ here))
-  listed_by_search (Err i) inside found =
-      let parts = found (searchable_from_sorted nat_cmp_total key pairs w sorted) in
-      sym (any_nowhere (λ i. eqb (get_or (words bytes) i 0) w) (length (words bytes)) (λ k h.
-      let l : k < n = omega (arith, how_many_lem bytes, h) in
-      rw (← at k [] l) (differ (key (get_or pairs k [])) w
-      ((elim (ltb k i) as (λ b. ltb k i ≡ b → is_eq (nat_cmp (key (get_or pairs k [])) w) ≡ false) [
-        | true ↦ λ q. ap is_eq (parts.0 k [] (omega arith) (ltb-true _ _ q))
-        | false ↦ λ q. ap is_eq (parts.1 k [] (ltb-false _ _ q) (omega (arith, pairs_long n bytes, l)))
-      ]) refl))))
+  found_or_nowhere l =
+      (elim (eqb (get_or langs last 0) w) as (λ b. eqb (get_or langs last 0) w ≡ b → b ≡ any (λ i. eqb (get_or langs i 0) w) (length langs)) [
+        | true ↦ λ e. sym (any_one (λ i. eqb (get_or langs i 0) w) (length langs) last l e)
+        | false ↦ λ e. sym (any_nowhere (λ i. eqb (get_or langs i 0) w) (length langs) (other e))
+      ]) refl
+
+  -- an empty list has no word
+  pub nowhere : length langs ≤ last → false ≡ is_listed langs w
+  unfolding is_listed
+  nowhere l = sym (any_nowhere (λ i. eqb (get_or langs i 0) w) (length langs) (λ k m. absurd (omega (arith, l, m, (at (omega (arith, l, m))).0))))
+
+  -- the words at the front are those at most the given one, if the one there is
+  pub front : (ltb last (length langs) && leb (get_or langs last 0) w) ≡ true → (i : ℕ) → i < suc last → get_or langs i 0 ≤ w
+  front e i l =
+      let both = and_parts (ltb last (length langs)) (leb (get_or langs last 0) w) e in
+      omega (arith, not_above langs rises last i (ltb-true _ _ both.0) (omega (arith, l)), leb-true _ _ both.1)

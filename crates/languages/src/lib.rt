@@ -1,6 +1,9 @@
-// The list of languages that is lent beside a sheet: whether it rises, and which words are good under it.
+// The list of languages that is lent beside a sheet: whether it rises, and which words are good under it. No word is divided to tell
+// (document 02, L4; `tools/undivided` reads this crate for it).
 #![tactic(auto)]
 
 pub mod list;
-pub mod rising;
+mod reserved;
+mod rising;
+mod search;
 pub mod table;

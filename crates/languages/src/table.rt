@@ -1,31 +1,39 @@
 // The table of a lent list.
-ghost use Rattle.std.specs.Prelude.{cond, length, ltb, set, ◌&&◌, ◌≡◌};
+ghost use Rattle.std.specs.Prelude.{set, ◌<◌, true, ◌≡◌};
+ghost use Rattle.languages.specs.steps.Codes.{words_of};
 ghost use Rattle.languages.specs.steps.Table.{Tabled};
-ghost use Rattle.sheet.specs.Words.{words};
+ghost use Rattle.profile.specs.Languages.{is_rising};
 ghost use Rattle.values.specs.Language.{three_letters};
 
+use crate::reserved::{FIRST_OF_Q, FIRST_OF_QU};
+use crate::search::how_many_at_most;
 use values::language::three_letters;
 
-// Enough for every word of three letters: the last is zzz.
-pub const LANGUAGE_WORDS: usize = 27483;
+// The last word of three letters.
+const ZZZ: u16 = 26 * 1024 + 26 * 32 + 26;
 
-// Writes 1 at a word of three letters. By `get_mut` its proof would not know that what is written comes back to the table.
-fn mark_code(w: u16, table: &mut [u8; LANGUAGE_WORDS])
-    ensures { table.new ≡ cond (three_letters w && ltb w (length table.old)) (set table.old w 1) table.old }
+// Enough for every word of three letters.
+pub const LANGUAGE_WORDS: usize = ZZZ as usize + 1;
+
+// Marks a word, if it is of three letters.
+fn mark_code(w: u16, table: &mut [bool; LANGUAGE_WORDS])
+    requires { w < 27483 }
+    ensures { table.new ≡ set table.old w (three_letters w) }
 {
-    let i = usize::from(w);
-    if three_letters(w) & (i < LANGUAGE_WORDS) {
-        table[i] = 1;
-    }
+    table[usize::from(w)] = three_letters(w);
 }
 
-// Fills a table: 1 at the codes of three letters that the list has, 0 at other words.
-#[tactic(auto, unfolding(sheet::specs::Words::sheet_of, sheet::specs::Words::word, sheet::specs::Words::word_count, profile::specs::Languages::is_listed), using(crate::proofs::TableLaws::tabled_more, sheet::proofs::WordLaws::word_of_pair, sheet::proofs::WordLaws::how_many_lem))]
-pub fn fill(langs: &[u8], table: &mut [u8; LANGUAGE_WORDS])
-    ensures { Tabled (words langs.now) table.new }
+// Fills a table: the codes of three letters that the list has, or that are "from qaa to qtz", and no others. That the list rises tells where
+// its words past the table begin, so that none is compared with the table's length.
+pub(crate) fn fill(codes: &[[u8; 2]], table: &mut [bool; LANGUAGE_WORDS])
+    requires { is_rising (words_of codes.now) ≡ true }
+    ensures { Tabled (words_of codes.now) table.new }
 {
-    *table = [0; LANGUAGE_WORDS];
-    for code in langs.as_chunks::<2>().0 {
+    *table = [false; LANGUAGE_WORDS];
+    for w in FIRST_OF_Q..FIRST_OF_QU {
+        mark_code(w, table);
+    }
+    for code in &codes[..how_many_at_most(codes, ZZZ)] {
         mark_code(u16::from_be_bytes(*code), table);
     }
 }

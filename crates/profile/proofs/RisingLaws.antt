@@ -29,7 +29,7 @@ rising_later langs r i (suc j) l m =
     (eq-or-lt_of_le (le_of_suc-le-suc l))
 
 -- so the word at a place is at least that place's number
-at_least : (langs : List ℕ) → is_rising langs ≡ true → (i : ℕ) → i < length langs → i ≤ get_or langs i 0
+pub at_least : (langs : List ℕ) → is_rising langs ≡ true → (i : ℕ) → i < length langs → i ≤ get_or langs i 0
 at_least langs r zero l = omega arith
 at_least langs r (suc i) l = omega (arith, at_least langs r i (omega arith), rising_next langs r i l)
 

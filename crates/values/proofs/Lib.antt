@@ -4,4 +4,5 @@ pub mod Order
 pub mod Zero
 pub mod Words
 pub mod Letters
+pub mod CodeLaws
 pub mod GainOrder

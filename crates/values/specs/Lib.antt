@@ -1,4 +1,5 @@
 pub mod Signed
+pub mod Codes
 pub mod Gain
 pub mod Offset
 pub mod Language

@@ -1,21 +1,16 @@
 // Codes of three letters, and loudness.
 ghost use Rattle.std.specs.Prelude.{◌≡◌};
-ghost use Rattle.values.specs.Language.{letter, three_letters, loudness};
+ghost use Rattle.values.specs.Language.{loudness, three_letters};
 
-// "a = 1 to z = 26"
-#[tactic(auto, unfolding(crate::specs::Language::letter))]
-pub fn letter(n: u16) -> bool
-    ensures { result ≡ letter n }
-{
-    (1 <= n) & (n <= 26)
-}
+use crate::codes::CODES;
 
-// "1024 times the first letter plus 32 times the second plus the third".
-#[tactic(auto, unfolding(crate::specs::Language::three_letters))]
+// "1024 times the first letter plus 32 times the second plus the third": one look, at the word's own place, and nothing to take apart.
+#[tactic(auto)]
 pub fn three_letters(w: u16) -> bool
     ensures { result ≡ three_letters w }
 {
-    letter(w / 1024) & letter(w / 32 % 32) & letter(w % 32)
+    let codes = CODES.as_flattened().as_flattened().as_flattened();
+    codes[usize::from(w)]
 }
 
 // "Loudness is 1 integrated, 2 dialogue, 3 both."

@@ -2,6 +2,7 @@
 // The sentences quoted in this crate are those of document 01, "The sheet".
 #![tactic(auto)]
 
+mod codes;
 pub mod gains;
 pub mod language;
 pub mod offset;

@@ -8,6 +8,7 @@
 //!     cargo bench --bench ratio -- growth             the growth of every family
 //!     cargo bench --bench ratio -- growth honest      the growth of the families with this text in their names
 //!     cargo bench --bench ratio -- factors            the gains of plain factors
+//!     cargo bench --bench ratio -- write FOLDER       nothing timed: the sheets of all these tables as files
 //!
 //! The honest sheets are lent examples/langs, where their names don't say another list.
 //!
@@ -21,6 +22,8 @@ mod factors;
 mod growth;
 #[path = "ratio/timer.rs"]
 mod timer;
+#[path = "ratio/write.rs"]
+mod write;
 
 use std::path::Path;
 use std::time::Duration;
@@ -44,6 +47,7 @@ fn main() -> io::Result<()> {
     match words.split_first() {
         Some((table, name)) if table == "growth" => growth::print_tables(&name.join(" "))?,
         Some((table, [])) if table == "factors" => factors::print_table(),
+        Some((table, [folder])) if table == "write" => write::write_sheets(Path::new(folder))?,
         Some(_) => print_table(&words.join(" "))?,
         None => {
             print_table("")?;

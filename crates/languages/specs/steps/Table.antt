@@ -1,8 +1,7 @@
--- The table of a lent list, by which one look tells whether a word is one of its codes. Assumes nothing.
-use Rattle.std.specs.Prelude.{ℕ, ◌<◌, ◌≡◌, cond, ◌&&◌, List, get_or, length}
-use Rattle.values.specs.Language.{three_letters}
-use Rattle.profile.specs.Languages.{is_listed}
+-- The table of a lent list, by which one look tells whether a word is good. Assumes nothing.
+use Rattle.std.specs.Prelude.{ℕ, ◌<◌, ◌≡◌, false, Bool, List, get_or, length}
+use Rattle.profile.specs.Languages.{good_language}
 
--- 1 at the codes of three letters that the list has, 0 at every other word that the table reaches
-abbrev pub Tabled : List ℕ → List ℕ → Type 0
-Tabled langs table = (w : ℕ) → w < length table → get_or table w 0 ≡ cond (three_letters w && is_listed langs w) 1 0
+-- what is good under the list, of every word that the table reaches
+abbrev pub Tabled : List ℕ → List Bool → Type 0
+Tabled langs table = (w : ℕ) → w < length table → get_or table w false ≡ good_language langs w

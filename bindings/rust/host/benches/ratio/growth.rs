@@ -3,7 +3,7 @@
 use std::io;
 use std::time::Duration;
 
-use sheet::build::LARGEST;
+use sheet::build::{Plan, LARGEST};
 use sheet::generate::languages::lists::REAL;
 use sheet::generate::{honest, hostile};
 
@@ -26,12 +26,15 @@ pub fn print_tables(text: &str) -> io::Result<()> {
 }
 
 /// A sheet, and the list that is lent beside it.
-type Lent = (Vec<u8>, Vec<u8>);
+pub type Lent = (Vec<u8>, Vec<u8>);
 
 /// The families by name, each with its sheets by rising size.
-fn families() -> Vec<(String, Vec<Lent>)> {
-    let honest = SIZES.map(|words| (honest::of_words(words).bytes(), REAL.to_vec())).to_vec();
-    let mut families = vec![("honest short episodes".to_string(), honest)];
+pub fn families() -> Vec<(String, Vec<Lent>)> {
+    let honest = |of: fn(usize) -> Plan| SIZES.map(|words| (of(words).bytes(), REAL.to_vec()));
+    let mut families = vec![
+        ("honest short episodes".to_string(), honest(honest::of_words).to_vec()),
+        ("honest labels".to_string(), honest(honest::of_labels).to_vec()),
+    ];
     let hostile: Vec<_> = SIZES.into_iter().map(hostile::sheets_of).collect();
     for (number, family) in hostile[0].iter().enumerate() {
         let of_family = hostile.iter().map(|sheets| &sheets[number]);

@@ -1,5 +1,5 @@
 //! Honest sheets as large as they get: a full sheet of level 2, and a largest one of level 0;
-//! and sheets of level 0 of any size.
+//! and sheets of level 0 of any size, of short episodes or mostly of labels.
 
 use super::clauses::bases::set_with_gain;
 use super::languages::lists;
@@ -19,6 +19,9 @@ struct Episode {
 
 const FULL: Episode = Episode { pairs: 14, children: 2, sets: 16, labels: 8, programmes: 16 };
 const SHORT: Episode = Episode { pairs: 1, children: 1, sets: 2, labels: 2, programmes: 2 };
+
+/// The labels of a programme where most words are labels and languages.
+const LABELS: usize = 16;
 
 /// Both sheets.
 pub fn sheets() -> Vec<Generated> {
@@ -65,6 +68,33 @@ pub fn in_local_languages(mut plan: Plan) -> Plan {
 /// A sheet of so many words: as many short episodes as fit, and unused entries.
 pub fn of_words(words: usize) -> Plan {
     episodes(&SHORT, words)
+}
+
+/// A sheet of so many words, of which most are labels and languages: programmes of one content, as
+/// many as fit, each with languages of the list in their order.
+pub fn of_labels(words: usize) -> Plan {
+    let languages = lists::words(lists::REAL);
+    let mut plan = Plan::new(0);
+    let pack = plan.add_pack(1, 1, 0);
+    let object = plan.add_object(pack);
+    let content = plan.add_content(object);
+    let without = plan.words().len();
+    add_labelled(&mut plan, content, &languages);
+    let programme = plan.words().len() - without;
+    for _ in 1..(words - without) / programme {
+        add_labelled(&mut plan, content, &languages);
+    }
+    plan.filled_to(words)
+}
+
+/// Adds a programme whose labels come after those of the one before it, from the front again where
+/// the list ends.
+fn add_labelled(plan: &mut Plan, content: u16, languages: &[u16]) {
+    let programme = usize::from(plan.add_programme(vec![content]));
+    let first = programme * LABELS % (languages.len() - LABELS);
+    let record = &mut plan.programmes[programme];
+    record.language = languages[first + LABELS];
+    record.labels = languages[first..first + LABELS].to_vec();
 }
 
 fn episodes(episode: &Episode, words: usize) -> Plan {

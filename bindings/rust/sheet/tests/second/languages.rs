@@ -79,7 +79,7 @@ fn each_word_is_good_if_listed_or_from_qaa_to_qtz() {
     let each = each::each_word().map(|Generated { sheet, langs, .. }| check(&sheet, &langs));
     let accepted: Vec<bool> = each.map(|verdict| verdict == Verdict::Accepted).collect();
     let numbers = accepted.chunks(65_536).map(|words| words.iter().filter(|&&good| good).count());
-    assert_eq!(numbers.collect::<Vec<_>>(), [506 + 520, 520, 506 + 520]);
+    assert_eq!(numbers.collect::<Vec<_>>(), [506 + 520, 506 + 520, 520, 520, 506 + 520]);
 }
 
 #[test]
@@ -113,7 +113,9 @@ fn the_list_of_iso_639_2() {
 
 #[test]
 fn honest_sheets_have_languages_of_the_list_or_need_none() {
-    let sheets = [Plan::sheet_a(), honest::full(), honest::largest(), honest::of_words(2000)];
+    let large = [honest::full(), honest::largest()];
+    let of_words = [honest::of_words(2000), honest::of_labels(2000)];
+    let sheets = [Plan::sheet_a()].into_iter().chain(large).chain(of_words);
     for plan in sheets {
         assert_eq!(check(&plan.bytes(), lists::REAL), Verdict::Accepted);
         let local = honest::in_local_languages(plan.clone());

@@ -134,3 +134,13 @@ fn the_largest_sheet_is_mostly_used() {
     assert_eq!(largest.words().len(), LARGEST);
     assert!(largest.stray_entries.len() < LARGEST / 20);
 }
+
+#[test]
+fn the_sheets_of_labels_have_mostly_labels_and_languages() {
+    for words in [512, LARGEST] {
+        let plan = honest::of_labels(words);
+        let labels: usize = plan.programmes.iter().map(|programme| programme.labels.len()).sum();
+        assert_eq!(plan.words().len(), words);
+        assert!(labels + plan.programmes.len() > words / 2);
+    }
+}

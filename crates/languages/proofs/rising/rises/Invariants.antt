@@ -1,8 +1,9 @@
--- Found so far is whether a word that begins at a byte passed has a next that is at most it. Assumes nothing.
-use Rattle.std.proofs.Common.{cond, ◌≡◌}
+-- Found so far is whether a word passed is at most the one before it. Assumes nothing.
+use Rattle.std.proofs.Common.{◌≡◌, ◌-◌, ◌≤◌, length}
 use Rattle.profile.specs.Counting.{any}
-use Rattle.languages.specs.steps.Falls.{falls_at}
+use Rattle.languages.specs.steps.Codes.{words_of}
+use Rattle.languages.proofs.RisingLaws.{falls_after}
 use Rattle.languages.proofs.rising.rises.Given as goal
 
-abbrev pub invariant-loop-j : goal.invariant-loop-j
-invariant-loop-j l = l.found ≡ cond (any (falls_at l.langs) l.j) 1 0
+abbrev pub invariant-loop-i : goal.invariant-loop-i
+invariant-loop-i l = (1 ≤ l.i) × (l.i - 1 ≤ length l.codes - 1) × (l.falls ≡ any (falls_after (words_of l.codes)) (l.i - 1))

@@ -1,7 +1,7 @@
 //! Sheets for each word, and for each length of a list and each place in it.
 
 use super::lend::NO_RISE;
-use super::lists::{self, code, REAL};
+use super::lists::{self, code, CODES, REAL};
 use super::standings::local_a;
 use crate::build::{bytes, Plan};
 use crate::generate::Generated;
@@ -9,12 +9,15 @@ use crate::second::Verdict;
 
 /// Lists are of each length below it.
 const LENGTHS: usize = 70;
+/// The words of a larger sheet: 4,200 bytes.
+const LARGER: usize = 2100;
 /// Labels beside a word, so that the sheet has many language words.
 const OTHER_LABELS: usize = 90;
 
 /// All of them.
 pub fn sheets() -> impl Iterator<Item = Generated> {
-    falls().chain(falls_in_all_words()).chain(words_by_length()).chain(each_word())
+    let falls = falls().chain(falls_in_all_words());
+    falls.chain(words_by_length()).chain(words_by_power()).chain(each_word())
 }
 
 fn generated(name: String, sheet: Vec<u8>, langs: Vec<u8>, expected: Option<Verdict>) -> Generated {
@@ -69,15 +72,52 @@ fn words_by_length() -> impl Iterator<Item = Generated> {
     })
 }
 
-/// Each word as the language of a content beside the list of ISO 639-2 and beside none, and as the
-/// last of many labels.
+/// Lists with lengths near each power of two, and of each the words that stand near a power of two
+/// and at the end, with those beside them, as the language of a content of a small sheet and of a
+/// larger one.
+fn words_by_power() -> impl Iterator<Item = Generated> {
+    near_powers().flat_map(|length| {
+        let list = list_of(length);
+        let langs = bytes(&list);
+        let indices = near_powers().chain([0, length - 1]).filter(move |&index| index < length);
+        let of_list = indices.map(move |index| list[index]);
+        let beside = |word: u16| [word.saturating_sub(1), word, word.saturating_add(1)];
+        of_list
+            .flat_map(beside)
+            .flat_map(move |word| [0, LARGER].map(|words| with_language(word, words, &langs)))
+    })
+}
+
+/// The powers of two up to 32,768 and the numbers beside them, but 0.
+fn near_powers() -> impl Iterator<Item = usize> {
+    (0..16).flat_map(|power| [(1 << power) - 1, 1 << power, (1 << power) + 1]).filter(|&n| n > 0)
+}
+
+/// Codes from all over in a rising list of that length; all first words where it is longer than
+/// there are codes.
+fn list_of(length: usize) -> Vec<u16> {
+    let spread = |number: usize| code(number * CODES / length);
+    match length > CODES {
+        true => (0..length).map(|number| number as u16).collect(),
+        false => (0..length).map(spread).collect(),
+    }
+}
+
+/// A sheet of so many words or its least number, of which a content has that language.
+fn with_language(word: u16, words: usize, langs: &[u8]) -> Generated {
+    let mut plan = local_a();
+    plan.level = 0;
+    plan.contents[0].language = word;
+    let sheet = plan.filled_to(words).bytes();
+    generated(format!("word {word} in {} bytes", sheet.len()), sheet, langs.to_vec(), None)
+}
+
+/// Each word as the language of a content, of a small sheet and of a larger one, beside the list of
+/// ISO 639-2 and beside none, and as the last of many labels.
 pub fn each_word() -> impl Iterator<Item = Generated> {
-    let alone = [REAL, &[]].into_iter().flat_map(|langs| {
-        (0..=u16::MAX).map(move |word| {
-            let mut plan = local_a();
-            plan.contents[0].language = word;
-            generated(format!("word {word}"), plan.bytes(), langs.to_vec(), None)
-        })
+    let lent: [(&[u8], usize); 4] = [(REAL, 0), (REAL, LARGER), (&[], 0), (&[], LARGER)];
+    let alone = lent.into_iter().flat_map(|(langs, words)| {
+        (0..=u16::MAX).map(move |word| with_language(word, words, langs))
     });
     let beside = (0..=u16::MAX).map(|word| {
         let (name, plan) = (format!("word {word} beside labels"), beside_labels(word));
