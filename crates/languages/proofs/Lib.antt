@@ -1,4 +1,4 @@
-mod CodeLaws
+mod PairLaws
 mod ReservedLaws
 mod RisingLaws
 mod SearchLaws

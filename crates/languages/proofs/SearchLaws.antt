@@ -8,7 +8,7 @@ use Rattle.profile.proofs.RisingLaws.{at_least, rising_later}
 use Rattle.profile.proofs.SumLaws.{any_one, any_nowhere}
 use Rattle.languages.specs.declared.search.TheConstants.{STEPS}
 
--- so many indices are left before the step of a number: those of a list that rises, and then as many as the step that was taken last
+-- so many indices are left before a step is tried: those of a list that rises, and then as many as the step before
 abbrev pub left : ℕ → ℕ
 left j = get_or (65536 ∷ STEPS) j 0
 
@@ -57,12 +57,12 @@ pub above_first : (langs : List ℕ) (w : ℕ) → w < 65536 → Above langs w 6
 above_first langs w fits rises i m l = omega (arith, at_least langs rises i l, m, fits)
 
 -- a step to an index whose word is at most the one looked for is taken, another is not
-pub narrowed : (langs : List ℕ) (w last s : ℕ) (taken : Bool) → taken ≡ (ltb (last + s) (length langs) && leb (get_or langs (last + s) 0) w) → AtMost langs w last → Above langs w (last + (s + s))
-    → AtMost langs w (cond taken (last + s) last) × Above langs w (cond taken (last + s) last + s)
+pub narrowed : (langs : List ℕ) (w last s : ℕ) (taken : Bool) → taken ≡ (ltb (last + s) (length langs) && leb (get_or langs (last + s) 0) w)
+    → AtMost langs w last → Above langs w (last + (s + s)) → AtMost langs w (cond taken (last + s) last) × Above langs w (cond taken (last + s) last + s)
 narrowed langs w last s true e at above =
     let both = and_parts (ltb (last + s) (length langs)) (leb (get_or langs (last + s) 0) w) (sym e) in
-    let e : last + s + s ≡ last + (s + s) = omega arith in
-    (λ k. (ltb-true _ _ both.0, leb-true _ _ both.1), rw e above)
+    let sum : last + s + s ≡ last + (s + s) = omega arith in
+    (λ k. (ltb-true _ _ both.0, leb-true _ _ both.1), rw sum above)
 narrowed langs w last s false e at above = (at, λ rises i m l. go rises i m l (leb (get_or langs (last + s) 0) w) refl)
   where
     go : is_rising langs ≡ true → (i : ℕ) → last + s ≤ i → i < length langs → (b : Bool) → leb (get_or langs (last + s) 0) w ≡ b → w < get_or langs i 0

@@ -1,5 +1,5 @@
-// The list of languages that is lent beside a sheet: whether it rises, and which words are good under it. No word is divided to tell
-// (document 02, L4; `tools/undivided` reads this crate for it).
+// The list of languages that is lent beside a sheet: whether it rises, and which words are good under it. No word is divided to tell that
+// (document 02, L4; `tools/undivided` looks for it).
 #![tactic(auto)]
 
 pub mod list;

@@ -1,7 +1,7 @@
 // A word is looked for in a list that rises, by sums of falling steps: std's `binary_search_by_key` divides the list's length at each turn
 // (document 02, L4), and takes more instructions (docs/SPEED.md).
 ghost use Rattle.std.specs.Prelude.{ℕ, get_or, leb, length, ltb, ◌&&◌, ◌<◌, ◌≤◌, true, ◌≡◌};
-ghost use Rattle.languages.specs.steps.Codes.{words_of};
+ghost use Rattle.languages.specs.steps.Pairs.{words_of};
 ghost use Rattle.profile.specs.Languages.{is_listed, is_rising};
 
 // Each is half the one before it, so that they lead to every index of a list that rises: it has at most 65,536 words.
@@ -10,24 +10,24 @@ const STEPS: [usize; 16] = [
 ];
 
 // Whether the list has a word at the index that is at most the given one.
-fn is_at_most(codes: &[[u8; 2]], i: usize, w: u16) -> bool
-    ensures { result ≡ (ltb i (length (words_of codes.now)) && leb (get_or (words_of codes.now) i 0) w) }
+fn is_at_most(pairs: &[[u8; 2]], i: usize, w: u16) -> bool
+    ensures { result ≡ (ltb i (length (words_of pairs.now)) && leb (get_or (words_of pairs.now) i 0) w) }
 {
-    match codes.get(i) {
-        Some(code) => u16::from_be_bytes(*code) <= w,
+    match pairs.get(i) {
+        Some(pair) => u16::from_be_bytes(*pair) <= w,
         None => false,
     }
 }
 
 // The index of the last word that is at most the given one, in a list that rises; 0 where there is none.
-fn last_at_most(codes: &[[u8; 2]], w: u16) -> usize
+fn last_at_most(pairs: &[[u8; 2]], w: u16) -> usize
     ensures small { result < 65536 }
-    ensures at { 0 < result → (result < length (words_of codes.now)) × (get_or (words_of codes.now) result 0 ≤ w) }
-    ensures after { is_rising (words_of codes.now) ≡ true → (i : ℕ) → result < i → i < length (words_of codes.now) → w < get_or (words_of codes.now) i 0 }
+    ensures at { 0 < result → (result < length (words_of pairs.now)) × (get_or (words_of pairs.now) result 0 ≤ w) }
+    ensures after { is_rising (words_of pairs.now) ≡ true → (i : ℕ) → result < i → i < length (words_of pairs.now) → w < get_or (words_of pairs.now) i 0 }
 {
     let mut last = 0;
     for step in STEPS {
-        if is_at_most(codes, last + step, w) {
+        if is_at_most(pairs, last + step, w) {
             last += step;
         }
     }
@@ -35,23 +35,23 @@ fn last_at_most(codes: &[[u8; 2]], w: u16) -> usize
 }
 
 // Whether a list that rises has the word: it stands there or nowhere.
-pub fn finds(codes: &[[u8; 2]], w: u16) -> bool
-    ensures { is_rising (words_of codes.now) ≡ true → result ≡ is_listed (words_of codes.now) w }
+pub fn finds(pairs: &[[u8; 2]], w: u16) -> bool
+    ensures { is_rising (words_of pairs.now) ≡ true → result ≡ is_listed (words_of pairs.now) w }
 {
-    match codes.get(last_at_most(codes, w)) {
-        Some(code) => u16::from_be_bytes(*code) == w,
+    match pairs.get(last_at_most(pairs, w)) {
+        Some(pair) => u16::from_be_bytes(*pair) == w,
         None => false,
     }
 }
 
 // How many words of a list that rises are at most the given one: those at its front.
-pub fn how_many_at_most(codes: &[[u8; 2]], w: u16) -> usize
-    ensures within { result ≤ length codes.now }
-    ensures front { is_rising (words_of codes.now) ≡ true → (i : ℕ) → i < result → get_or (words_of codes.now) i 0 ≤ w }
-    ensures rest { is_rising (words_of codes.now) ≡ true → (i : ℕ) → result ≤ i → i < length (words_of codes.now) → w < get_or (words_of codes.now) i 0 }
+pub fn how_many_at_most(pairs: &[[u8; 2]], w: u16) -> usize
+    ensures within { result ≤ length pairs.now }
+    ensures front { is_rising (words_of pairs.now) ≡ true → (i : ℕ) → i < result → get_or (words_of pairs.now) i 0 ≤ w }
+    ensures rest { is_rising (words_of pairs.now) ≡ true → (i : ℕ) → result ≤ i → i < length (words_of pairs.now) → w < get_or (words_of pairs.now) i 0 }
 {
-    let last = last_at_most(codes, w);
-    if is_at_most(codes, last, w) {
+    let last = last_at_most(pairs, w);
+    if is_at_most(pairs, last, w) {
         last + 1
     } else {
         0

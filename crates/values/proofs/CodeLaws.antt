@@ -1,36 +1,27 @@
--- The table of codes has at each place what the definition says of that word, by one test over all its places. Assumes nothing.
+-- The table of codes has for each word what the definition says of it, by one test of all its entries. Assumes nothing.
 use Prim.Native.Nat.{ℕ, zero, suc, ◌+◌, ◌/◌, ◌<◌, ◌≤◌}
-use mathlib.Core.Path.{◌≡◌, refl, sym, ◌∙◌}
-use mathlib.Core.Bool.{Bool, true, false, not, cond, ◌&&◌}
+use mathlib.Core.Path.{◌≡◌, refl, ◌∙◌}
+use mathlib.Core.Bool.{Bool, true, false, ◌&&◌}
 use mathlib.Core.List.{List, [], ◌∷◌}
 use native.Mathlib.Omega.{arith}
 use borrow.Author.Tests.{le-leb, lt-leb, ltb-true, ltb-false}
 use lib.Dec.{ltb}
 use lib.ListN.{length, get_or}
+use Rattle.std.proofs.Math.Bool.{beq}
 use Rattle.std.proofs.lemmas.List.{get_or_past}
+use Rattle.std.specs.Cmp.{booleans_Decides}
 use Rattle.values.specs.Codes.{is_code, table}
 use Rattle.values.specs.Language.{letter, three_letters}
 use Rattle.values.proofs.Both.{both}
 
--- what is told of a word is what the definition says
-told : Bool → Bool → Bool
-told b t = cond b t (not t)
-
-told_same : (b t : Bool) → told b t ≡ true → b ≡ t
-unfolding told
-told_same true true e = refl
-told_same true false e = sym e
-told_same false true e = e
-told_same false false e = refl
-
--- so it is of each word from w on, in the list's order
+-- the words from w on are in the list, in its order, as the definition says of them
 all_told : ℕ → List Bool → Bool
 all_told w [] = true
-all_told w (b ∷ bs) = told b (three_letters w) && all_told (suc w) bs
+all_told w (b ∷ bs) = beq b (three_letters w) && all_told (suc w) bs
 
--- the test over all places
+-- the test of all entries: it walks along the list, since a look at each by its index would take its length squared
 table_told : all_told 0 table ≡ true
-unfolding all_told told three_letters letter
+unfolding all_told three_letters letter
 table_told = refl
 
 table_long : length table ≡ 65536
@@ -39,10 +30,12 @@ table_long = refl
 told_at : (w : ℕ) (bs : List Bool) → all_told w bs ≡ true → (i : ℕ) → i < length bs → get_or bs i false ≡ three_letters (w + i)
 unfolding all_told
 told_at w [] h i l = absurd (omega arith)
-told_at w (b ∷ bs) h zero l = let e : w + 0 ≡ w = omega arith in rw e (told_same b (three_letters w) (both (told b (three_letters w)) (all_told (suc w) bs) h).0)
+told_at w (b ∷ bs) h zero l =
+    let e : w + 0 ≡ w = omega arith in
+    rw e ((booleans_Decides b (three_letters w)).0 (both (beq b (three_letters w)) (all_told (suc w) bs) h).0)
 told_at w (b ∷ bs) h (suc i) l =
     let e : w + suc i ≡ suc w + i = omega arith in
-    rw e (told_at (suc w) bs (both (told b (three_letters w)) (all_told (suc w) bs) h).1 i (omega arith))
+    rw e (told_at (suc w) bs (both (beq b (three_letters w)) (all_told (suc w) bs) h).1 i (omega arith))
 
 -- a first letter past z is none
 no_letter : (n : ℕ) → 26 < n → letter n ≡ false

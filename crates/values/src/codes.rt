@@ -13,7 +13,7 @@ macro_rules! by_letter {
     };
 }
 
-// By the highest bit, which no code has, and by the first letter, the second and the third, so that each of the 65,536 words has its place.
+// By the highest bit, which no code has, and by the first letter, the second and the third, so that each of the 65,536 words has its entry.
 pub(crate) static CODES: [[[[bool; 32]; 32]; 32]; 2] = [
     by_letter!(
         [[false; 32]; 32],

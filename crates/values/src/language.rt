@@ -4,7 +4,7 @@ ghost use Rattle.values.specs.Language.{loudness, three_letters};
 
 use crate::codes::CODES;
 
-// "1024 times the first letter plus 32 times the second plus the third": one look, at the word's own place, and nothing to take apart.
+// "1024 times the first letter plus 32 times the second plus the third": one look at the word's own entry, and nothing to take apart.
 #[tactic(auto)]
 pub fn three_letters(w: u16) -> bool
     ensures { result ≡ three_letters w }

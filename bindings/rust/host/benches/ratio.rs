@@ -8,7 +8,8 @@
 //!     cargo bench --bench ratio -- growth             the growth of every family
 //!     cargo bench --bench ratio -- growth honest      the growth of the families with this text in their names
 //!     cargo bench --bench ratio -- factors            the gains of plain factors
-//!     cargo bench --bench ratio -- write FOLDER       nothing timed: the sheets of all these tables as files
+//!     cargo bench --bench ratio -- write FOLDER       no times: the sheets of the first table and of the growth of
+//!                                                     the honest families as files (FOLDER from the root, /tmp/sheets)
 //!
 //! The honest sheets are lent examples/langs, where their names don't say another list.
 //!

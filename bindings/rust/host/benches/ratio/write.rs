@@ -1,4 +1,4 @@
-//! The sheets of the tables as files, to count the instructions of their checks (`tools/check-cost`).
+//! Sheets of the tables as files, to count the instructions of their checks (`tools/check-cost`).
 
 use std::path::Path;
 use std::{fs, io};

@@ -87,8 +87,8 @@ pub fn of_labels(words: usize) -> Plan {
     plan.filled_to(words)
 }
 
-/// Adds a programme whose labels come after those of the one before it, from the front again where
-/// the list ends.
+/// Adds a programme whose labels come in the list after those of the one before it, counted modulo
+/// the places from which so many labels and a language can be taken.
 fn add_labelled(plan: &mut Plan, content: u16, languages: &[u16]) {
     let programme = usize::from(plan.add_programme(vec![content]));
     let first = programme * LABELS % (languages.len() - LABELS);

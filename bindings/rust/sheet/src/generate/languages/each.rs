@@ -76,11 +76,12 @@ fn words_by_length() -> impl Iterator<Item = Generated> {
 /// and at the end, with those beside them, as the language of a content of a small sheet and of a
 /// larger one.
 fn words_by_power() -> impl Iterator<Item = Generated> {
-    near_powers().flat_map(|length| {
+    near_powers().into_iter().flat_map(|length| {
         let list = list_of(length);
         let langs = bytes(&list);
-        let indices = near_powers().chain([0, length - 1]).filter(move |&index| index < length);
-        let of_list = indices.map(move |index| list[index]);
+        let mut indices = near_powers();
+        indices.extend([0, length - 1]);
+        let of_list = indices.into_iter().filter_map(move |index| list.get(index).copied());
         let beside = |word: u16| [word.saturating_sub(1), word, word.saturating_add(1)];
         of_list
             .flat_map(beside)
@@ -88,9 +89,15 @@ fn words_by_power() -> impl Iterator<Item = Generated> {
     })
 }
 
-/// The powers of two up to 32,768 and the numbers beside them, but 0.
-fn near_powers() -> impl Iterator<Item = usize> {
-    (0..16).flat_map(|power| [(1 << power) - 1, 1 << power, (1 << power) + 1]).filter(|&n| n > 0)
+/// The powers of two and the numbers beside them, from 1 to 65,536, which is the most words that a
+/// list has.
+fn near_powers() -> Vec<usize> {
+    let near = |power: u32| [-1, 0, 1].map(|by| (1_i32 << power) + by);
+    let numbers = (0..=16).flat_map(near).filter(|number| (1..=65_536).contains(number));
+    let mut numbers: Vec<usize> = numbers.map(|number| number as usize).collect();
+    numbers.sort_unstable();
+    numbers.dedup();
+    numbers
 }
 
 /// Codes from all over in a rising list of that length; all first words where it is longer than

@@ -4,4 +4,4 @@ use Rattle.std.specs.Int.{from_be_bytes, w16}
 
 -- each pair is a word, high byte first
 unfoldable pub words_of : List (List ℕ) → List ℕ
-words_of codes = map (from_be_bytes w16) codes
+words_of pairs = map (from_be_bytes w16) pairs
