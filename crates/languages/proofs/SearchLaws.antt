@@ -6,35 +6,23 @@ use Rattle.profile.specs.Counting.{any}
 use Rattle.profile.specs.Languages.{is_listed, is_rising}
 use Rattle.profile.proofs.RisingLaws.{at_least, rising_later}
 use Rattle.profile.proofs.SumLaws.{any_one, any_nowhere}
-use Rattle.languages.specs.declared.search.TheConstants.{STEPS}
+use Rattle.languages.specs.steps.Search.{Above, AtMost, halves}
 
--- so many indices are left before a step is tried: those of a list that rises, and then as many as the step before
-abbrev pub left : ℕ → ℕ
-left j = get_or (65536 ∷ STEPS) j 0
-
-halves : List ℕ → Bool
-halves [] = true
-halves (a ∷ []) = true
-halves (a ∷ b ∷ ns) = eqb a (b + b) && halves (b ∷ ns)
-
-steps_halve : halves (65536 ∷ STEPS) ≡ true
-unfolding halves
-steps_halve = refl
-
-halves_at : (ns : List ℕ) → halves ns ≡ true → (j : ℕ) → suc j < length ns → get_or ns j 0 ≡ get_or ns (suc j) 0 + get_or ns (suc j) 0
+-- each step is half of what was left
+pub halves_at : (ns : List ℕ) → halves ns ≡ true → (j : ℕ) → suc j < length ns → get_or ns j 0 ≡ get_or ns (suc j) 0 + get_or ns (suc j) 0
 unfolding halves
 halves_at [] h j l = absurd (omega arith)
 halves_at (a ∷ []) h j l = absurd (omega arith)
 halves_at (a ∷ b ∷ ns) h zero l = eqb-true _ _ (and_parts (eqb a (b + b)) (halves (b ∷ ns)) h).0
 halves_at (a ∷ b ∷ ns) h (suc j) l = halves_at (b ∷ ns) (and_parts (eqb a (b + b)) (halves (b ∷ ns)) h).1 j (omega arith)
 
--- each step is half of what was left
-pub left_halved : (j : ℕ) → j < 16 → left j ≡ get_or STEPS j 0 + get_or STEPS j 0
-left_halved j l = halves_at (65536 ∷ STEPS) steps_halve j (omega arith)
-
 -- and is what is left after it
-pub left_next : (j : ℕ) → left (j + 1) ≡ get_or STEPS j 0
-left_next j = let e : j + 1 ≡ suc j = omega arith in rw e refl
+pub left_next : (left : ℕ) (steps : List ℕ) (j : ℕ) → get_or (left ∷ steps) (j + 1) 0 ≡ get_or steps j 0
+left_next left steps j = let e : j + 1 ≡ suc j = omega arith in rw e refl
+
+-- past its end a list has no words
+pub above_end : (langs : List ℕ) (w n : ℕ) → length langs ≤ n → Above langs w n
+above_end langs w n l rises i m k = absurd (omega (arith, l, m, k))
 
 -- the word at an index is at most that at a later one, or at itself
 not_above : (langs : List ℕ) → is_rising langs ≡ true → (i j : ℕ) → i < length langs → j ≤ i → get_or langs j 0 ≤ get_or langs i 0
@@ -43,14 +31,6 @@ not_above langs rises i j l m =
       | true ↦ λ e. omega (arith, rising_later langs rises j i (ltb-true j i e) l)
       | false ↦ λ e. let z : j ≡ i = omega (arith, ltb-false j i e, m) in rw z (omega arith)
     ]) refl
-
--- the word at an index that was reached is at most the one looked for; 0 is reached without a word
-abbrev pub AtMost : List ℕ → ℕ → ℕ → Type 0
-AtMost langs w last = 0 < last → (last < length langs) × (get_or langs last 0 ≤ w)
-
--- from an index on, all words of a list that rises are above it
-abbrev pub Above : List ℕ → ℕ → ℕ → Type 0
-Above langs w n = is_rising langs ≡ true → (i : ℕ) → n ≤ i → i < length langs → w < get_or langs i 0
 
 -- such a list has at most 65,536 words
 pub above_first : (langs : List ℕ) (w : ℕ) → w < 65536 → Above langs w 65536
@@ -74,7 +54,7 @@ pub within : (last s n : ℕ) (taken : Bool) → last + (s + s) ≤ n → cond t
 within last s n true l = omega (arith, l)
 within last s n false l = omega (arith, l)
 
-module _ (langs : List ℕ) (w last : ℕ) (at : AtMost langs w last) (above : Above langs w (suc last)) (rises : is_rising langs ≡ true) where
+module _ (langs : List ℕ) (w last : ℕ) (at : AtMost langs w last) (above : Above langs w (last + 1)) (rises : is_rising langs ≡ true) where
   -- a word before it is below the one looked for
   earlier : (k : ℕ) → k < last → get_or langs k 0 < w
   earlier k l = let here = at (omega (arith, l)) in omega (arith, rising_later langs rises k last l here.0, here.1)
@@ -84,7 +64,7 @@ module _ (langs : List ℕ) (w last : ℕ) (at : AtMost langs w last) (above : A
     where
       apart : get_or langs k 0 ≡ w → (b : Bool) → ltb k last ≡ b → (c : Bool) → ltb last k ≡ c → ⊥
       apart z true p c q = omega (arith, earlier k (ltb-true _ _ p), z)
-      apart z false p true q = omega (arith, above rises k (ltb-true _ _ q) m, z)
+      apart z false p true q = omega (arith, above rises k (omega (arith, ltb-true _ _ q)) m, z)
       apart z false p false q = let same : k ≡ last = omega (arith, ltb-false _ _ p, ltb-false _ _ q) in true≢false (sym (eq-eqb _ _ (rw same at z)) ∙ e)
 
   -- the word stands there or nowhere

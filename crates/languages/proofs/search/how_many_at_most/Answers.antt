@@ -19,4 +19,4 @@ returns-then-is_at_most-clause-within c =
 
 pub returns-then-is_at_most-clause-front : goal.returns-then-is_at_most-clause-front
 returns-then-is_at_most-clause-front c rises i l =
-    front (words_of c.args.pairs.now) c.args.w c.last_at_most-last.result c.last_at_most-last.ensures.at c.last_at_most-last.ensures.after rises (here c) i (omega (arith, l))
+    front (words_of c.args.pairs.now) c.args.w c.last_at_most-last.result c.last_at_most-last.ensures.last.0 c.last_at_most-last.ensures.last.1 rises (here c) i (omega (arith, l))
