@@ -1,0 +1,5 @@
+pub mod BlockLaws
+pub mod ProgressLaws
+pub mod VerdictLaws
+pub mod BoundLaws
+pub mod ConformsLaws

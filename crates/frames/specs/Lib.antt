@@ -1,0 +1,5 @@
+pub mod Blocks
+pub mod Conformance
+pub mod Cases
+pub mod Promises
+pub mod steps
