@@ -1,5 +1,5 @@
 -- The blocks of a list of numbers, as the code cuts them. Assumes nothing.
-use Prim.Native.Nat.{ℕ, suc, ◌+◌, ◌/◌}
+use Prim.Native.Nat.{ℕ, suc, ◌/◌}
 use mathlib.Core.Path.{◌≡◌, refl, ap}
 use mathlib.Core.List.{List, [], ◌∷◌, map}
 use native.Mathlib.Omega.{arith}

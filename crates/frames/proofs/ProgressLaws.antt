@@ -1,19 +1,17 @@
 -- What the code keeps of the blocks so far tells the verdict on them. Assumes nothing.
-use Prim.Native.Nat.{ℕ, suc, ◌+◌}
+use Prim.Native.Nat.{ℕ, ◌+◌}
 use mathlib.Core.Path.{◌≡◌, refl, sym, ap, ◌∙◌}
 use mathlib.Core.Bool.{Bool, true, false, cond, not, ◌&&◌, ◌||◌}
 use mathlib.Core.List.{List, [], ◌∷◌, ◌++◌, append_assoc, append-nil}
 use native.Mathlib.Omega.{arith}
 use borrow.Author.Tests.{eqb-true}
-use borrow.Table.Steps.{cases}
 use lib.Dec.{eqb}
-use lib.ListN.{length, length-append}
-use Rattle.std.specs.Prelude.{fold, Some, None, Err}
+use Rattle.std.specs.Prelude.{Some, None, Err}
 use Rattle.std.proofs.Math.Bool.{or-false, or_assoc, and-false, and-true}
 use Rattle.std.proofs.lemmas.List.Folds.{list_any-append}
 use Rattle.std.proofs.lemmas.List.Sums.{fold_push}
 use Rattle.frames.specs.declared.Block.{Block}
-use Rattle.frames.specs.declared.FrameError.TheVariants.{InitialisingNotFirst, BadBlock, BadTotal}
+use Rattle.frames.specs.declared.FrameError.TheVariants.{BadTotal}
 use Rattle.frames.specs.declared.progress.Progress.{Progress}
 use Rattle.frames.specs.Blocks.{counted_length, total}
 use Rattle.frames.specs.Conformance.{initialising_not_first, legal_length, legal_start, is_bad, some_bad, bad_block, no_block, bad_total, accepted, first_error, frame_verdict}

@@ -1,6 +1,6 @@
 -- Which verdict says what. Assumes nothing.
 use mathlib.Core.Path.{◌≡◌, refl}
-use mathlib.Core.Bool.{Bool, true, false, false≢true}
+use mathlib.Core.Bool.{Bool, true, false}
 use Rattle.std.specs.Prelude.{◌↔◌, Err}
 use Rattle.frames.specs.declared.FrameError.TheVariants.{InitialisingNotFirst, BadBlock, BadTotal}
 use Rattle.frames.specs.Conformance.{accepted, first_error}

@@ -1,5 +1,5 @@
 -- What conformance is held to, beside its definition. Document 02, L5. Assumes nothing.
-use Rattle.std.specs.Prelude.{ℕ, ◌+◌, ◌*◌, ◌/◌, ◌≤◌, ◌≡◌, Bool, true, false, ◌&&◌, not, cond, eqb, List, [], ◌∷◌, ◌++◌, length, count_by, ◌⊎◌}
+use Rattle.std.specs.Prelude.{ℕ, ◌+◌, ◌*◌, ◌/◌, ◌≤◌, ◌≡◌, true, false, ◌&&◌, not, cond, eqb, List, [], ◌∷◌, ◌++◌, length, count_by, ◌⊎◌}
 use Rattle.std.specs.List.{list_any}
 use Rattle.frames.specs.declared.Block.{Block}
 use Rattle.frames.specs.Blocks.{blocks, total}

@@ -1,0 +1,4 @@
+pub mod ChunkLaws
+pub mod NumberLaws
+pub mod HeadLaws
+pub mod ReadingLaws

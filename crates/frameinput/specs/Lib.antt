@@ -1,0 +1,4 @@
+pub mod FrameInput
+pub mod FrameLine
+pub mod Answer
+pub mod steps
