@@ -1,4 +1,5 @@
 pub mod HostListing
 pub mod HostGuarantee
 pub mod HostGain
+pub mod HostFrame
 pub mod steps

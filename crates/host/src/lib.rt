@@ -2,5 +2,6 @@
 #![tactic(auto)]
 
 pub mod check;
+pub mod frame;
 pub mod gain;
 pub mod listing;
