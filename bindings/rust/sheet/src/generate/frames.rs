@@ -1,5 +1,78 @@
 //! Lists of blocks, and frame lengths to them.
 
+mod accepted;
+mod damage;
+mod each;
+mod fixed;
+/// Which classes lists met.
+pub mod met;
+
+use self::damage::DAMAGES;
+use super::random::Random;
+use crate::second::frames::Broken;
+
+/// A list of numbers with a frame length, and its verdict where the construction settles it.
+#[derive(Clone, Debug)]
+pub struct Listed {
+    /// How it came about.
+    pub what: &'static str,
+    /// The frame length.
+    pub frame: u32,
+    /// The numbers.
+    pub numbers: Vec<u32>,
+    /// The verdict.
+    pub expected: Option<Result<(), Broken>>,
+}
+
+impl Listed {
+    fn of(what: &'static str, plan: &Plan, expected: Result<(), Broken>) -> Listed {
+        Listed { what, frame: plan.frame, numbers: plan.numbers(), expected: Some(expected) }
+    }
+
+    fn open(what: &'static str, frame: u32, numbers: Vec<u32>) -> Listed {
+        Listed { what, frame, numbers, expected: None }
+    }
+}
+
+/// All lists that are compared: those of fixed contents, all small ones of a few numbers, and so
+/// many random ones of each seed.
+pub fn all(of_seed: usize) -> impl Iterator<Item = Listed> {
+    let random = move |seed| RandomFrames::new(seed).take(of_seed);
+    fixed::lists().into_iter().chain(each::lists()).chain(SEEDS.into_iter().flat_map(random))
+}
+
+const SEEDS: [u64; 3] = [2168, 2076, 65_534];
+
+/// Random lists without end, from a seed: one in four is accepted, half are damaged, the others may
+/// be anything.
+pub struct RandomFrames(Random);
+
+impl RandomFrames {
+    /// The lists of a seed.
+    pub fn new(seed: u64) -> RandomFrames {
+        RandomFrames(Random::new(seed))
+    }
+}
+
+impl Iterator for RandomFrames {
+    type Item = Listed;
+
+    fn next(&mut self) -> Option<Listed> {
+        let random = &mut self.0;
+        Some(match random.below(4) {
+            0 => Listed::of("accepted", &accepted::plan(random), Ok(())),
+            1 => damage::unsettled(random),
+            _ => damage::settled(random),
+        })
+    }
+}
+
+/// A list for each way to damage one.
+pub fn damaged(random: &mut Random) -> Vec<Listed> {
+    let ways = DAMAGES.into_iter().flatten();
+    ways.map(|damage| damage.listed(random)).collect()
+}
+
 /// A block as its three numbers.
 #[derive(Clone, Copy, Debug, PartialEq, Eq)]
 pub struct Block {

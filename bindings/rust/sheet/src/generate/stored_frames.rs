@@ -98,6 +98,7 @@ fn misplaced() -> Vec<(&'static str, Plan)> {
         ("r35-two-initialising-alone", Plan::of_lengths(&[]).with(0, 0, 0, 1).with(0, 0, 0, 1)),
         ("r35-behind-a-bad-length", short.with(3, 19_999, 0, 1)),
         ("r35-behind-a-bad-start", three().start(1, 1).with(3, 30_000, 0, 1)),
+        ("r35-before-a-bad-length", Plan::of_lengths(&[5_000, 4_999]).with(1, 0, 0, 1)),
         ("r35-and-a-number-left-over", three().with(2, 20_000, 0, 1).and(&[30_000])),
         ("r35-and-another-total", three().with(2, 20_000, 0, 1).in_frame(30_001)),
         ("r35-last-of-many-blocks", many(1_000).with(1_000, 0, 0, 1)),
@@ -124,6 +125,7 @@ fn bad_lengths_and_starts() -> Vec<(&'static str, Plan)> {
         ("r36-first-start-is-the-initialising-length", initialised().start(1, 4_999)),
         ("r36-start-equal-only-modulo-2-to-the-32", past_32_bits),
         ("r36-blocks-in-another-order", swapped),
+        ("r36-length-1-and-2-numbers-left-over", Plan::of_lengths(&[1]).and(&[1, 0])),
         ("r36-and-another-total", three().start(1, 5_001).in_frame(30_001)),
     ]
 }
