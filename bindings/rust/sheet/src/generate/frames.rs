@@ -9,7 +9,7 @@ pub mod met;
 
 use self::damage::DAMAGES;
 use super::random::Random;
-use crate::second::frames::Broken;
+use crate::second::frames::{Broken, LEAST_LENGTH};
 
 /// A list of numbers with a frame length, and its verdict where the construction settles it.
 #[derive(Clone, Debug)]
@@ -65,6 +65,13 @@ impl Iterator for RandomFrames {
             _ => damage::settled(random),
         })
     }
+}
+
+/// So many blocks, of which one in five has a length; the frame is that of 32 bits for up to four
+/// million blocks.
+pub fn many(blocks: usize) -> Plan {
+    let length = |place: usize| if place.is_multiple_of(5) { LEAST_LENGTH } else { 0 };
+    Plan::of_lengths(&(0..blocks).map(length).collect::<Vec<_>>())
 }
 
 /// A list for each way to damage one.

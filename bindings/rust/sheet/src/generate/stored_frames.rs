@@ -1,6 +1,6 @@
 //! The inputs that are kept as files for the block times of a live frame.
 
-use super::frames::Plan;
+use super::frames::{many, Plan};
 use crate::second::frames::{check_input, line};
 
 /// A file's name without its ending, and its bytes.
@@ -48,12 +48,6 @@ fn three() -> Plan {
 /// The same after an initialising block with a start and a length of no meaning.
 fn initialised() -> Plan {
     three().with(0, 7, 4_999, 1)
-}
-
-/// Blocks for some reads of a program: two in three have no length.
-fn many(blocks: usize) -> Plan {
-    let lengths: Vec<u32> = (0..blocks).map(|place| [5_000, 0, 0][place % 3]).collect();
-    Plan::of_lengths(&lengths)
 }
 
 fn accepted() -> Vec<(&'static str, Plan)> {

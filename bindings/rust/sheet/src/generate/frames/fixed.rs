@@ -1,6 +1,6 @@
 //! Lists of fixed contents: none, an initialising block alone, and long ones.
 
-use super::{Listed, Plan};
+use super::{many, Listed, Plan};
 use crate::second::frames::Broken::{BadBlock, BadTotal, InitialisingNotFirst};
 use crate::second::frames::LEAST_LENGTH;
 
@@ -13,7 +13,7 @@ const NUMBERS: [u32; 7] = [0, 1, LEAST_LENGTH - 1, LEAST_LENGTH, 20_000, 1 << 31
 pub fn lists() -> Vec<Listed> {
     let mut lists = without_blocks();
     lists.extend(initialising_alone());
-    lists.extend([Plan::of_lengths(&[0; MANY]), many()].into_iter().flat_map(long));
+    lists.extend([Plan::of_lengths(&[0; MANY]), many(MANY)].into_iter().flat_map(long));
     lists.extend(as_many_as_the_bound());
     lists.extend(far_past_32_bits());
     lists
@@ -45,12 +45,6 @@ fn initialising_alone() -> Vec<Listed> {
         })
     };
     plans.flat_map(in_frames).collect()
-}
-
-/// Many blocks, of which one in ten has a length.
-fn many() -> Plan {
-    let length = |place: usize| if place.is_multiple_of(10) { LEAST_LENGTH } else { 0 };
-    Plan::of_lengths(&(0..MANY).map(length).collect::<Vec<_>>())
 }
 
 /// A long list as it is, and broken at its ends and in the middle.
