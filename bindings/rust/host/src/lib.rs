@@ -1,5 +1,6 @@
-//! The proved checker of emission sheets, the proved listing of a programme's start, the proved gain
-//! of a plain factor, and the proved check of the block times of a live frame, for players in Rust.
+//! The proved checker of emission sheets, the proved listing of a programme's start, the proved
+//! gain of a plain factor, and the proved check of the block times of a live frame, for players in
+//! Rust.
 //!
 //! The functions themselves are proved in `crates/host`; what stands here only declares
 //! them, lends them the bytes or numbers and reads the number they give. The declarations repeat
@@ -156,8 +157,8 @@ pub fn gain_of_factor(millionths: u32) -> Result<Gain, FactorTooLarge> {
 /// The numbers are three to a block: its start, its length, and 0, or any other number if it is
 /// initialising. An initialising block stands first, if there is one; its start and length are not
 /// read and it is ignored in all sums. Each other length is 0 or at least 5,000, each start is the
-/// sum of the earlier lengths, and the lengths add up to the frame, in exact sums. There is at least
-/// one block. Every frame length and all numbers are answered, however many.
+/// sum of the earlier lengths, and the lengths add up to the frame, in exact sums. There is at
+/// least one block. Every frame length and all numbers are answered, however many.
 ///
 /// ```
 /// use host::{check_frame, FrameError};

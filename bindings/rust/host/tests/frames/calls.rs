@@ -6,8 +6,8 @@ use sheet::second::frames::check;
 
 /// How many random lists each seed has.
 const OF_A_SEED: usize = 200_000;
-/// Of numbers that don't start at an address that 8 divides, how many lists there are.
-const SHIFTED: usize = 2_000;
+/// How many random lists of each seed are lent in part.
+const IN_PART: usize = 2_000;
 
 /// Compares the numbers of both answers, 0 for acceptance.
 fn compare(what: &str, frame: u32, numbers: &[u32]) {
@@ -34,11 +34,11 @@ fn generated_lists() {
     assert_eq!(never_met, [""; 0], "a class was never met");
 }
 
-/// Each list is lent from its second and third number on, and up to each of its last numbers.
+/// Lists without their first one to three numbers, and without their last one to four.
 #[test]
 fn parts_of_lists() {
     let lists: Vec<Listed> =
-        all(SHIFTED).filter(|list| list.what != "one of all small lists").collect();
+        all(IN_PART).filter(|list| list.what != "one of all small lists").collect();
     for Listed { what, frame, numbers, .. } in &lists {
         for first in 1..numbers.len().min(4) {
             compare(what, *frame, &numbers[first..]);

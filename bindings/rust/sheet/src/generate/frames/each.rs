@@ -52,7 +52,8 @@ fn with_left_over() -> impl Iterator<Item = Vec<u32>> {
     followed(up_to_one, left_over).chain(followed(two, vec![vec![0], vec![1, 1]]))
 }
 
-/// The numbers in these frames, and in frames of the lengths' sum, cut to 32 bits, and one beside it.
+/// The numbers in these frames, and in frames of the lengths' sum, cut to 32 bits, and one beside
+/// it.
 fn in_frames(numbers: Vec<u32>, frames: &[u32]) -> Vec<Listed> {
     let blocks = numbers.as_chunks::<3>().0.iter().filter(|block| block[2] == 0);
     let sum = blocks.fold(0, |sum: u32, block| sum.wrapping_add(block[1]));
