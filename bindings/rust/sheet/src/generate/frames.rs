@@ -11,6 +11,9 @@ use self::damage::DAMAGES;
 use super::random::Random;
 use crate::second::frames::{Broken, LEAST_LENGTH};
 
+/// The seeds of the random lists that are compared.
+const SEEDS: [u64; 3] = [2168, 2076, 65_534];
+
 /// A list of numbers with a frame length, and its verdict where the construction settles it.
 #[derive(Clone, Debug)]
 pub struct Listed {
@@ -29,7 +32,7 @@ impl Listed {
         Listed { what, frame: plan.frame, numbers: plan.numbers(), expected: Some(expected) }
     }
 
-    fn open(what: &'static str, frame: u32, numbers: Vec<u32>) -> Listed {
+    fn unsettled(what: &'static str, frame: u32, numbers: Vec<u32>) -> Listed {
         Listed { what, frame, numbers, expected: None }
     }
 }
@@ -40,8 +43,6 @@ pub fn all(of_seed: usize) -> impl Iterator<Item = Listed> {
     let random = move |seed| RandomFrames::new(seed).take(of_seed);
     fixed::lists().into_iter().chain(each::lists()).chain(SEEDS.into_iter().flat_map(random))
 }
-
-const SEEDS: [u64; 3] = [2168, 2076, 65_534];
 
 /// Random lists without end, from a seed: one in four is accepted, half are damaged, the others may
 /// be anything.
@@ -67,8 +68,8 @@ impl Iterator for RandomFrames {
     }
 }
 
-/// So many blocks, of which one in five has a length; the frame is that of 32 bits for up to four
-/// million blocks.
+/// So many blocks, of which one in five has a length; the sum of up to four million keeps to 32
+/// bits.
 pub fn many(blocks: usize) -> Plan {
     let length = |place: usize| if place.is_multiple_of(5) { LEAST_LENGTH } else { 0 };
     Plan::of_lengths(&(0..blocks).map(length).collect::<Vec<_>>())

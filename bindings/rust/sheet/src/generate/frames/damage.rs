@@ -44,17 +44,17 @@ pub fn unsettled(random: &mut Random) -> Listed {
     match random.below(5) {
         0 => {
             random.shuffle(&mut plan.blocks);
-            Listed::open("blocks in any order", plan.frame, plan.numbers())
+            Listed::unsettled("blocks in any order", plan.frame, plan.numbers())
         }
         1 => twice_damaged(random, plan),
         2 => {
             let mut numbers = plan.numbers();
             numbers.truncate(random.below(numbers.len() + 1));
-            Listed::open("cut short", plan.frame, numbers)
+            Listed::unsettled("cut short", plan.frame, numbers)
         }
         3 => {
             let numbers = (0..random.below(10)).map(|_| any(random)).collect();
-            Listed::open("any numbers", any(random), numbers)
+            Listed::unsettled("any numbers", any(random), numbers)
         }
         _ => other_numbers(random, &plan),
     }
@@ -68,7 +68,7 @@ fn twice_damaged(random: &mut Random, mut plan: Plan) -> Listed {
         // where it isn't possible, the list stays as it is
         let _ = (damage.change)(&mut plan, random);
     }
-    Listed::open("damaged twice", plan.frame, plan.numbers())
+    Listed::unsettled("damaged twice", plan.frame, plan.numbers())
 }
 
 /// One to three numbers are others.
@@ -82,7 +82,7 @@ fn other_numbers(random: &mut Random, plan: &Plan) -> Listed {
             _ => any(random),
         };
     }
-    Listed::open("other numbers", numbers[0], numbers[1..].to_vec())
+    Listed::unsettled("other numbers", numbers[0], numbers[1..].to_vec())
 }
 
 /// A random block of those that are asked for.

@@ -61,6 +61,6 @@ fn in_frames(numbers: Vec<u32>, frames: &[u32]) -> Vec<Listed> {
     let mut frames = [frames, &near].concat();
     frames.sort_unstable();
     frames.dedup();
-    let listed = |frame| Listed::open("one of all small lists", frame, numbers.clone());
+    let listed = |frame| Listed::unsettled("one of all small lists", frame, numbers.clone());
     frames.into_iter().map(listed).collect()
 }
