@@ -12,7 +12,8 @@ ctest:
 rusttest:
 	bindings/rust/run-test
 
-# time per sheet of the proved checker, of the second one written for speed and of the plain second one, and time of the gain of a factor
+# time per sheet of the proved checker, of the second one written for speed and of the plain second one, and times of the gain of a factor
+# and of the check of block times
 bench:
 	tools/build host
 	cd bindings/rust && cargo bench --locked --offline --bench ratio

@@ -1,6 +1,6 @@
 /*
- * The proved checker of emission sheets, the proved listing of a programme's start and the proved gain of a plain factor, for host players
- * in C.
+ * The proved checker of emission sheets, the proved listing of a programme's start, the proved gain of a plain factor and the proved check
+ * of the block times of a live frame, for host players in C.
  * Link with crates/host/out/libhost.a, which `tools/build host` writes; it needs no other library.
  */
 #ifndef SHEET_H
@@ -69,6 +69,25 @@ int32_t sheet_start_listing(const uint8_t *sheet, size_t sheet_len, const uint8_
  * call at the same time.
  */
 int32_t gain_of_factor(uint32_t millionths);
+
+/*
+ * Whether the blocks of one channel conform to a live frame of so many microseconds: 0 if they do, else the number of an error; the first
+ * that applies is given:
+ *
+ *     35    an initialising block is not first
+ *     36    a length or a start is bad, or numbers are left over, which are no whole block
+ *     37    there is no block at all, or the lengths do not add up to the frame
+ *
+ * The numbers are three to a block: its start and its length in microseconds, and 0, or any other number if it is initialising. So count
+ * is three times the number of blocks: it counts numbers, not bytes and not blocks. The start and length of an initialising block are not
+ * read and it is ignored in all sums. Each other length is 0 or at least 5000, and each start is the sum of the earlier lengths. Sums are
+ * exact and may pass 32 bits.
+ *
+ * Every frame length, every count and all numbers are answered. The numbers are this machine's own, aligned as uint32_t is. They are read
+ * and never written, none beyond count is touched, and they must not change during the call. With a count of 0 the pointer is not followed
+ * and may be NULL. Nothing is kept from call to call, so threads may call at the same time.
+ */
+uint32_t frame_check(uint32_t frame, const uint32_t *numbers, size_t count);
 
 #ifdef __cplusplus
 }

@@ -8,6 +8,7 @@
 //!     cargo bench --bench ratio -- growth             the growth of every family
 //!     cargo bench --bench ratio -- growth honest      the growth of the families with this text in their names
 //!     cargo bench --bench ratio -- factors            the gains of plain factors
+//!     cargo bench --bench ratio -- frames             the block times of live frames
 //!     cargo bench --bench ratio -- write FOLDER       no times: the sheets of the first table and of the growth of
 //!                                                     the honest families as files (FOLDER from the root, /tmp/sheets)
 //!
@@ -19,6 +20,8 @@
 
 #[path = "ratio/factors.rs"]
 mod factors;
+#[path = "ratio/frames.rs"]
+mod frames;
 #[path = "ratio/growth.rs"]
 mod growth;
 #[path = "ratio/timer.rs"]
@@ -48,12 +51,14 @@ fn main() -> io::Result<()> {
     match words.split_first() {
         Some((table, name)) if table == "growth" => growth::print_tables(&name.join(" "))?,
         Some((table, [])) if table == "factors" => factors::print_table(),
+        Some((table, [])) if table == "frames" => frames::print_table(),
         Some((table, [folder])) if table == "write" => write::write_sheets(Path::new(folder))?,
         Some(_) => print_table(&words.join(" "))?,
         None => {
             print_table("")?;
             growth::print_tables("")?;
             factors::print_table();
+            frames::print_table();
         }
     }
     Ok(())

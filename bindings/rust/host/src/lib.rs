@@ -1,14 +1,17 @@
-//! The proved checker of emission sheets, the proved listing of a programme's start, and the proved
-//! gain of a plain factor, for players in Rust.
+//! The proved checker of emission sheets, the proved listing of a programme's start, the proved
+//! gain of a plain factor, and the proved check of the block times of a live frame, for players in
+//! Rust.
 //!
 //! The functions themselves are proved in `crates/host`; what stands here only declares
-//! them, lends them the bytes and reads the number they give. The declarations repeat
+//! them, lends them the bytes or numbers and reads the number they give. The declarations repeat
 //! `bindings/c/sheet.h` and aren't checked against the proved source.
 
+mod frame;
 mod gain;
 mod listing;
 mod verdict;
 
+pub use frame::FrameError;
 pub use gain::{FactorTooLarge, Gain};
 pub use listing::Refusal;
 pub use verdict::Verdict;
@@ -31,6 +34,9 @@ extern "C" {
     /// The tenths of a dB, -32768 for silence, or 1,000,000 times the refusal's number.
     #[link_name = "gain_of_factor"]
     fn gain_number(millionths: u32) -> i32;
+
+    /// 0, or the error's number.
+    fn frame_check(frame: u32, numbers: *const u32, count: usize) -> u32;
 }
 
 /// The verdict on a sheet with the list of language words that is lent beside it: any lengths, any
@@ -144,4 +150,40 @@ pub fn gain_of_factor(millionths: u32) -> Result<Gain, FactorTooLarge> {
     let number = unsafe { gain_number(millionths) };
     gain::of_number(number)
         .unwrap_or_else(|| panic!("gain_of_factor gave {number} for {millionths}, no answer"))
+}
+
+/// Whether the blocks of one channel conform to a live frame of this length, both in microseconds.
+///
+/// The numbers are three to a block: its start, its length, and 0, or any other number if it is
+/// initialising. An initialising block stands first, if there is one; its start and length are not
+/// read and it is ignored in all sums. Each other length is 0 or at least 5,000, each start is the
+/// sum of the earlier lengths, and the lengths add up to the frame, in exact sums. There is at
+/// least one block. Every frame length and all numbers are answered, however many.
+///
+/// ```
+/// use host::{check_frame, FrameError};
+///
+/// let block = |start, length| [start, length, 0];
+/// let initialising = [0, 0, 1];
+/// let blocks = [initialising, block(0, 5_000), block(5_000, 0), block(5_000, 15_000)].concat();
+/// assert_eq!(check_frame(20_000, &blocks), Ok(()));
+///
+/// assert_eq!(check_frame(20_000, &blocks[3..]), Ok(()));
+/// assert_eq!(check_frame(20_001, &blocks), Err(FrameError::BadTotal));
+/// assert_eq!(check_frame(20_000, &[]), Err(FrameError::BadTotal));
+/// assert_eq!(check_frame(20_000, &blocks[..11]), Err(FrameError::BadBlock));
+/// let twice = [initialising, initialising].concat();
+/// assert_eq!(check_frame(0, &twice), Err(FrameError::InitialisingNotFirst));
+/// ```
+///
+/// # Panics
+///
+/// If the linked archive gives a number that is no answer, so isn't the proved one.
+#[inline]
+pub fn check_frame(frame: u32, numbers: &[u32]) -> Result<(), FrameError> {
+    // SAFETY: the call reads the numbers of the slice, writes nothing and keeps nothing; it
+    // follows the pointer only below its length.
+    let number = unsafe { frame_check(frame, numbers.as_ptr(), numbers.len()) };
+    frame::of_number(number)
+        .unwrap_or_else(|| panic!("frame_check gave {number} for frame {frame}, no answer"))
 }

@@ -16,6 +16,8 @@ mod damage;
 pub mod factors;
 /// Random sheets of which figures are told.
 pub mod figures;
+/// Lists of blocks, and frame lengths to them.
+pub mod frames;
 /// Honest sheets as large as they get.
 pub mod honest;
 /// Sheets of unusual length, and largest sheets made to be slow to check.
@@ -32,6 +34,8 @@ pub mod stored;
 pub mod stored_factors;
 /// The sheets that are kept as files for the figures.
 pub mod stored_figures;
+/// The inputs that are kept as files for the block times of a live frame.
+pub mod stored_frames;
 /// The scripts of listener calls that are kept as files.
 pub mod stored_scripts;
 

@@ -1,13 +1,14 @@
 //! The emission sheet: a second checker and listener, and sheets to try checkers on.
 //!
 //! Written from document 01 (`01-scope.md`) and its readings (`READINGS.md`) alone, the figures,
-//! the language words and the gains of plain factors from L1 to L3 of document 02
-//! (`02-change-requests.md`) and their readings (`REQUESTS.md`) besides.
+//! the language words, the gains of plain factors and the block times of a live frame from L1, L2,
+//! L3 and L5 of document 02 (`02-change-requests.md`) and their readings (`REQUESTS.md`) besides.
 
 /// The second checker and the second listener.
 pub mod second;
 
-/// The second checker, and the gain of a plain factor, written for speed.
+/// The second checker, the gain of a plain factor and the block times of a live frame, written for
+/// speed.
 pub mod fast;
 
 /// A builder of sheets from records given as vectors.

@@ -1,11 +1,12 @@
 //! The fast checker against the plain one: the same verdict on every sheet; and the fast gain of a
-//! factor against the plain one.
+//! factor and the fast check of block times against the plain ones.
 
 use std::fs;
 use std::path::Path;
 
 use sheet::generate::crowded::CrowdedSheets;
 use sheet::generate::factors::around_powers_of_two;
+use sheet::generate::frames::{self, Listed};
 use sheet::generate::languages::{each, LanguageSheets};
 use sheet::generate::{fixed_sheets, hostile, Generated, RandomSheets};
 use sheet::second::Verdict;
@@ -102,5 +103,17 @@ fn the_fast_gain_of_a_factor_is_the_plain_one() {
         let [fast, plain] = [fast::factors::gain_of_factor, second::factors::gain_of_factor]
             .map(|gain| gain(factor));
         assert_eq!(fast, plain, "{factor}");
+    }
+}
+
+/// How many random lists of blocks each seed has.
+const LISTS_OF_A_SEED: usize = 200_000;
+
+#[test]
+fn the_fast_check_of_block_times_is_the_plain_one() {
+    for Listed { what, frame, numbers, .. } in frames::all(LISTS_OF_A_SEED) {
+        let [fast, plain] =
+            [fast::frames::check, second::frames::check].map(|check| check(frame, &numbers));
+        assert_eq!(fast, plain, "{what}: frame {frame}, {numbers:?}");
     }
 }

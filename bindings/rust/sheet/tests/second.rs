@@ -59,3 +59,11 @@ mod factors;
 /// The lines of factors kept as a file.
 #[path = "second/stored_factors.rs"]
 mod stored_factors;
+
+/// Block times of live frames.
+#[path = "second/frames.rs"]
+mod frames;
+
+/// The inputs of block times kept as files.
+#[path = "second/stored_frames.rs"]
+mod stored_frames;

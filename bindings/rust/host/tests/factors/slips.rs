@@ -2,16 +2,10 @@
 
 use crate::input;
 use crate::outputs::{full, with_closed_output};
-use crate::run::{program, run, run_into, Run};
+use crate::run::{program, run, run_into};
 
 /// How many lines it is offered while it can't answer: many times what a pipe holds.
 const MANY_LINES: usize = 200_000;
-
-/// Fails unless the program said a line that starts so, and ended with status 0.
-fn must_complain(run: &Run, start: &str, what: &str) {
-    run.must_complain(start, what);
-    assert!(run.status.success(), "{what}: {}", run.status);
-}
 
 #[test]
 fn with_arguments() {
@@ -20,7 +14,7 @@ fn with_arguments() {
         for input in [&b""[..], b"1000\n"] {
             let what = format!("gaintenths {arguments:?} on {} bytes", input.len());
             let run = run(program("gaintenths", arguments), input::pipe(input));
-            must_complain(&run, "usage: gaintenths <FILE\n", &what);
+            run.must_complain_with_status_0("usage: gaintenths <FILE\n", &what);
         }
     }
     println!("gaintenths with arguments: {} lines", 2 * slips.len());
@@ -29,7 +23,7 @@ fn with_arguments() {
 #[test]
 fn on_a_folder() {
     let run = run(program("gaintenths", &[]), input::file("/"));
-    must_complain(&run, "standard input: ", "gaintenths </");
+    run.must_complain_with_status_0("standard input: ", "gaintenths </");
     println!("gaintenths on a folder: 1 line");
 }
 
@@ -37,7 +31,7 @@ fn on_a_folder() {
 fn with_a_full_output() {
     let lines = b"1000\n".repeat(MANY_LINES);
     let run = run_into(full(), program("gaintenths", &[]), input::pipe(&lines));
-    must_complain(&run, "standard output: ", "gaintenths >/dev/full");
+    run.must_complain_with_status_0("standard output: ", "gaintenths >/dev/full");
     assert!(!run.input_taken, "gaintenths >/dev/full: reads on, all of {MANY_LINES} lines");
     println!("gaintenths with a full output: 1 line, and the program ends");
 }
@@ -45,6 +39,6 @@ fn with_a_full_output() {
 #[test]
 fn with_a_closed_output() {
     let run = run(with_closed_output(&program("gaintenths", &[])), input::pipe(b"1000\n"));
-    must_complain(&run, "standard output: ", "gaintenths >&-");
+    run.must_complain_with_status_0("standard output: ", "gaintenths >&-");
     println!("gaintenths with a closed output: 1 line");
 }

@@ -30,8 +30,22 @@ pub fn pipe(bytes: &[u8]) -> Input<'_> {
 /// messages, and an empty message is the end. A read that asks for less than a piece loses its
 /// rest.
 pub fn pieces(bytes: &[u8], size: usize) -> Input<'_> {
+    pieces_of(bytes, &[size])
+}
+
+/// The same with pieces of these sizes in turn, over and over.
+pub fn pieces_of<'a>(mut bytes: &'a [u8], sizes: &[usize]) -> Input<'a> {
     let (end, writer) = UnixDatagram::pair().expect("sockets can be made");
-    let mut messages = bytes.chunks(size).chain([&[][..]]);
-    let feed = move || messages.try_for_each(|message| writer.send(message).map(drop));
+    let mut messages = Vec::new();
+    for &size in sizes.iter().cycle() {
+        // nothing of no bytes: an empty message
+        let (message, rest) = bytes.split_at(size.min(bytes.len()));
+        messages.push(message);
+        bytes = rest;
+        if message.is_empty() {
+            break;
+        }
+    }
+    let feed = move || messages.into_iter().try_for_each(|message| writer.send(message).map(drop));
     Input { end: OwnedFd::from(end).into(), feed: Box::new(feed) }
 }

@@ -50,6 +50,13 @@ impl Run {
         );
     }
 
+    /// The same, and the program must have ended with status 0.
+    #[allow(dead_code)]
+    pub fn must_complain_with_status_0(&self, start: &str, what: &str) {
+        self.must_complain(start, what);
+        assert!(self.status.success(), "{what}: {}", self.status);
+    }
+
     /// Fails if a signal ended the program, among them the one at the deadline.
     fn must_have_ended(&self, what: &str) {
         let Run { status, time, .. } = self;

@@ -6,10 +6,13 @@
 //! lists have more entries together than section 6, questions about lists are answered
 //! from tables over section 6 (`runs`) instead of by walking.
 //!
-//! The gain of a plain factor stands apart from the checker, in `factors`.
+//! The gain of a plain factor and the block times of a live frame stand apart from the checker, in
+//! `factors` and `frames`.
 
 /// Gains of plain factors.
 pub mod factors;
+/// Block times of a live frame.
+pub mod frames;
 mod groups;
 mod languages;
 mod limits;

@@ -2,13 +2,15 @@
 //! rule in checking order.
 //!
 //! As plain as possible: no record is decoded ahead, every rule reads the words of the
-//! sheet again, and every sentence quoted in these modules, but for `factors`, `figures`,
+//! sheet again, and every sentence quoted in these modules, but for `factors`, `figures`, `frames`,
 //! `languages` and rule 33, is document 01's.
 
 /// Gains of plain factors.
 pub mod factors;
 /// The figures that clashed.
 pub mod figures;
+/// Block times of a live frame.
+pub mod frames;
 /// Language words.
 pub mod languages;
 pub(crate) mod limits;

@@ -1,0 +1,125 @@
+//! `framecheck` on inputs, against what the second implementation says to them.
+
+use sheet::generate::frames::{damaged, Plan, RandomFrames};
+use sheet::generate::random::Random;
+use sheet::generate::{frames, stored_frames};
+use sheet::second::frames::{check_input, line, Broken};
+
+use crate::folder::{Folder, LANGS};
+use crate::input::{self, Input};
+use crate::run::{program, program_in, run};
+
+/// The name of the program.
+pub const FRAMECHECK: &str = "framecheck";
+
+/// Sizes of pieces that are taken in turn: whole numbers, parts of them, and more than a block.
+const ODD_SIZES: [usize; 11] = [1, 2, 3, 5, 8, 13, 4, 12, 11, 20, 7];
+/// How many lists of each way of damage, and then how many random ones, are given to the program.
+const ROUNDS: usize = 4;
+const RANDOM: usize = 150;
+
+/// Runs `framecheck` on an input with a frame length: it must print the second implementation's
+/// verdict. It must have read all, unless an initialising block can settle it before the end.
+pub fn compare(what: &str, bytes: &[u8], input: Input) {
+    let verdict = check_input(bytes).expect("the input has a frame length");
+    let run = run(program(FRAMECHECK, &[]), input);
+    run.must_say(&line(verdict), what);
+    let is_settled = verdict == Err(Broken::InitialisingNotFirst);
+    assert!(run.input_taken || is_settled, "{what}: not read to the end");
+}
+
+/// Inputs of some lists for each way of damage, and of random ones.
+fn generated() -> Vec<(&'static str, Vec<u8>)> {
+    let mut random = Random::new(2125);
+    let mut lists: Vec<_> = (0..ROUNDS).flat_map(|_| damaged(&mut random)).collect();
+    lists.extend(RandomFrames::new(4).take(RANDOM));
+    lists.iter().map(|list| (list.what, frames::input(list.frame, &list.numbers))).collect()
+}
+
+/// An accepted list that ends so if it is cut: with an initialising block first and zero lengths.
+fn accepted() -> Plan {
+    Plan::of_lengths(&[0, 5_000, 0, 70_000, 5_001]).with(0, 3, 4_999, 256)
+}
+
+#[test]
+fn stored_inputs() {
+    let inputs = stored_frames::inputs();
+    for (name, bytes) in &inputs {
+        compare(name, bytes, input::pipe(bytes));
+    }
+    println!("{FRAMECHECK}, as stored: {} inputs, no difference", inputs.len());
+}
+
+#[test]
+fn stored_inputs_in_pieces() {
+    let inputs = stored_frames::inputs();
+    for (name, bytes) in &inputs {
+        for size in [1, 3, 7, 20] {
+            compare(&format!("{name}, in reads of {size}"), bytes, input::pieces(bytes, size));
+        }
+        for first in 0..ODD_SIZES.len() {
+            let sizes = [&ODD_SIZES[first..], &ODD_SIZES[..first]].concat();
+            let what = format!("{name}, in reads of {sizes:?}");
+            compare(&what, bytes, input::pieces_of(bytes, &sizes));
+        }
+    }
+    println!("{FRAMECHECK}, in pieces: {} inputs, no difference", inputs.len());
+}
+
+#[test]
+fn generated_inputs() {
+    let inputs = generated();
+    for (what, bytes) in &inputs {
+        let what = format!("{what}, {bytes:?}");
+        compare(&what, bytes, input::pipe(bytes));
+        compare(&format!("{what}, in odd reads"), bytes, input::pieces_of(bytes, &ODD_SIZES));
+    }
+    println!("{FRAMECHECK}, generated: {} inputs, no difference", inputs.len());
+}
+
+/// Each cut of an accepted input, and of one that becomes 35 with its fourth block: all numbers of
+/// bytes are left over.
+#[test]
+fn every_cut() {
+    let misplaced = accepted().with(3, 0, 0, 1);
+    let mut cuts = 0;
+    for input in [accepted(), misplaced].map(|plan| plan.input()) {
+        for length in 4..=input.len() {
+            let (what, bytes) = (format!("{length} bytes of {input:?}"), &input[..length]);
+            compare(&what, bytes, input::pipe(bytes));
+            for size in [1, 7] {
+                compare(&format!("{what}, in reads of {size}"), bytes, input::pieces(bytes, size));
+            }
+            cuts += 1;
+        }
+    }
+    println!("{FRAMECHECK}, cut short: {cuts} inputs, no difference");
+}
+
+/// The same cuts of an accepted input in the frame that its whole blocks fill: then all whole
+/// blocks alone conform, and nothing else does.
+#[test]
+fn every_cut_in_its_own_frame() {
+    let plan = accepted();
+    for blocks in 1..=plan.blocks.len() {
+        let lengths: Vec<u32> = plan.blocks[1..blocks].iter().map(|block| block.length).collect();
+        let whole = plan.clone().in_frame(lengths.iter().sum()).input();
+        for left_over in 0..12.min(whole.len() - 4 - 12 * blocks + 1) {
+            let bytes = &whole[..4 + 12 * blocks + left_over];
+            let said = if left_over == 0 { "accepted\n" } else { "rule 36\n" };
+            let what = format!("{blocks} blocks and {left_over} bytes");
+            run(program(FRAMECHECK, &[]), input::pipe(bytes)).must_say(said, &what);
+        }
+    }
+    println!("{FRAMECHECK}, cut short in frames of their own: no difference");
+}
+
+/// It is lent no sheet, so a list that doesn't rise is nothing to it.
+#[test]
+fn no_list_is_read() {
+    let folder = Folder::new("framecheck beside a list");
+    folder.lend(&[1, 0, 1, 0]);
+    let framecheck = program_in(folder.path(), FRAMECHECK, &[]);
+    run(framecheck, input::pipe(&accepted().input())).must_say("accepted\n", "beside a list");
+    println!("{FRAMECHECK} beside a file {LANGS}: no difference");
+}
