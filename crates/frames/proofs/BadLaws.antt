@@ -59,5 +59,5 @@ bad_none x [] h = refl
 bad_none x (b ∷ bs) h =
     let first : is_bad x b ≡ false = rw (append-nil x) at (h [] bs b refl) in
     let rest : some_bad (x ++ b ∷ []) bs ≡ false =
-      bad_none (x ++ b ∷ []) bs (λ before after c e. rw (append_assoc x (b ∷ []) before) (h (b ∷ before) after c (ap (λ l. b ∷ l) e))) in
+    bad_none (x ++ b ∷ []) bs (λ before after c e. rw (append_assoc x (b ∷ []) before) (h (b ∷ before) after c (ap (λ l. b ∷ l) e))) in
     rw first rest

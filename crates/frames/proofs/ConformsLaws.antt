@@ -57,7 +57,6 @@ unfolding initialising_not_first
 alone_first [] h = refl
 alone_first (a ∷ bs) h = none_any (λ (x : Block). x.initialising) bs (λ before after c e i. no_first a before (h (a ∷ before) after c (ap (λ l. a ∷ l) e) i))
 
-
 pub some_block : (bs : List Block) → no_block bs ≡ false → 1 ≤ length bs
 unfolding no_block
 some_block [] h = cc

@@ -12,8 +12,15 @@ use crate::run::{program, program_in, run};
 /// The name of the program.
 pub const FRAMECHECK: &str = "framecheck";
 
+/// A read that asks for less than a piece loses its rest, and `framecheck` asks for the four bytes of
+/// the frame length, then for 4,092 at a time: so pieces have to fill both. The frame length comes in
+/// pieces of these sizes.
+const FIRST_SIZES: [&[usize]; 4] = [&[4], &[1, 3], &[2, 2], &[1, 1, 2]];
 /// Sizes of pieces that are taken in turn: whole numbers, parts of them, and more than a block.
-const ODD_SIZES: [usize; 11] = [1, 2, 3, 5, 8, 13, 4, 12, 11, 20, 7];
+/// Together they are 93, a 44th of 4,092.
+const ODD_SIZES: [usize; 11] = [1, 2, 3, 5, 8, 13, 4, 12, 11, 20, 14];
+/// Sizes that are parts of 4,092 by themselves.
+const EVEN_SIZES: [usize; 7] = [1, 2, 3, 11, 12, 31, 1_023];
 /// How many lists of each way of damage, and then how many random ones, are given to the program.
 const ROUNDS: usize = 4;
 const RANDOM: usize = 150;
@@ -26,6 +33,12 @@ pub fn compare(what: &str, bytes: &[u8], input: Input) {
     run.must_say(&line(verdict), what);
     let is_settled = verdict == Err(Broken::InitialisingNotFirst);
     assert!(run.input_taken || is_settled, "{what}: not read to the end");
+}
+
+/// The same where the input comes in pieces, of which each read gives one.
+fn in_pieces(what: &str, bytes: &[u8], first: &[usize], others: &[usize]) {
+    let what = format!("{what}, in reads of {first:?} and {others:?}");
+    compare(&what, bytes, input::pieces_of(bytes, first, others));
 }
 
 /// Inputs of some lists for each way of damage, and of random ones.
@@ -54,13 +67,12 @@ fn stored_inputs() {
 fn stored_inputs_in_pieces() {
     let inputs = stored_frames::inputs();
     for (name, bytes) in &inputs {
-        for size in [1, 3, 7, 20] {
-            compare(&format!("{name}, in reads of {size}"), bytes, input::pieces(bytes, size));
+        for size in EVEN_SIZES {
+            in_pieces(name, bytes, FIRST_SIZES[0], &[size]);
         }
-        for first in 0..ODD_SIZES.len() {
-            let sizes = [&ODD_SIZES[first..], &ODD_SIZES[..first]].concat();
-            let what = format!("{name}, in reads of {sizes:?}");
-            compare(&what, bytes, input::pieces_of(bytes, &sizes));
+        for at in 0..ODD_SIZES.len() {
+            let sizes = [&ODD_SIZES[at..], &ODD_SIZES[..at]].concat();
+            in_pieces(name, bytes, FIRST_SIZES[at % FIRST_SIZES.len()], &sizes);
         }
     }
     println!("{FRAMECHECK}, in pieces: {} inputs, no difference", inputs.len());
@@ -72,7 +84,7 @@ fn generated_inputs() {
     for (what, bytes) in &inputs {
         let what = format!("{what}, {bytes:?}");
         compare(&what, bytes, input::pipe(bytes));
-        compare(&format!("{what}, in odd reads"), bytes, input::pieces_of(bytes, &ODD_SIZES));
+        in_pieces(&what, bytes, FIRST_SIZES[1], &ODD_SIZES);
     }
     println!("{FRAMECHECK}, generated: {} inputs, no difference", inputs.len());
 }
@@ -87,8 +99,8 @@ fn every_cut() {
         for length in 4..=input.len() {
             let (what, bytes) = (format!("{length} bytes of {input:?}"), &input[..length]);
             compare(&what, bytes, input::pipe(bytes));
-            for size in [1, 7] {
-                compare(&format!("{what}, in reads of {size}"), bytes, input::pieces(bytes, size));
+            for size in [1, 31] {
+                in_pieces(&what, bytes, FIRST_SIZES[3], &[size]);
             }
             cuts += 1;
         }

@@ -30,14 +30,14 @@ pub fn pipe(bytes: &[u8]) -> Input<'_> {
 /// messages, and an empty message is the end. A read that asks for less than a piece loses its
 /// rest.
 pub fn pieces(bytes: &[u8], size: usize) -> Input<'_> {
-    pieces_of(bytes, &[size])
+    pieces_of(bytes, &[], &[size])
 }
 
-/// The same with pieces of these sizes in turn, over and over.
-pub fn pieces_of<'a>(mut bytes: &'a [u8], sizes: &[usize]) -> Input<'a> {
+/// The same with pieces of the first sizes, and then of the others in turn, over and over.
+pub fn pieces_of<'a>(mut bytes: &'a [u8], first: &[usize], others: &[usize]) -> Input<'a> {
     let (end, writer) = UnixDatagram::pair().expect("sockets can be made");
     let mut messages = Vec::new();
-    for &size in sizes.iter().cycle() {
+    for &size in first.iter().chain(others.iter().cycle()) {
         // nothing of no bytes: an empty message
         let (message, rest) = bytes.split_at(size.min(bytes.len()));
         messages.push(message);
