@@ -1,10 +1,11 @@
 -- A frame as bytes. Document 02, L5: "All are unsigned numbers of 32 bits, three to a block"; the program `framecheck` reads them high byte
 -- first, "the frame length, then three a block", and bytes left over count as a number left over. Assumes nothing.
-use Rattle.std.specs.Prelude.{ℕ, ◌%◌, not, List, [], ◌∷◌, eqb, length, Option, Some, None, Result, ⊤}
+use Rattle.std.specs.Prelude.{ℕ, ◌%◌, ◌≡◌, refl, not, List, [], ◌∷◌, map, eqb, length, Option, Some, None, Result, Err, ⊤}
 use Rattle.std.specs.Int.{from_be_bytes, w32}
 use Rattle.frames.specs.declared.FrameError.{FrameError}
-use Rattle.frames.specs.Blocks.{blocks}
-use Rattle.frames.specs.Conformance.{frame_verdict}
+use Rattle.frames.specs.declared.FrameError.TheVariants.{BadBlock, BadTotal}
+use Rattle.frames.specs.Blocks.{blocks, counted_length, total}
+use Rattle.frames.specs.Conformance.{initialising_not_first, legal_length, legal_start, is_bad, some_bad, bad_block, no_block, bad_total, accepted, first_error, frame_verdict}
 
 -- the number of four bytes, "high byte first"
 abbrev pub number : ℕ → ℕ → ℕ → ℕ → ℕ
@@ -29,3 +30,19 @@ input_verdict (a ∷ b ∷ c ∷ []) = None
 input_verdict (a ∷ b ∷ []) = None
 input_verdict (a ∷ []) = None
 input_verdict [] = None
+
+-- some inputs, computed: none with a frame length; a frame length alone, with a byte, and with a block of it; that block with a byte, and with
+-- two numbers and three bytes behind it
+pub input_verdicts :
+    map input_verdict
+    ([]
+    ∷ (0 ∷ 0 ∷ 78 ∷ [])
+    ∷ (0 ∷ 0 ∷ 78 ∷ 32 ∷ [])
+    ∷ (0 ∷ 0 ∷ 78 ∷ 32 ∷ 0 ∷ [])
+    ∷ (0 ∷ 0 ∷ 78 ∷ 32 ∷ 0 ∷ 0 ∷ 0 ∷ 0 ∷ 0 ∷ 0 ∷ 78 ∷ 32 ∷ 0 ∷ 0 ∷ 0 ∷ 0 ∷ [])
+    ∷ (0 ∷ 0 ∷ 78 ∷ 32 ∷ 0 ∷ 0 ∷ 0 ∷ 0 ∷ 0 ∷ 0 ∷ 78 ∷ 32 ∷ 0 ∷ 0 ∷ 0 ∷ 0 ∷ 0 ∷ [])
+    ∷ (0 ∷ 0 ∷ 78 ∷ 32 ∷ 0 ∷ 0 ∷ 0 ∷ 0 ∷ 0 ∷ 0 ∷ 78 ∷ 32 ∷ 0 ∷ 0 ∷ 0 ∷ 0 ∷ 0 ∷ 0 ∷ 78 ∷ 32 ∷ 0 ∷ 0 ∷ 0 ∷ 0 ∷ 1 ∷ 0 ∷ 0 ∷ [])
+    ∷ [])
+    ≡ None ∷ None ∷ Some (Err BadTotal) ∷ Some (Err BadBlock) ∷ Some accepted ∷ Some (Err BadBlock) ∷ Some (Err BadBlock) ∷ []
+unfolding numbers blocks_verdict input_verdict blocks counted_length total initialising_not_first legal_length legal_start is_bad some_bad bad_block no_block bad_total first_error frame_verdict
+input_verdicts = refl
