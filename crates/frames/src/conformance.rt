@@ -23,5 +23,5 @@ pub fn check_frame(frame: u32, numbers: &[u32]) -> Result<(), FrameError>
     ensures { result ≡ conformance frame numbers.now }
 {
     let (blocks, rest) = numbers.as_chunks::<3>();
-    after_blocks(Progress::begun(), blocks).verdict(frame, !rest.is_empty())
+    after_blocks(Progress::Begun, blocks).verdict(frame, !rest.is_empty())
 }
