@@ -20,7 +20,7 @@ fn read_blocks<R: Read>(input: &mut R, frame: u32) -> Result<Result<(), FrameErr
     ensures { IfOk result (λ verdict. IfSome (R.remaining input.old) (λ bytes. verdict ≡ blocks_verdict frame bytes)) }
 {
     let mut buffer = [0u8; READ_ROOM];
-    let mut progress = Progress::Begun;
+    let mut progress = Progress::begun();
     for _ in 0..u64::MAX {
         let count = read_input(input, &mut buffer)?;
         progress = after_bytes(progress, &buffer[..count]);

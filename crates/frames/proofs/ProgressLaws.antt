@@ -1,99 +1,110 @@
 -- What the code keeps of the blocks so far tells the verdict on them. Assumes nothing.
 use Prim.Native.Nat.{ℕ, ◌+◌}
-use mathlib.Core.Path.{◌≡◌, refl, sym, ap, ◌∙◌}
-use mathlib.Core.Bool.{Bool, true, false, cond, not, ◌&&◌, ◌||◌}
+use mathlib.Core.Path.{◌≡◌, refl, sym, ◌∙◌}
+use mathlib.Core.Bool.{Bool, true, false, not, ◌&&◌, ◌||◌}
 use mathlib.Core.List.{List, [], ◌∷◌, ◌++◌, append_assoc, append-nil}
-use borrow.Author.Tests.{eqb-true}
+use native.Mathlib.Omega.{arith}
+use borrow.Table.Steps.{cases}
 use lib.Dec.{eqb}
-use Rattle.std.specs.Prelude.{Err}
-use Rattle.std.proofs.Math.Bool.{or-false, or_assoc}
+use Rattle.std.proofs.Math.Bool.{or-false, or_assoc, and-true, and-false}
+use Rattle.std.proofs.lemmas.Bool.{or_parts}
 use Rattle.std.proofs.lemmas.List.Folds.{list_any-append}
 use Rattle.std.proofs.lemmas.List.Sums.{sum_by_push}
 use Rattle.frames.specs.declared.Block.{Block}
-use Rattle.frames.specs.declared.FrameError.TheVariants.{BadTotal}
 use Rattle.frames.specs.declared.progress.Progress.{Progress}
-use Rattle.frames.specs.declared.progress.Progress.TheVariants.{Begun, Total, Bad, NotFirst}
 use Rattle.frames.specs.Blocks.{counted_length, total}
-use Rattle.frames.specs.Conformance.{initialising_not_first, legal_length, legal_start, is_bad, some_bad, bad_block, no_block, bad_total, accepted, first_error, frame_verdict}
-use Rattle.frames.specs.steps.Progress.{after_other, after_block, after_blocks, progress_of, verdict_after}
+use Rattle.frames.specs.Conformance.{initialising_not_first, legal_length, legal_start, is_bad, some_bad, bad_block, no_block, bad_total, first_error, frame_verdict}
+use Rattle.frames.proofs.BadLaws.{good_start}
+use Rattle.frames.specs.steps.Progress.{begun, after_block, after_blocks, verdict_after}
 
 -- the tests of blocks and one more
+none_push : (bs : List Block) (b : Block) → no_block (bs ++ b ∷ []) ≡ false
+unfolding no_block
+none_push [] b = refl
+none_push (a ∷ bs) b = refl
+
+not_first_push : (bs : List Block) (b : Block) → initialising_not_first (bs ++ b ∷ []) ≡ (initialising_not_first bs || (b.initialising && not (no_block bs)))
+unfolding initialising_not_first no_block
+not_first_push [] b = sym (and-false b.initialising)
+not_first_push (a ∷ bs) b = list_any-append (λ (x : Block). x.initialising) bs (b ∷ []) ∙ rw (or-false b.initialising, and-true b.initialising) refl
+
 bad_push : (before bs : List Block) (b : Block) → some_bad before (bs ++ b ∷ []) ≡ (some_bad before bs || is_bad (before ++ bs) b)
 unfolding some_bad
 bad_push before [] b = rw (append-nil before) (or-false (is_bad before b))
 bad_push before (a ∷ bs) b =
     rw (bad_push (before ++ a ∷ []) bs b, append_assoc before (a ∷ []) bs) (sym (or_assoc (is_bad before a) _ _))
 
-not_first_push : (a : Block) (bs : List Block) (b : Block) → initialising_not_first (a ∷ (bs ++ b ∷ [])) ≡ (initialising_not_first (a ∷ bs) || b.initialising)
-unfolding initialising_not_first
-not_first_push a bs b = list_any-append (λ (x : Block). x.initialising) bs (b ∷ []) ∙ rw (or-false b.initialising) refl
-
 total_push : (bs : List Block) (b : Block) → total (bs ++ b ∷ []) ≡ total bs + counted_length b
 unfolding total
 total_push bs b = sum_by_push counted_length bs b
 
--- the progress of some blocks, over plain values
-abbrev told : Bool → Bool → ℕ → Progress
-told not_first bad t = cond not_first NotFirst (cond bad Bad (Total t))
+-- what a progress tells of the blocks so far
+record Told (bs : List Block) (p : Progress) : Type 0 where
+  pub some : p.some ≡ not (no_block bs)
+  pub not_first : p.not_first ≡ initialising_not_first bs
+  pub bad : p.bad ≡ some_bad [] bs
+  pub end : some_bad [] bs ≡ false → p.end ≡ total bs
 
-other_told : (legal fits : Bool) (t start len : ℕ) → fits ≡ eqb start t → cond (fits && legal) (Total (start + len)) Bad ≡ told false (not (legal && fits)) (t + len)
-other_told true true t start len e = let s : start ≡ t = eqb-true start t (sym e) in rw s refl
-other_told true false t start len e = refl
-other_told false true t start len e = refl
-other_told false false t start len e = refl
+none_told : Told [] begun
+unfolding no_block initialising_not_first some_bad total
+none_told = record { some = refl; not_first = refl; bad = refl; end = λ h. refl }
 
-first_told : (init : Bool) (start len : ℕ)
-    → after_block Begun (record { start = start; length = len; initialising = init })
-    ≡ told false (not init && not (legal_length len && eqb start 0)) (0 + cond init 0 len)
-unfolding after_block after_other
-first_told true start len = refl
-first_told false start len = other_told (legal_length len) (eqb start 0) 0 start len refl
+-- over plain values
+de_morgan : (l e : Bool) → (not e || not l) ≡ not (l && e)
+de_morgan true true = refl
+de_morgan true false = refl
+de_morgan false true = refl
+de_morgan false false = refl
 
-next_told : (init not_first bad : Bool) (t start len : ℕ)
-    → after_block (told not_first bad t) (record { start = start; length = len; initialising = init })
-    ≡ told (not_first || init) (bad || (not init && not (legal_length len && eqb start t))) (t + cond init 0 len)
-unfolding after_block after_other
-next_told init true bad t start len = refl
-next_told true false true t start len = refl
-next_told true false false t start len = refl
-next_told false false true t start len = refl
-next_told false false false t start len = other_told (legal_length len) (eqb start t) t start len refl
+not_not : (b : Bool) → not (not b) ≡ b
+not_not true = refl
+not_not false = refl
 
--- the first block, and one more
-first_block_told : (b : Block) → after_block Begun b ≡ progress_of (b ∷ [])
-unfolding progress_of is_bad legal_start counted_length total no_block some_bad initialising_not_first
-first_block_told b = rw (or-false (not b.initialising && not (legal_length b.length && eqb b.start 0))) (first_told b.initialising b.start b.length)
+-- behind a bad block the total is not asked
+bad_first : (a x y : Bool) → first_error a true x ≡ first_error a true y
+unfolding first_error
+bad_first true x y = refl
+bad_first false x y = refl
 
-next_block_told : (a : Block) (before : List Block) (b : Block) → after_block (progress_of (a ∷ before)) b ≡ progress_of (a ∷ (before ++ b ∷ []))
-unfolding progress_of is_bad legal_start counted_length no_block
-next_block_told a before b =
-    rw (not_first_push a before b, bad_push [] (a ∷ before) b, total_push (a ∷ before) b)
-    (next_told b.initialising (initialising_not_first (a ∷ before)) (some_bad [] (a ∷ before)) (total (a ∷ before)) b.start b.length)
+-- one block more
+module _ (bs : List Block) (p : Progress) (t : Told bs p) (b : Block) where
+  some_told : (after_block p b).some ≡ not (no_block (bs ++ b ∷ []))
+  unfolding after_block
+  some_told = rw (none_push bs b) (cases b.initialising (λ e. rw e refl) (λ e. rw e refl))
 
-block_told : (before : List Block) (b : Block) → after_block (progress_of before) b ≡ progress_of (before ++ b ∷ [])
-unfolding progress_of initialising_not_first some_bad no_block
-block_told [] b = first_block_told b
-block_told (a ∷ before) b = next_block_told a before b
+  not_first_told : (after_block p b).not_first ≡ initialising_not_first (bs ++ b ∷ [])
+  unfolding after_block
+  not_first_told = rw (not_first_push bs b) (cases b.initialising (λ e. rw (e, t.not_first, t.some) refl) (λ e. rw (e, t.not_first) (sym (or-false _))))
 
-blocks_told : (before bs : List Block) → after_blocks (progress_of before) bs ≡ progress_of (before ++ bs)
-blocks_told before [] = rw (append-nil before) refl
-blocks_told before (b ∷ bs) = rw (block_told before b) (blocks_told (before ++ b ∷ []) bs ∙ ap progress_of (append_assoc before (b ∷ []) bs))
+  bad_told : (after_block p b).bad ≡ some_bad [] (bs ++ b ∷ [])
+  unfolding after_block is_bad legal_start
+  bad_told = rw (bad_push [] bs b) (cases b.initialising
+      (λ e. rw (e, t.bad) (sym (or-false _)))
+      (λ e. cases (some_bad [] bs)
+      (λ s. rw (e, t.bad, s) refl)
+      (λ s. rw (e, t.bad, s, t.end s) (de_morgan (legal_length b.length) (eqb b.start (total bs))))))
 
-pub progress_told : (bs : List Block) → after_blocks Begun bs ≡ progress_of bs
-unfolding progress_of initialising_not_first some_bad no_block
-progress_told bs = blocks_told [] bs
+  end_told : some_bad [] (bs ++ b ∷ []) ≡ false → (after_block p b).end ≡ total (bs ++ b ∷ [])
+  unfolding after_block counted_length
+  end_told h =
+      let good = or_parts (some_bad [] bs) (is_bad bs b) (rw (bad_push [] bs b) at h) in
+      rw (total_push bs b) (cases b.initialising
+      (λ e. rw (e, t.end good.0) (omega arith))
+      (λ e. rw (e, good_start bs b good.1 e) refl))
 
--- the verdict, over plain values
-by_parts : (not_first bad unfinished none : Bool) (t frame : ℕ)
-    → verdict_after (cond not_first NotFirst (cond bad Bad (cond none Begun (Total t)))) frame unfinished ≡ first_error not_first (bad || unfinished) (none || not (eqb t frame))
-unfolding verdict_after first_error
-by_parts true bad unfinished none t frame = refl
-by_parts false true unfinished none t frame = refl
-by_parts false false true true t frame = refl
-by_parts false false true false t frame = refl
-by_parts false false false true t frame = refl
-by_parts false false false false t frame = elim (eqb t frame) as (λ x. cond x accepted (Err BadTotal) ≡ cond (not x) (Err BadTotal) accepted) [ true ↦ refl | false ↦ refl ]
+  more_told : Told (bs ++ b ∷ []) (after_block p b)
+  more_told = record { some = some_told; not_first = not_first_told; bad = bad_told; end = end_told }
 
-pub verdict_told : (frame : ℕ) (bs : List Block) (unfinished : Bool) → verdict_after (progress_of bs) frame unfinished ≡ frame_verdict frame bs unfinished
-unfolding progress_of frame_verdict bad_block bad_total
-verdict_told frame bs unfinished = by_parts (initialising_not_first bs) (some_bad [] bs) unfinished (no_block bs) (total bs) frame
+all_told : (before bs : List Block) (p : Progress) → Told before p → Told (before ++ bs) (after_blocks p bs)
+all_told before [] p t = rw (append-nil before) t
+all_told before (b ∷ bs) p t = rw (append_assoc before (b ∷ []) bs) at (all_told (before ++ b ∷ []) bs (after_block p b) (more_told before p t b))
+
+-- and tells the verdict
+verdict_told : (bs : List Block) (p : Progress) → Told bs p → (frame : ℕ) (unfinished : Bool) → verdict_after p frame unfinished ≡ frame_verdict frame bs unfinished
+unfolding verdict_after frame_verdict bad_block bad_total
+verdict_told bs p t frame unfinished = cases (some_bad [] bs)
+    (λ s. rw (t.not_first, t.bad, s) (bad_first (initialising_not_first bs) _ _))
+    (λ s. rw (t.not_first, t.bad, s, t.end s, t.some, not_not (no_block bs)) refl)
+
+pub blocks_told : (bs : List Block) (frame : ℕ) (unfinished : Bool) → verdict_after (after_blocks begun bs) frame unfinished ≡ frame_verdict frame bs unfinished
+blocks_told bs frame unfinished = verdict_told bs (after_blocks begun bs) (all_told [] bs begun none_told) frame unfinished

@@ -18,10 +18,10 @@ fn after_blocks(progress: Progress, blocks: &[[u32; 3]]) -> Progress
 }
 
 // Whether the blocks of one channel, three numbers to a block, conform to a frame of this length: any numbers, and any number of them.
-#[tactic(auto, unfolding(crate::specs::Conformance::conformance, crate::specs::Blocks::is_unfinished), using(crate::proofs::BlockLaws::blocks_cut, crate::proofs::ProgressLaws::progress_told, crate::proofs::ProgressLaws::verdict_told))]
+#[tactic(auto, unfolding(crate::specs::Conformance::conformance, crate::specs::Blocks::is_unfinished), using(crate::proofs::BlockLaws::blocks_cut, crate::proofs::ProgressLaws::blocks_told))]
 pub fn check_frame(frame: u32, numbers: &[u32]) -> Result<(), FrameError>
     ensures { result ≡ conformance frame numbers.now }
 {
     let (blocks, rest) = numbers.as_chunks::<3>();
-    after_blocks(Progress::Begun, blocks).verdict(frame, !rest.is_empty())
+    after_blocks(Progress::begun(), blocks).verdict(frame, !rest.is_empty())
 }

@@ -1,33 +1,25 @@
 -- What the code keeps of the blocks so far, and what a block more makes of it. Assumes nothing.
-use Rattle.std.specs.Prelude.{ℕ, ◌+◌, Bool, [], ◌&&◌, cond, eqb, Result, Err, ⊤, List, fold}
+use Rattle.std.specs.Prelude.{ℕ, ◌+◌, Bool, false, true, not, ◌||◌, cond, eqb, Result, ⊤, List, fold}
 use Rattle.frames.specs.declared.Block.{Block}
 use Rattle.frames.specs.declared.FrameError.{FrameError}
-use Rattle.frames.specs.declared.FrameError.TheVariants.{InitialisingNotFirst, BadBlock, BadTotal}
 use Rattle.frames.specs.declared.progress.Progress.{Progress}
-use Rattle.frames.specs.declared.progress.Progress.TheVariants.{Begun, Total, Bad, NotFirst}
-use Rattle.frames.specs.Blocks.{total}
-use Rattle.frames.specs.Conformance.{initialising_not_first, legal_length, some_bad, no_block, accepted}
+use Rattle.frames.specs.Conformance.{legal_length, first_error}
 
--- behind blocks of the total t, one more that is not initialising
-unfoldable pub after_other : ℕ → Block → Progress
-after_other t b = cond (eqb b.start t && legal_length b.length) (Total (b.start + b.length)) Bad
+abbrev pub progress : Bool → Bool → Bool → ℕ → Progress
+progress some not_first bad end = record { some = some; not_first = not_first; bad = bad; end = end }
 
--- one block more
+abbrev pub begun : Progress
+begun = progress false false false 0
+
+-- one block more: its start is to be the end of those before it
 unfoldable pub after_block : Progress → Block → Progress
-after_block Begun b = cond b.initialising (Total 0) (after_other 0 b)
-after_block (Total t) b = cond b.initialising NotFirst (after_other t b)
-after_block Bad b = cond b.initialising NotFirst Bad
-after_block NotFirst b = NotFirst
+after_block p b =
+    cond b.initialising
+    (progress true (p.not_first || p.some) p.bad p.end)
+    (progress true p.not_first (p.bad || not (eqb b.start p.end) || not (legal_length b.length)) (b.start + b.length))
 
 abbrev pub after_blocks : Progress → List Block → Progress
 after_blocks p bs = fold after_block p bs
 
--- what it is of these blocks (`progress_told`, proofs/ProgressLaws.antt)
-unfoldable pub progress_of : List Block → Progress
-progress_of bs = cond (initialising_not_first bs) NotFirst (cond (some_bad [] bs) Bad (cond (no_block bs) Begun (Total (total bs))))
-
 unfoldable pub verdict_after : Progress → ℕ → Bool → Result ⊤ FrameError
-verdict_after NotFirst frame unfinished = Err InitialisingNotFirst
-verdict_after Bad frame unfinished = Err BadBlock
-verdict_after Begun frame unfinished = cond unfinished (Err BadBlock) (Err BadTotal)
-verdict_after (Total t) frame unfinished = cond unfinished (Err BadBlock) (cond (eqb t frame) accepted (Err BadTotal))
+verdict_after p frame unfinished = first_error p.not_first (p.bad || unfinished) (not p.some || not (eqb p.end frame))

@@ -7,7 +7,7 @@ use Rattle.frameinput.proofs.ReadingLaws.{none_read, more_read, all_read}
 use Rattle.frameinput.proofs.reading.read_blocks.Goals as goal
 
 pub loop-init : goal.loop-init
-loop-init g c = (refl, none_read _)
+loop-init g c = (refl, rw c.begun-progress.ensures (none_read _))
 
 pub returns-then-count-lt-READ_ROOM : goal.returns-then-count-lt-READ_ROOM
 returns-then-count-lt-READ_ROOM g c =
