@@ -83,9 +83,9 @@ int32_t gain_of_factor(uint32_t millionths);
  * read and it is ignored in all sums. Each other length is 0 or at least 5000, and each start is the sum of the earlier lengths. Sums are
  * exact and may pass 32 bits.
  *
- * Every frame length, every count and all numbers are answered. The numbers are this machine's own, aligned as uint32_t is. They are read
- * and never written, none beyond count is touched, and they must not change during the call. With a count of 0 the pointer is not followed
- * and may be NULL. Nothing is kept from call to call, so threads may call at the same time.
+ * Every frame length, every count and all numbers are answered. The numbers are in this machine's byte order, and aligned as uint32_t is.
+ * They are read and never written, none beyond count is touched, and they must not change during the call. With a count of 0 the pointer
+ * is not followed and may be NULL. Nothing is kept from call to call, so threads may call at the same time.
  */
 uint32_t frame_check(uint32_t frame, const uint32_t *numbers, size_t count);
 

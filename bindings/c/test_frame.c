@@ -129,14 +129,15 @@ static void check_counts_misplaced(void) {
     }
 }
 
-/* As many blocks as the room holds, none with a length: 5461 and a number left over. One marked as initialising has to be first. */
+/* As many blocks as the room holds, none with a length: 5461 and a number left over. One marked as initialising has to be first. The last
+ * block that is marked is the last one, 9 + 23 * 237. */
 static void check_long(void) {
     static uint32_t numbers[ROOM_NUMBERS];
     size_t whole = ROOM_NUMBERS - ROOM_NUMBERS % 3;
     check("zeros", 0, numbers, whole, 0);
     check("zeros", 1, numbers, whole, 37);
     check("zeros and one more", 0, numbers, whole + 1, 36);
-    for (size_t block = 0; block < whole / 3; block += block < 9 ? 1 : 389) {
+    for (size_t block = 0; block < whole / 3; block += block < 9 ? 1 : 237) {
         numbers[3 * block + 2] = 1;
         check("zeros, one block marked", 0, numbers, whole, block == 0 ? 0 : 35);
         numbers[3 * block + 2] = 0;

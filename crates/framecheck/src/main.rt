@@ -2,7 +2,8 @@
 // Prints the verdict: `accepted`, or the first error as in `rule 35`.
 #![tactic(auto)]
 
-use frameinput::answer::{Unjudged, answer_frame};
+use frameinput::Unjudged;
+use frameinput::answer::answer_frame;
 use std::io::Input;
 use text::output::{Output, say_failure};
 use text::reading::arg_count;

@@ -7,13 +7,13 @@ use Rattle.frames.specs.Conformance.{accepted, error_number}
 use Rattle.text.specs.Bytes.{ascii}
 use Rattle.text.specs.Decimal.{spelled, decimal}
 
-unfoldable pub verdict_line : Result ⊤ FrameError → List ℕ
-verdict_line (Ok done) = ascii "accepted\n"
-verdict_line (Err error) = ascii "rule " ++ decimal (error_number error) ++ ascii "\n"
+unfoldable pub frame_line : Result ⊤ FrameError → List ℕ
+frame_line (Ok done) = ascii "accepted\n"
+frame_line (Err error) = ascii "rule " ++ decimal (error_number error) ++ ascii "\n"
 
 -- all of them, computed
-pub verdict_lines :
-    map verdict_line (accepted ∷ Err InitialisingNotFirst ∷ Err BadBlock ∷ Err BadTotal ∷ [])
+pub frame_lines :
+    map frame_line (accepted ∷ Err InitialisingNotFirst ∷ Err BadBlock ∷ Err BadTotal ∷ [])
     ≡ ascii "accepted\n" ∷ ascii "rule 35\n" ∷ ascii "rule 36\n" ∷ ascii "rule 37\n" ∷ []
-unfolding verdict_line decimal spelled
-verdict_lines = refl
+unfolding frame_line decimal spelled
+frame_lines = refl

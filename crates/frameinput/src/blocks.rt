@@ -9,10 +9,10 @@ use frames::Block;
 use frames::progress::Progress;
 
 // The block of three numbers, high byte first.
-fn block_from(numbers: [[u8; 4]; 3]) -> Block
-    ensures { result ≡ block_from numbers }
+fn block_from(three: [[u8; 4]; 3]) -> Block
+    ensures { result ≡ block_from three }
 {
-    let [start, length, third] = numbers;
+    let [start, length, third] = three;
     Block::from([
         u32::from_be_bytes(start),
         u32::from_be_bytes(length),
@@ -20,13 +20,13 @@ fn block_from(numbers: [[u8; 4]; 3]) -> Block
     ])
 }
 
-// What a progress is after more blocks. A function of its own, since so the check proves the chain without a file.
+// What a progress is after more blocks. A function of its own, so that the check proves the chain without an answer in proofs/.
 fn after_blocks(progress: Progress, blocks: &[[[u8; 4]; 3]]) -> Progress
     ensures { result ≡ after_blocks progress (map block_from blocks.now) }
 {
     blocks
         .iter()
-        .map(|numbers| block_from(*numbers))
+        .map(|three| block_from(*three))
         .fold(progress, |progress, block| progress.after(block))
 }
 

@@ -1,13 +1,13 @@
 // The line of a verdict.
 ghost use Rattle.std.specs.Prelude.{◌≡◌};
-ghost use Rattle.frameinput.specs.FrameLine.{verdict_line};
+ghost use Rattle.frameinput.specs.FrameLine.{frame_line};
 
 use frames::FrameError;
 
 // `accepted`, or the error's number as in `rule 35`, and the line's end. Four texts, so that no buffer is needed to write a number into.
-#[tactic(auto, unfolding(crate::specs::FrameLine::verdict_line, text::specs::Decimal::decimal, text::specs::Decimal::spelled))]
-pub fn verdict_line(verdict: Result<(), FrameError>) -> &'static [u8]
-    ensures { result.now ≡ verdict_line verdict }
+#[tactic(auto, unfolding(crate::specs::FrameLine::frame_line, text::specs::Decimal::decimal, text::specs::Decimal::spelled))]
+pub fn frame_line(verdict: Result<(), FrameError>) -> &'static [u8]
+    ensures { result.now ≡ frame_line verdict }
 {
     match verdict {
         Ok(()) => b"accepted\n",

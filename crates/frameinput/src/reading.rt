@@ -1,47 +1,44 @@
 // Reading a frame, and judging it.
-ghost use Rattle.std.specs.Prelude.{◌≡◌, IfOk, IfSome};
-ghost use Rattle.frameinput.specs.FrameInput.{blocks_verdict, input_verdict};
+ghost use Rattle.frameinput.specs.Answer.{Judged};
+ghost use Rattle.frameinput.specs.steps.Reading.{BlocksJudged};
 
+use crate::Unjudged;
 use crate::blocks::after_bytes;
 use frames::FrameError;
 use frames::progress::Progress;
 use std::io::{Error, ErrorKind, Read};
-use text::reading::{ReadFailed, read_input};
+use text::reading::read_input;
 
 // How many bytes a block takes: three numbers of 32 bits.
 const BLOCK_BYTES: usize = 12;
 
-// How many are read at once: 341 whole blocks.
-const READ_ROOM: usize = 341 * BLOCK_BYTES;
+// How many are read at once: the most whole blocks in 4,096.
+const BLOCKS_ROOM: usize = 341 * BLOCK_BYTES;
 
-// Reads the blocks of a frame of this length to the input's end. A proved loop has to end, and nothing says that the input does: so this one
-// counts its turns, to a number that no run comes to, and past it answers as where a read fails.
-fn read_blocks<R: Read>(input: &mut R, frame: u32) -> Result<Result<(), FrameError>, ReadFailed>
-    ensures { IfOk result (λ verdict. IfSome (R.remaining input.old) (λ bytes. verdict ≡ blocks_verdict frame bytes)) }
+// Reads the blocks of a frame of this length to the input's end. The loop counts its turns for the reason that `answer_input` has for it
+// (crates/text/src/answering.rt).
+fn read_blocks<R: Read>(input: &mut R, frame: u32) -> Result<Result<(), FrameError>, Unjudged>
+    ensures { BlocksJudged frame result (R.remaining input.old) }
 {
-    let mut buffer = [0u8; READ_ROOM];
-    let mut progress = Progress::begun();
+    let mut buffer = [0u8; BLOCKS_ROOM];
+    let mut progress = Progress::new();
     for _ in 0..u64::MAX {
         let count = read_input(input, &mut buffer)?;
         progress = after_bytes(progress, &buffer[..count]);
-        if count < READ_ROOM {
+        if count < BLOCKS_ROOM {
             return Ok(progress.verdict(frame, count % BLOCK_BYTES != 0));
         }
     }
-    Err(ReadFailed {
-        error: Error::from(ErrorKind::Other),
-        count: 0,
-    })
+    Err(Unjudged::Unread(Error::from(ErrorKind::Other)))
 }
 
-// The verdict on the frame that an input has; none where it has no frame length.
-pub fn read_verdict<R: Read>(input: &mut R) -> Result<Option<Result<(), FrameError>>, ReadFailed>
-    ensures { IfOk result (λ verdict. IfSome (R.remaining input.old) (λ bytes. verdict ≡ input_verdict bytes)) }
+// The verdict on the frame that an input has.
+pub fn read_verdict<R: Read>(input: &mut R) -> Result<Result<(), FrameError>, Unjudged>
+    ensures { Judged result (R.remaining input.old) }
 {
-    let mut frame = [0u8; 4];
-    if read_input(input, &mut frame)? < 4 {
-        return Ok(None);
+    let mut head = [0u8; 4];
+    if read_input(input, &mut head)? < head.len() {
+        return Err(Unjudged::NoFrameLength);
     }
-    let verdict = read_blocks(input, u32::from_be_bytes(frame))?;
-    Ok(Some(verdict))
+    read_blocks(input, u32::from_be_bytes(head))
 }

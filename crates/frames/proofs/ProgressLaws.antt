@@ -15,7 +15,7 @@ use Rattle.frames.specs.declared.progress.Progress.{Progress}
 use Rattle.frames.specs.Blocks.{counted_length, total}
 use Rattle.frames.specs.Conformance.{initialising_not_first, legal_length, legal_start, is_bad, some_bad, bad_block, no_block, bad_total, first_error, frame_verdict}
 use Rattle.frames.proofs.BadLaws.{good_start}
-use Rattle.frames.specs.steps.Progress.{begun, after_block, after_blocks, verdict_after}
+use Rattle.frames.specs.steps.Progress.{no_progress, after_block, after_blocks, verdict_after}
 
 -- the tests of blocks and one more
 none_push : (bs : List Block) (b : Block) → no_block (bs ++ b ∷ []) ≡ false
@@ -40,12 +40,12 @@ total_push bs b = sum_by_push counted_length bs b
 
 -- what a progress tells of the blocks so far
 record Told (bs : List Block) (p : Progress) : Type 0 where
-  pub some : p.some ≡ not (no_block bs)
-  pub not_first : p.not_first ≡ initialising_not_first bs
-  pub bad : p.bad ≡ some_bad [] bs
+  pub some : p.has_block ≡ not (no_block bs)
+  pub not_first : p.initialising_not_first ≡ initialising_not_first bs
+  pub bad : p.has_bad_block ≡ some_bad [] bs
   pub end : some_bad [] bs ≡ false → p.end ≡ total bs
 
-none_told : Told [] begun
+none_told : Told [] no_progress
 unfolding no_block initialising_not_first some_bad total
 none_told = record { some = refl; not_first = refl; bad = refl; end = λ h. refl }
 
@@ -68,15 +68,15 @@ bad_first false x y = refl
 
 -- one block more
 module _ (bs : List Block) (p : Progress) (t : Told bs p) (b : Block) where
-  some_told : (after_block p b).some ≡ not (no_block (bs ++ b ∷ []))
+  some_told : (after_block p b).has_block ≡ not (no_block (bs ++ b ∷ []))
   unfolding after_block
   some_told = rw (none_push bs b) (cases b.initialising (λ e. rw e refl) (λ e. rw e refl))
 
-  not_first_told : (after_block p b).not_first ≡ initialising_not_first (bs ++ b ∷ [])
+  not_first_told : (after_block p b).initialising_not_first ≡ initialising_not_first (bs ++ b ∷ [])
   unfolding after_block
   not_first_told = rw (not_first_push bs b) (cases b.initialising (λ e. rw (e, t.not_first, t.some) refl) (λ e. rw (e, t.not_first) (sym (or-false _))))
 
-  bad_told : (after_block p b).bad ≡ some_bad [] (bs ++ b ∷ [])
+  bad_told : (after_block p b).has_bad_block ≡ some_bad [] (bs ++ b ∷ [])
   unfolding after_block is_bad legal_start
   bad_told = rw (bad_push [] bs b) (cases b.initialising
       (λ e. rw (e, t.bad) (sym (or-false _)))
@@ -106,5 +106,5 @@ verdict_told bs p t frame unfinished = cases (some_bad [] bs)
     (λ s. rw (t.not_first, t.bad, s) (bad_first (initialising_not_first bs) _ _))
     (λ s. rw (t.not_first, t.bad, s, t.end s, t.some, not_not (no_block bs)) refl)
 
-pub blocks_told : (bs : List Block) (frame : ℕ) (unfinished : Bool) → verdict_after (after_blocks begun bs) frame unfinished ≡ frame_verdict frame bs unfinished
-blocks_told bs frame unfinished = verdict_told bs (after_blocks begun bs) (all_told [] bs begun none_told) frame unfinished
+pub blocks_told : (bs : List Block) (frame : ℕ) (unfinished : Bool) → verdict_after (after_blocks no_progress bs) frame unfinished ≡ frame_verdict frame bs unfinished
+blocks_told bs frame unfinished = verdict_told bs (after_blocks no_progress bs) (all_told [] bs no_progress none_told) frame unfinished

@@ -25,41 +25,42 @@ module _ (frame : ℕ) (ns : List ℕ) where
   unfolding conformance frame_verdict
   accepted_exactly_without_errors = none_holds _ _ _
 
-  -- and refused with the first that holds: "in this order, 35,
+  -- "in this order": refused by 35 exactly where 35 holds,
   pub refused_by_35 : conformance frame ns ≡ Err InitialisingNotFirst ↔ (initialising_not_first (blocks ns) ≡ true)
   unfolding conformance frame_verdict
   refused_by_35 = first_holds _ _ _
 
-  -- [..] 36,
+  -- by 36 exactly where 35 does not hold and 36 does,
   pub refused_by_36 : conformance frame ns ≡ Err BadBlock
       ↔ ((initialising_not_first (blocks ns) ≡ false) × (bad_block (blocks ns) (is_unfinished ns) ≡ true))
   unfolding conformance frame_verdict
   refused_by_36 = second_holds _ _ _
 
-  -- [..] 37"
+  -- and by 37 exactly where neither 35 nor 36 holds and 37 does
   pub refused_by_37 : conformance frame ns ≡ Err BadTotal
       ↔ ((initialising_not_first (blocks ns) ≡ false) × (bad_block (blocks ns) (is_unfinished ns) ≡ false) × (bad_total frame (blocks ns) ≡ true))
   unfolding conformance frame_verdict
   refused_by_37 = third_holds _ _ _
 
-  -- accepted lists conform to Table 23 by each of its sentences, and those that do are accepted
-  pub accepted_exactly_by_table_23 : conformance frame ns ≡ accepted ↔ Conforms frame ns
-  accepted_exactly_by_table_23 =
+  -- accepted lists keep each of document 02's sentences, and those that do are accepted
+  pub accepted_exactly_where_all_is_kept : conformance frame ns ≡ accepted ↔ Conforms frame ns
+  accepted_exactly_where_all_is_kept =
       let none = accepted_exactly_without_errors in (λ e. conforms_lem frame ns (none.0 e), λ c. none.1 (conforming frame ns c))
 
   -- "For every accepted list, [..] the number of blocks is at most the frame length divided by 5,000, rounded down, plus 1 if it has an
   -- initialising block, plus the number of zero lengths."
-  pub accepted_lists_are_short : conformance frame ns ≡ accepted → length (blocks ns) ≤ most_blocks frame (blocks ns)
+  pub accepted_lists_keep_the_bound : conformance frame ns ≡ accepted → length (blocks ns) ≤ most_blocks frame (blocks ns)
   unfolding bad_block
-  accepted_lists_are_short e =
+  accepted_lists_keep_the_bound e =
       let none = accepted_exactly_without_errors.0 e in
       rw (conforms_lem frame ns none).lengths_add_up at (block_bound (blocks ns) none.0 (or_parts _ _ none.1).0)
 
--- an initialising block's "start and length are not read", and "any other" third number than 0 makes it one
-pub initialising_blocks_are_not_read : (frame start len third start' len' third' : ℕ) (ns : List ℕ) → (third ≡ 0 → ⊥) → (third' ≡ 0 → ⊥)
+-- An initialising block's "start and length are not read", and "any other" third number than 0 makes it one. One that is not first is 35,
+-- whatever stands there.
+pub a_first_initialising_block_is_not_read : (frame start len third start' len' third' : ℕ) (ns : List ℕ) → (third ≡ 0 → ⊥) → (third' ≡ 0 → ⊥)
     → conformance frame (start ∷ len ∷ third ∷ ns) ≡ conformance frame (start' ∷ len' ∷ third' ∷ ns)
 unfolding conformance blocks is_unfinished
-initialising_blocks_are_not_read frame s l t s' l' t' ns n n' =
+a_first_initialising_block_is_not_read frame s l t s' l' t' ns n n' =
     rw (behind_initialising frame (block s l t) (blocks ns) _ (rw (ne_eqb t 0 n) refl), behind_initialising frame (block s' l' t') (blocks ns) _ (rw (ne_eqb t' 0 n') refl)) refl
 
 -- a dozen cases and more, computed

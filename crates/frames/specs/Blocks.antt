@@ -8,6 +8,7 @@ use Rattle.frames.specs.declared.Block.{Block}
 abbrev pub block : ℕ → ℕ → ℕ → Block
 block start len third = record { start = start; length = len; initialising = not (eqb third 0) }
 
+-- the same of three numbers in a list
 abbrev pub block_of : List ℕ → Block
 block_of ns = block (get_or ns 0 0) (get_or ns 1 0) (get_or ns 2 0)
 

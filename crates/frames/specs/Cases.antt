@@ -17,10 +17,15 @@ abbrev pub cases : List Case
 cases =
     case 20000 (0 ∷ 20000 ∷ 0 ∷ []) accepted
     ∷ case 20000 (0 ∷ 5000 ∷ 0 ∷ 5000 ∷ 0 ∷ 0 ∷ 5000 ∷ 15000 ∷ 0 ∷ []) accepted
+    -- zero lengths, first, between and last
+    ∷ case 10000 (0 ∷ 0 ∷ 0 ∷ 0 ∷ 5000 ∷ 0 ∷ 5000 ∷ 0 ∷ 0 ∷ 5000 ∷ 5000 ∷ 0 ∷ 10000 ∷ 0 ∷ 0 ∷ []) accepted
+    ∷ case 4294967295 (0 ∷ 4294962295 ∷ 0 ∷ 4294962295 ∷ 5000 ∷ 0 ∷ []) accepted
     -- an initialising block's start and length are not read and add nothing
     ∷ case 20000 (77 ∷ 4999 ∷ 1 ∷ 0 ∷ 20000 ∷ 0 ∷ []) accepted
     ∷ case 0 (77 ∷ 4999 ∷ 4294967295 ∷ []) accepted
     ∷ case 5000 (77 ∷ 5000 ∷ 1 ∷ []) (Err BadTotal)
+    ∷ case 20000 (0 ∷ 7000 ∷ 1 ∷ 7000 ∷ 20000 ∷ 0 ∷ []) (Err BadBlock)
+    ∷ case 27000 (0 ∷ 7000 ∷ 1 ∷ 0 ∷ 20000 ∷ 0 ∷ []) (Err BadTotal)
     -- one that is not first, also behind a bad length and before numbers left over
     ∷ case 20000 (0 ∷ 20000 ∷ 0 ∷ 0 ∷ 0 ∷ 1 ∷ []) (Err InitialisingNotFirst)
     ∷ case 20000 (0 ∷ 1 ∷ 0 ∷ 0 ∷ 0 ∷ 2 ∷ 0 ∷ []) (Err InitialisingNotFirst)
@@ -33,9 +38,11 @@ cases =
     ∷ case 20000 (0 ∷ 20000 ∷ 0 ∷ 20000 ∷ []) (Err BadBlock)
     ∷ case 20000 (0 ∷ 20000 ∷ 0 ∷ 20000 ∷ 0 ∷ []) (Err BadBlock)
     ∷ case 0 (0 ∷ []) (Err BadBlock)
+    ∷ case 0 (0 ∷ 0 ∷ []) (Err BadBlock)
     -- no block, and totals
     ∷ case 0 [] (Err BadTotal)
     ∷ case 20000 (0 ∷ 5000 ∷ 0 ∷ 5000 ∷ 14999 ∷ 0 ∷ []) (Err BadTotal)
+    ∷ case 20000 (0 ∷ 20001 ∷ 0 ∷ []) (Err BadTotal)
     -- sums past 32 bits: 4,294,967,295 + 5,001 is 5,000 above 2 to the power 32
     ∷ case 5000 (0 ∷ 4294967295 ∷ 0 ∷ 4294967295 ∷ 5001 ∷ 0 ∷ []) (Err BadTotal)
     ∷ case 5000 (0 ∷ 4294967295 ∷ 0 ∷ 4294967295 ∷ 5001 ∷ 0 ∷ 5000 ∷ 0 ∷ 0 ∷ []) (Err BadBlock)

@@ -49,7 +49,7 @@ accepted = Ok tt
 
 -- "in this order": the first that holds
 unfoldable pub first_error : Bool → Bool → Bool → Result ⊤ FrameError
-first_error not_first bad unlike = cond not_first (Err InitialisingNotFirst) (cond bad (Err BadBlock) (cond unlike (Err BadTotal) accepted))
+first_error holds35 holds36 holds37 = cond holds35 (Err InitialisingNotFirst) (cond holds36 (Err BadBlock) (cond holds37 (Err BadTotal) accepted))
 
 unfoldable pub frame_verdict : ℕ → List Block → Bool → Result ⊤ FrameError
 frame_verdict frame bs unfinished = first_error (initialising_not_first bs) (bad_block bs unfinished) (bad_total frame bs)

@@ -4,7 +4,7 @@ use Rattle.std.specs.List.{list_any}
 use Rattle.frames.specs.declared.Block.{Block}
 use Rattle.frames.specs.Blocks.{blocks, total}
 
--- Table 23 of source document 004, by its sentences, of the numbers of one channel; b is any block, behind those before it
+-- document 02's sentences about the numbers of one channel, one by one; b is any block, behind those before it
 pub record Conforms (frame : ℕ) (ns : List ℕ) : Type 0 where
   -- no "unfinished last block"
   pub finished : length ns ≡ 3 * length (blocks ns)

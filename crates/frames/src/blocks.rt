@@ -5,10 +5,10 @@ ghost use Rattle.frames.specs.Blocks.{block_of};
 use crate::Block;
 
 impl From<[u32; 3]> for Block {
-    ghost from_gives = { λ numbers block. block ≡ block_of numbers };
+    ghost from_gives = { λ three block. block ≡ block_of three };
 
-    fn from(numbers: [u32; 3]) -> Block {
-        let [start, length, third] = numbers;
+    fn from(three: [u32; 3]) -> Block {
+        let [start, length, third] = three;
         Block {
             start,
             length,

@@ -3,31 +3,34 @@
 // (tools/store-frames).
 #![tactic(auto)]
 
-use frameinput::answer::{Unjudged, answer_frame};
+use frameinput::line::frame_line;
+use frameinput::reading::read_verdict;
 use std::env::Env;
 use std::fs::Files;
 use std::io::Write;
-use text::output::{Output, say_failure};
+use text::output::Output;
 use text::reading::{arg_count, read_argument, refuse_argument, write_argument};
 
-// What can't be read or written is told, and ends nothing: a failed write of the name not even the line.
-fn tell_frame<R: Env + Files + Print + Eprint>(rt: &R, at: usize) {
-    let mut frame = io::large_buffer();
-    let Ok(count) = read_argument(rt, at, &mut frame) else {
+// What can't be read or judged is told, and so is a write that failed; neither ends anything.
+fn tell_verdict<R: Env + Files + Print + Eprint>(rt: &R, at: usize) {
+    let mut input = io::large_buffer();
+    let Ok(count) = read_argument(rt, at, &mut input) else {
         return;
+    };
+    if count == input.len() {
+        return refuse_argument(rt, at, "too long to be stored");
+    }
+    let Ok(verdict) = read_verdict(&mut &input[..count]) else {
+        return refuse_argument(rt, at, "no frame length");
     };
     write_argument(rt, at);
     let mut output = Output { rt };
     let _ = output.write_all(b": ");
-    match answer_frame(&mut &frame[..count], &mut output) {
-        Err(Unjudged::NoFrameLength) => refuse_argument(rt, at, "no frame length"),
-        Err(Unjudged::Unread(error)) => say_failure(rt, "frame", error),
-        Ok(()) | Err(Unjudged::Unwritten(_)) => {}
-    }
+    let _ = output.write_all(frame_line(verdict));
 }
 
 fn main(rt: HostRuntime) {
     for at in 1..arg_count(&rt) {
-        tell_frame(&rt, at);
+        tell_verdict(&rt, at);
     }
 }

@@ -1,4 +1,4 @@
-// Host players are lent live frames, and judge the block times of each channel before they play it.
+// Host players get live frames, and check the block times of each channel before they play them.
 ghost use Rattle.std.specs.Prelude.{◌≡◌};
 ghost use Rattle.frames.specs.Conformance.{conformance};
 ghost use Rattle.host.specs.HostFrame.{frame_code};
@@ -6,8 +6,7 @@ ghost use Rattle.host.specs.HostFrame.{frame_code};
 use frames::FrameError;
 use frames::conformance::check_frame;
 
-// The number of a verdict, for the C interface. No `From`: neither `Result` nor `u32` is a type of this crate, and an impl stands in the
-// crate of one of them.
+// The number of a verdict, for the C interface. No `From`, for the reason that `conversion_code` has (gain.rt).
 #[tactic(auto, unfolding(crate::specs::HostFrame::frame_code))]
 fn frame_code(verdict: Result<(), FrameError>) -> u32
     ensures { result ≡ frame_code verdict }
@@ -18,7 +17,7 @@ fn frame_code(verdict: Result<(), FrameError>) -> u32
     }
 }
 
-// 0 where the blocks of a channel conform to a frame of this length, else the error's number, 35 to 37: any numbers, and any number of them.
+// 0 where the blocks of a channel conform to a frame of this length, else the error's number, 35 to 37: any list of numbers.
 #[unsafe(no_mangle)]
 pub extern "C" fn frame_check(frame: u32, numbers: &[u32]) -> u32
     ensures { result ≡ frame_code (conformance frame numbers.now) }

@@ -5,4 +5,4 @@ use Rattle.frames.specs.declared.Block.{Block}
 use Rattle.frames.specs.Blocks.{block_of}
 
 abbrev pub block_from : List (List ℕ) → Block
-block_from numbers = block_of (map (from_be_bytes w32) numbers)
+block_from three = block_of (map (from_be_bytes w32) three)

@@ -6,20 +6,20 @@ use Rattle.frames.specs.declared.progress.Progress.{Progress}
 use Rattle.frames.specs.Conformance.{legal_length, first_error}
 
 abbrev pub progress : Bool → Bool → Bool → ℕ → Progress
-progress some not_first bad end = record { some = some; not_first = not_first; bad = bad; end = end }
+progress some not_first bad end = record { has_block = some; initialising_not_first = not_first; has_bad_block = bad; end = end }
 
-abbrev pub begun : Progress
-begun = progress false false false 0
+abbrev pub no_progress : Progress
+no_progress = progress false false false 0
 
 -- one block more: its start is to be the end of those before it
 unfoldable pub after_block : Progress → Block → Progress
 after_block p b =
     cond b.initialising
-    (progress true (p.not_first || p.some) p.bad p.end)
-    (progress true p.not_first (p.bad || not (eqb b.start p.end) || not (legal_length b.length)) (b.start + b.length))
+    (progress true (p.initialising_not_first || p.has_block) p.has_bad_block p.end)
+    (progress true p.initialising_not_first (p.has_bad_block || not (eqb b.start p.end) || not (legal_length b.length)) (b.start + b.length))
 
 abbrev pub after_blocks : Progress → List Block → Progress
 after_blocks p bs = fold after_block p bs
 
 unfoldable pub verdict_after : Progress → ℕ → Bool → Result ⊤ FrameError
-verdict_after p frame unfinished = first_error p.not_first (p.bad || unfinished) (not p.some || not (eqb p.end frame))
+verdict_after p frame unfinished = first_error p.initialising_not_first (p.has_bad_block || unfinished) (not p.has_block || not (eqb p.end frame))

@@ -47,13 +47,13 @@ fn lists(blocks: usize) -> Vec<(&'static str, List)> {
     let start = plan.blocks[last].start + 1;
     let mut lists = vec![
         ("accepted", plan.clone()),
-        ("a bad last start", plan.clone().start(last, start)),
+        ("a bad last start", plan.clone().with_start(last, start)),
         ("another total", plan.clone().in_frame(plan.frame + 1)),
     ];
     if blocks > 1 {
         let shorter = many(last);
-        lists.push(("an initialising block last", shorter.clone().with(last, 0, 0, 1)));
-        lists.push(("an initialising block second", shorter.with(1, 0, 0, 1)));
+        lists.push(("an initialising block last", shorter.clone().with_block(last, 0, 0, 1)));
+        lists.push(("an initialising block second", shorter.with_block(1, 0, 0, 1)));
     }
     lists.into_iter().map(|(name, plan)| (name, (plan.frame, plan.numbers()))).collect()
 }

@@ -1,7 +1,7 @@
 //! The host call against the second implementation.
 
 use sheet::generate::frames::met::Met;
-use sheet::generate::frames::{all, Listed};
+use sheet::generate::frames::{all, Listed, SMALL};
 use sheet::second::frames::check;
 
 /// How many random lists each seed has.
@@ -37,8 +37,7 @@ fn generated_lists() {
 /// Lists without their first one to three numbers, and without their last one to four.
 #[test]
 fn parts_of_lists() {
-    let lists: Vec<Listed> =
-        all(IN_PART).filter(|list| list.what != "one of all small lists").collect();
+    let lists: Vec<Listed> = all(IN_PART).filter(|list| list.what != SMALL).collect();
     for Listed { what, frame, numbers, .. } in &lists {
         for first in 1..numbers.len().min(4) {
             compare(what, *frame, &numbers[first..]);

@@ -37,7 +37,7 @@ fn lengths_about_a_buffer() {
     let mut inputs = 0;
     for bytes in [BUFFER, 2 * BUFFER, 3 * BUFFER].into_iter().flat_map(near) {
         let misplaced = |place| {
-            let plan = many(blocks(bytes) - 1).with(place, 0, 0, 1);
+            let plan = many(blocks(bytes) - 1).with_block(place, 0, 0, 1);
             let left_over = vec![0; (bytes - 4) % BLOCK];
             [plan.input(), left_over].concat()
         };
@@ -71,11 +71,11 @@ fn accepted_and_broken(bytes: usize) -> Vec<(&'static str, Plan)> {
     let mut marked = plan.clone();
     marked.blocks[last].third = 1 << 31;
     vec![
-        ("bad last start", plan.clone().start(last, 0)),
+        ("bad last start", plan.clone().with_start(last, 0)),
         ("initialising last", marked),
         ("one more", plan.clone().in_frame(frame + 1)),
-        ("a number left over", plan.clone().and(&[frame])),
-        ("initialising first", plan.clone().with(0, 1, 4_999, 1)),
+        ("a number left over", plan.clone().with_left_over(&[frame])),
+        ("initialising first", plan.clone().with_block(0, 1, 4_999, 1)),
         ("accepted", plan),
     ]
 }

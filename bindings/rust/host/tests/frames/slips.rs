@@ -31,7 +31,8 @@ fn without_a_frame_length() {
     for bytes in (0..=input.len()).map(|length| &input[..length]) {
         let what = format!("{FRAMECHECK} on {} bytes", bytes.len());
         for input in [input::pipe(bytes), input::pieces(bytes, 1)] {
-            run(program(FRAMECHECK, &[]), input).must_complain_with_status_0("", &what);
+            let run = run(program(FRAMECHECK, &[]), input);
+            run.must_complain_with_status_0("standard input: no frame length\n", &what);
         }
     }
     println!("{FRAMECHECK} without a frame length: {} lines", 2 * (input.len() + 1));

@@ -38,7 +38,7 @@ pub fn pieces_of<'a>(mut bytes: &'a [u8], first: &[usize], others: &[usize]) -> 
     let (end, writer) = UnixDatagram::pair().expect("sockets can be made");
     let mut messages = Vec::new();
     for &size in first.iter().chain(others.iter().cycle()) {
-        // nothing of no bytes: an empty message
+        // when all is sent: an empty message, the end
         let (message, rest) = bytes.split_at(size.min(bytes.len()));
         messages.push(message);
         bytes = rest;

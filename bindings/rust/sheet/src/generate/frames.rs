@@ -14,6 +14,9 @@ use crate::second::frames::{Broken, LEAST_LENGTH};
 /// The seeds of the random lists that are compared.
 const SEEDS: [u64; 3] = [2168, 2076, 65_534];
 
+/// How a small list came about.
+pub const SMALL: &str = "one of all small lists";
+
 /// A list of numbers with a frame length, and its verdict where the construction settles it.
 #[derive(Clone, Debug)]
 pub struct Listed {
@@ -131,19 +134,19 @@ impl Plan {
     }
 
     /// The same with a block put in at a place.
-    pub fn with(mut self, place: usize, start: u32, length: u32, third: u32) -> Plan {
+    pub fn with_block(mut self, place: usize, start: u32, length: u32, third: u32) -> Plan {
         self.blocks.insert(place, Block { start, length, third });
         self
     }
 
     /// The same with numbers after the blocks.
-    pub fn and(mut self, left_over: &[u32]) -> Plan {
+    pub fn with_left_over(mut self, left_over: &[u32]) -> Plan {
         self.left_over = left_over.to_vec();
         self
     }
 
     /// The same with another start in a block.
-    pub fn start(mut self, place: usize, start: u32) -> Plan {
+    pub fn with_start(mut self, place: usize, start: u32) -> Plan {
         self.blocks[place].start = start;
         self
     }

@@ -47,32 +47,32 @@ fn three() -> Plan {
 
 /// The same after an initialising block with a start and a length of no meaning.
 fn initialised() -> Plan {
-    three().with(0, 7, 4_999, 1)
+    three().with_block(0, 7, 4_999, 1)
 }
 
 fn accepted() -> Vec<(&'static str, Plan)> {
-    let alone = |start, length, third| Plan::of_lengths(&[]).with(0, start, length, third);
+    let alone = |start, length, third| Plan::of_lengths(&[]).with_block(0, start, length, third);
     vec![
         ("ok-one-block", Plan::of_lengths(&[20_000])),
         ("ok-one-length-of-5000", Plan::of_lengths(&[5_000])),
         ("ok-lengths-of-5000", Plan::of_lengths(&[5_000; 5])),
         ("ok-three-blocks", three()),
         ("ok-initialising-first", initialised()),
-        ("ok-initialising-of-zeros", three().with(0, 0, 0, 1)),
-        ("ok-initialising-of-largest-numbers", three().with(0, u32::MAX, u32::MAX, u32::MAX)),
-        ("ok-initialising-third-2", three().with(0, 0, 0, 2)),
-        ("ok-initialising-third-256", three().with(0, 0, 0, 256)),
-        ("ok-initialising-third-2147483648", three().with(0, 0, 0, 1 << 31)),
+        ("ok-initialising-of-zeros", three().with_block(0, 0, 0, 1)),
+        ("ok-initialising-of-largest-numbers", three().with_block(0, u32::MAX, u32::MAX, u32::MAX)),
+        ("ok-initialising-third-2", three().with_block(0, 0, 0, 2)),
+        ("ok-initialising-third-256", three().with_block(0, 0, 0, 256)),
+        ("ok-initialising-third-2147483648", three().with_block(0, 0, 0, 1 << 31)),
         ("ok-initialising-alone", alone(0, 0, 1)),
         ("ok-initialising-alone-numbers-not-read", alone(1, 4_999, 3)),
-        ("ok-initialising-and-a-zero-length", Plan::of_lengths(&[0]).with(0, 0, 5_000, 1)),
+        ("ok-initialising-and-a-zero-length", Plan::of_lengths(&[0]).with_block(0, 0, 5_000, 1)),
         ("ok-zero-length-alone", Plan::of_lengths(&[0])),
         ("ok-zero-lengths-first-between-and-last", mixed()),
         ("ok-zero-lengths-100", Plan::of_lengths(&[0; 100])),
         ("ok-largest-frame", Plan::of_lengths(&[u32::MAX])),
         (
             "ok-largest-frame-in-blocks",
-            Plan::of_lengths(&[1 << 31, 5_000, 0, (1 << 31) - 5_001]).with(0, 0, 0, 1),
+            Plan::of_lengths(&[1 << 31, 5_000, 0, (1 << 31) - 5_001]).with_block(0, 0, 0, 1),
         ),
         ("ok-many-blocks", many(SOME_READS)),
     ]
@@ -83,19 +83,25 @@ fn misplaced() -> Vec<(&'static str, Plan)> {
     let mut last = three();
     last.blocks[2].third = 1;
     vec![
-        ("r35-second", three().with(1, 0, 0, 1)),
-        ("r35-last", three().with(3, 30_000, 0, 1)),
+        ("r35-second", three().with_block(1, 0, 0, 1)),
+        ("r35-last", three().with_block(3, 30_000, 0, 1)),
         ("r35-last-with-a-length", last),
-        ("r35-third-256", three().with(2, 20_000, 0, 256)),
-        ("r35-third-2147483648", three().with(2, 20_000, 0, 1 << 31)),
-        ("r35-two-initialising", initialised().with(1, 0, 0, 1)),
-        ("r35-two-initialising-alone", Plan::of_lengths(&[]).with(0, 0, 0, 1).with(0, 0, 0, 1)),
-        ("r35-behind-a-bad-length", short.with(3, 19_999, 0, 1)),
-        ("r35-behind-a-bad-start", three().start(1, 1).with(3, 30_000, 0, 1)),
-        ("r35-before-a-bad-length", Plan::of_lengths(&[5_000, 4_999]).with(1, 0, 0, 1)),
-        ("r35-and-a-number-left-over", three().with(2, 20_000, 0, 1).and(&[30_000])),
-        ("r35-and-another-total", three().with(2, 20_000, 0, 1).in_frame(30_001)),
-        ("r35-last-of-many-blocks", many(1_000).with(1_000, 0, 0, 1)),
+        ("r35-third-256", three().with_block(2, 20_000, 0, 256)),
+        ("r35-third-2147483648", three().with_block(2, 20_000, 0, 1 << 31)),
+        ("r35-two-initialising", initialised().with_block(1, 0, 0, 1)),
+        (
+            "r35-two-initialising-alone",
+            Plan::of_lengths(&[]).with_block(0, 0, 0, 1).with_block(0, 0, 0, 1),
+        ),
+        ("r35-behind-a-bad-length", short.with_block(3, 19_999, 0, 1)),
+        ("r35-behind-a-bad-start", three().with_start(1, 1).with_block(3, 30_000, 0, 1)),
+        ("r35-before-a-bad-length", Plan::of_lengths(&[5_000, 4_999]).with_block(1, 0, 0, 1)),
+        (
+            "r35-and-a-number-left-over",
+            three().with_block(2, 20_000, 0, 1).with_left_over(&[30_000]),
+        ),
+        ("r35-and-another-total", three().with_block(2, 20_000, 0, 1).in_frame(30_001)),
+        ("r35-last-of-many-blocks", many(1_000).with_block(1_000, 0, 0, 1)),
     ]
 }
 
@@ -108,25 +114,25 @@ fn bad_lengths_and_starts() -> Vec<(&'static str, Plan)> {
         ("r36-length-4999", Plan::of_lengths(&[5_000, 4_999, 10_000])),
         ("r36-length-4999-first", Plan::of_lengths(&[4_999, 5_000])),
         ("r36-length-4999-last", Plan::of_lengths(&[5_000, 4_999])),
-        ("r36-length-4999-after-initialising", Plan::of_lengths(&[4_999]).with(0, 0, 0, 1)),
-        ("r36-first-start-1", three().start(0, 1)),
-        ("r36-start-one-too-large", three().start(2, 20_001)),
-        ("r36-start-one-too-small", three().start(2, 19_999)),
-        ("r36-start-of-a-zero-length", mixed().start(3, 5_001)),
-        ("r36-start-counts-the-block-itself", three().start(1, 20_000)),
-        ("r36-start-leaves-out-the-block-before", three().start(2, 5_000)),
-        ("r36-start-counts-the-initialising-length", initialised().start(2, 9_999)),
-        ("r36-first-start-is-the-initialising-length", initialised().start(1, 4_999)),
+        ("r36-length-4999-after-initialising", Plan::of_lengths(&[4_999]).with_block(0, 0, 0, 1)),
+        ("r36-first-start-1", three().with_start(0, 1)),
+        ("r36-start-one-too-large", three().with_start(2, 20_001)),
+        ("r36-start-one-too-small", three().with_start(2, 19_999)),
+        ("r36-start-of-a-zero-length", mixed().with_start(3, 5_001)),
+        ("r36-start-counts-the-block-itself", three().with_start(1, 20_000)),
+        ("r36-start-leaves-out-the-block-before", three().with_start(2, 5_000)),
+        ("r36-start-counts-the-initialising-length", initialised().with_start(2, 9_999)),
+        ("r36-first-start-is-the-initialising-length", initialised().with_start(1, 4_999)),
         ("r36-start-equal-only-modulo-2-to-the-32", past_32_bits),
         ("r36-blocks-in-another-order", swapped),
-        ("r36-length-1-and-2-numbers-left-over", Plan::of_lengths(&[1]).and(&[1, 0])),
-        ("r36-and-another-total", three().start(1, 5_001).in_frame(30_001)),
+        ("r36-length-1-and-2-numbers-left-over", Plan::of_lengths(&[1]).with_left_over(&[1, 0])),
+        ("r36-and-another-total", three().with_start(1, 5_001).in_frame(30_001)),
     ]
 }
 
 fn bad_totals() -> Vec<(&'static str, Plan)> {
     let empty = || Plan::of_lengths(&[]);
-    let alone = |length| empty().with(0, 0, length, 1);
+    let alone = |length| empty().with_block(0, 0, length, 1);
     vec![
         ("r37-no-block", empty()),
         ("r37-no-block-frame-20000", empty().in_frame(20_000)),

@@ -1,6 +1,6 @@
 //! All lists of up to three blocks whose numbers are a few that lie about a boundary.
 
-use super::Listed;
+use super::{Listed, SMALL};
 
 /// The numbers of up to two blocks, and of what is left over.
 const NUMBERS: [u32; 9] = [0, 1, 4_999, 5_000, 5_001, 9_999, 10_000, u32::MAX - 4_999, u32::MAX];
@@ -61,6 +61,6 @@ fn in_frames(numbers: Vec<u32>, frames: &[u32]) -> Vec<Listed> {
     let mut frames = [frames, &near].concat();
     frames.sort_unstable();
     frames.dedup();
-    let listed = |frame| Listed::unsettled("one of all small lists", frame, numbers.clone());
+    let listed = |frame| Listed::unsettled(SMALL, frame, numbers.clone());
     frames.into_iter().map(listed).collect()
 }

@@ -25,8 +25,8 @@ fn without_blocks() -> Vec<Listed> {
     let lists = NUMBERS.into_iter().flat_map(|frame| {
         [
             Listed::of("no block", &empty(frame), Err(BadTotal)),
-            Listed::of("one number", &empty(frame).and(&[frame]), Err(BadBlock)),
-            Listed::of("two numbers", &empty(frame).and(&[0, frame]), Err(BadBlock)),
+            Listed::of("one number", &empty(frame).with_left_over(&[frame]), Err(BadBlock)),
+            Listed::of("two numbers", &empty(frame).with_left_over(&[0, frame]), Err(BadBlock)),
         ]
     });
     lists.collect()
@@ -34,7 +34,7 @@ fn without_blocks() -> Vec<Listed> {
 
 /// Only a frame of 0 has nothing but an initialising block, whatever its start and length.
 fn initialising_alone() -> Vec<Listed> {
-    let alone = |start, length, third| Plan::of_lengths(&[]).with(0, start, length, third);
+    let alone = |start, length, third| Plan::of_lengths(&[]).with_block(0, start, length, third);
     let pairs = NUMBERS.into_iter().flat_map(|one| NUMBERS.map(|other| (one, other)));
     let plans =
         pairs.flat_map(|(start, length)| [1, u32::MAX].map(|third| alone(start, length, third)));
@@ -49,7 +49,7 @@ fn initialising_alone() -> Vec<Listed> {
 
 /// A long list as it is, and broken at its ends and in the middle.
 fn long(plan: Plan) -> Vec<Listed> {
-    let plan = plan.with(0, 7, 4_999, 1);
+    let plan = plan.with_block(0, 7, 4_999, 1);
     let frame = plan.frame;
     let [first, middle, last] = [1, MANY / 2, MANY];
     let list = |what, plan, expected| Listed::of(what, &plan, expected);
@@ -59,12 +59,12 @@ fn long(plan: Plan) -> Vec<Listed> {
         [
             list(
                 "many blocks, a bad start",
-                plan.clone().start(place, start(place)),
+                plan.clone().with_start(place, start(place)),
                 Err(BadBlock),
             ),
             list(
                 "many blocks, two initialising",
-                plan.clone().with(place, 0, 0, 1),
+                plan.clone().with_block(place, 0, 0, 1),
                 Err(InitialisingNotFirst),
             ),
         ]
@@ -75,7 +75,11 @@ fn long(plan: Plan) -> Vec<Listed> {
             plan.clone().in_frame(frame.wrapping_sub(1)),
             Err(BadTotal),
         ),
-        list("many blocks, a number left over", plan.clone().and(&[frame]), Err(BadBlock)),
+        list(
+            "many blocks, a number left over",
+            plan.clone().with_left_over(&[frame]),
+            Err(BadBlock),
+        ),
     ]);
     lists
 }
@@ -90,7 +94,7 @@ fn as_many_as_the_bound() -> Vec<Listed> {
             lengths.insert(number / 2, 0);
             Listed::of(
                 "as many blocks as may be",
-                &Plan::of_lengths(&lengths).with(0, 0, 0, 1),
+                &Plan::of_lengths(&lengths).with_block(0, 0, 0, 1),
                 Ok(()),
             )
         })

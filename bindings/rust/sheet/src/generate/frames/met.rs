@@ -100,7 +100,7 @@ impl Facts<'_> {
         self.total() == u64::from(self.frame)
     }
 
-    /// Whether all breaks 36 by one block alone, and nothing breaks another rule.
+    /// Whether one bad block is all that is wrong.
     fn only_bad(&self, is_meant: impl Fn(usize) -> bool) -> bool {
         let alone = self.misplaced.is_empty() && self.left_over.is_empty() && self.is_total_right();
         alone && self.bad.len() == 1 && is_meant(self.bad[0])
@@ -115,8 +115,11 @@ impl Facts<'_> {
 
     /// The same with a length.
     fn only_length(&self, length: u32) -> bool {
-        let is_start_right = |place: usize| u64::from(self.blocks[place][0]) == self.sums[place];
-        self.only_bad(|place| is_start_right(place) && self.blocks[place][1] == length)
+        self.only_bad(|place| self.is_start_right(place) && self.blocks[place][1] == length)
+    }
+
+    fn is_start_right(&self, place: usize) -> bool {
+        u64::from(self.blocks[place][0]) == self.sums[place]
     }
 
     /// Whether an accepted list but for what is left over.
@@ -228,14 +231,14 @@ fn left_over(facts: &Facts) -> Vec<Class> {
         ("36: two numbers and no block", alone(2)),
         (
             "36: numbers left over behind a bad block",
-            !facts.bad.is_empty() && facts.left_over.len() == 2,
+            facts.is(Broken::BadBlock) && !facts.bad.is_empty() && facts.left_over.len() == 2,
         ),
     ]
 }
 
 fn lengths(facts: &Facts) -> Vec<Class> {
     let last = facts.blocks.len().wrapping_sub(1);
-    let short = |place: usize| is_short(facts.blocks[place][1]);
+    let short = |place: usize| is_short(facts.blocks[place][1]) && facts.is_start_right(place);
     vec![
         ("36: only a length of 4,999", facts.only_length(LEAST_LENGTH - 1)),
         ("36: only a length of 1", facts.only_length(1)),
@@ -267,7 +270,7 @@ fn starts(facts: &Facts) -> Vec<Class> {
             "36: only a start that counts the initialising length",
             initialising > 0 && facts.only_start_off(initialising),
         ),
-        ("36: only starts of which 32 bits are right", past && all_low_bits),
+        ("36: starts of which 32 bits are right", past && all_low_bits),
         ("36: a sum far past 32 bits", past && facts.total() >> 40 > 0),
     ]
 }
