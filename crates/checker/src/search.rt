@@ -126,7 +126,11 @@ fn lowest_broken(s: &[u8], langs: &Languages, asked: Asked, n: u16, kept: u16) -
     requires { KeptBelow (sheet_of s.now) kept × (asked.rule ≡ 21 → GroupsApart (sheet_of s.now)) }
     ensures { result ≡ lowest (breaks (sheet_of s.now) langs.now asked.rule asked.section) n }
 {
-    if (s.len() < 1024) | (n == 0) {
+    // most rules have a place in one or two of the eight sections
+    if n == 0 {
+        return n;
+    }
+    if s.len() < 1024 {
         return plainly(s, langs, asked, n);
     }
     match asked.rule {

@@ -126,7 +126,7 @@ fn leaders_from(
     from.max(n)
 }
 
-// Whether the content lists have, one with another, at most an entry for 32 objects. Nothing rests on this but time.
+// Whether the content lists have, one with another, less than an entry for 32 objects. Nothing rests on this but time.
 #[tactic(auto, using(sheet::proofs::IndexLaws::product))]
 fn short_lists(s: &[u8]) -> bool {
     let o = count(s, OBJECTS);
@@ -135,10 +135,10 @@ fn short_lists(s: &[u8]) -> bool {
     }
     let programmes = count(s, PROGRAMMES);
     let most = u32::from(programmes) * (u32::from(o) / 32);
-    entries_left(programmes, most, |p| {
+    let left = entries_left(programmes, most, |p| {
         u32::from(number(s, PROGRAMMES, p, CONTENT_LIST))
-    })
-    .is_some()
+    });
+    left.is_some_and(|n| n > 0)
 }
 
 // The same in tables with a place for each object: by the leaders where the content lists are short, else by the rows. Which way it is
