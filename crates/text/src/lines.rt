@@ -1,5 +1,5 @@
 // Lines of text, and the fields of a line.
-ghost use Rattle.std.specs.Prelude.{◌+◌, ◌≤◌, [], ◌≡◌, length, get_or};
+ghost use Rattle.std.specs.Prelude.{◌+◌, ◌<◌, ◌≤◌, [], ◌∷◌, ◌≡◌, MatchOption, length, get_or};
 ghost use Rattle.text.specs.Bytes.{same};
 ghost use Rattle.text.specs.Lines.{fields, is_blank, line_end, part, said};
 
@@ -59,24 +59,50 @@ fn is_blank(b: u8) -> bool
     (b == b' ') | (b == b'\t')
 }
 
-// `field` and `field_count` begin with one chain. A function for it would need a name for its type, which has those of two closures, and
-// there is no `impl Trait` as a result.
+// The first field of a line, and what is behind it; `None` where the line has no field.
+fn first_field(line: &[u8]) -> Option<(&[u8], &[u8])>
+    ensures { MatchOption result (fields line.now ≡ []) (λ found. (fields line.now ≡ found.0.now ∷ fields found.1.now) × (length found.1.now < length line.now)) }
+{
+    let start = line.iter().position(|byte| !is_blank(*byte))?;
+    let from = &line[start..];
+    match from.iter().position(|byte| is_blank(*byte)) {
+        Some(end) => Some(from.split_at(end)),
+        None => Some((from, &[])),
+    }
+}
 
 // A field by its number, from 0; empty where the line has fewer, as in the definition: no name and no number is empty.
 pub fn field(line: &[u8], k: u8) -> &[u8]
     ensures { result.now ≡ get_or (fields line.now) k [] }
 {
-    line.split(|byte| is_blank(*byte))
-        .filter(|field| !field.is_empty())
-        .nth(usize::from(k))
-        .unwrap_or(&[])
+    let mut rest = line;
+    for _ in 0..k {
+        let Some((_, behind)) = first_field(rest) else {
+            return &[];
+        };
+        rest = behind;
+    }
+    match first_field(rest) {
+        Some((found, _)) => found,
+        None => &[],
+    }
 }
 
-// How many fields the line has.
+// How many fields the line has: no more than bytes.
+#[tactic(auto, using(crate::proofs::LineLaws::no_bytes))]
 pub fn field_count(line: &[u8]) -> usize
     ensures { result ≡ length (fields line.now) }
 {
-    line.split(|byte| is_blank(*byte))
-        .filter(|field| !field.is_empty())
-        .count()
+    let mut rest = line;
+    for count in 0..line.len() {
+        let Some((_, behind)) = first_field(rest) else {
+            return count;
+        };
+        if behind.is_empty() {
+            // the last, without another search
+            return count + 1;
+        }
+        rest = behind;
+    }
+    line.len()
 }
