@@ -1,20 +1,25 @@
-// Which tables a rule is lent, and filling them.
+// Which tables a rule is lent, filling them, and the rules that take them as a struct.
 ghost use Rattle.std.specs.Prelude.{length, ◌≡◌};
 ghost use Rattle.checker.specs.steps.Tables.{Right, first_table, second_table};
+ghost use Rattle.profile.specs.Rules.{rule19, rule22, rule23, rule24};
 ghost use Rattle.runs.specs.steps.Runs.{ordinal_at};
 ghost use Rattle.sheet.specs.Words.{sheet_of};
 ghost use Rattle.tables.specs.steps.Marks.{Standing};
+ghost use Rattle.tables.specs.steps.Right.{Complemented, Included, Leaders, Owners, Tops};
 
-use crate::{Asked, Table};
+use crate::{Asked, LentTables, Table};
 use languages::list::Languages;
 use relations::objects::lacks;
+use rules::groups::rule19;
 use rules::lists::{first_target, second_target};
+use rules::sets::rule22;
+use rules::totals::{rule23, rule24};
 use runs::fill::{fill_next, fill_repeats, stray_after};
 use sheet::fields::{OBJECTS, PROGRAMMES, TRACK_ORDINAL, TRACKS};
 use sheet::layout::{field, reference};
-use tables::Naming;
 use tables::coverage::count_covered;
 use tables::marks::{count_namings, first_namers};
+use tables::{GroupTables, Naming, ObjectTables};
 
 impl Asked {
     // The first table that the rule is lent for the records of the section. Two methods, since each table is filled, and has its fact in
@@ -92,4 +97,51 @@ pub fn fill_table(s: &[u8], langs: &Languages, which: Table, table: &mut [u16])
         Table::Strays => fill_next(s, |y| stray_after(s, y), table),
         Table::Ordinals => fill_repeats(s, |y| ordinal_at(s, y), table),
     }
+}
+
+// The rules that take their tables as a struct, by those that they are lent. The structs stand here, in functions of their own: `breaks` is
+// drawn into the loop over the records, where a struct would be stored for each record of every rule (docs/SPEED.md).
+
+// Rule 19.
+pub(crate) fn rule19_lent(s: &[u8], lent: &LentTables, section: u8, k: u16) -> bool
+    ensures { Tops (sheet_of s.now) lent.now.first.now → Complemented (sheet_of s.now) lent.now.second.now → result ≡ rule19 (sheet_of s.now) section k }
+{
+    let tables = ObjectTables {
+        tops: lent.first,
+        complements: lent.second,
+    };
+    rule19(s, &tables, section, k)
+}
+
+// Rule 22. What the programme includes stands in marks.
+pub(crate) fn rule22_lent(s: &[u8], lent: &LentTables, marks: &[u16], section: u8, k: u16) -> bool
+    ensures { Owners (sheet_of s.now) lent.now.first.now → Leaders (sheet_of s.now) lent.now.second.now → Included (sheet_of s.now) k marks.now → result ≡ rule22 (sheet_of s.now) section k }
+{
+    let tables = GroupTables {
+        owners: lent.first,
+        leaders: lent.second,
+    };
+    rule22(s, &tables, marks, section, k)
+}
+
+// Rule 23.
+pub(crate) fn rule23_lent(s: &[u8], lent: &LentTables, section: u8, k: u16) -> bool
+    ensures { Tops (sheet_of s.now) lent.now.first.now → Complemented (sheet_of s.now) lent.now.second.now → result ≡ rule23 (sheet_of s.now) section k }
+{
+    let tables = ObjectTables {
+        tops: lent.first,
+        complements: lent.second,
+    };
+    rule23(s, &tables, section, k)
+}
+
+// Rule 24.
+pub(crate) fn rule24_lent(s: &[u8], lent: &LentTables, section: u8, k: u16) -> bool
+    ensures { Tops (sheet_of s.now) lent.now.first.now → Complemented (sheet_of s.now) lent.now.second.now → result ≡ rule24 (sheet_of s.now) section k }
+{
+    let tables = ObjectTables {
+        tops: lent.first,
+        complements: lent.second,
+    };
+    rule24(s, &tables, section, k)
 }

@@ -6,21 +6,19 @@ ghost use Rattle.profile.specs.Verdict.{breaks, number_at, rule_count};
 ghost use Rattle.sheet.specs.Words.{sheet_of};
 
 use crate::SubjectKind::{Itself, Nothing, Records};
+use crate::lent::{rule19_lent, rule22_lent, rule23_lent, rule24_lent};
 use crate::{Asked, LentTables, SubjectKind};
 use languages::list::Languages;
-use rules::groups::{rule19, rule20, rule21};
+use rules::groups::{rule20, rule21};
 use rules::header::{rule1, rule2, rule3};
 use rules::limits::{rule7, rule8, rule10};
 use rules::lists::{rule4, rule5, rule9};
 use rules::naming::{rule11, rule12};
 use rules::objects::{rule13, rule14, rule15, rule16};
 use rules::ranges::{rule17, rule18};
-use rules::sets::rule22;
-use rules::totals::{rule23, rule24};
 use rules::words::rule6;
 use sheet::layout::count;
 use tables::marks::mark_included;
-use tables::{GroupTables, ObjectTables};
 
 // The rules in checking order.
 pub const RULES: [u8; 25] = [
@@ -144,35 +142,26 @@ pub fn breaks(
     ensures { (length marks.new ≡ length marks.old) × (Right (sheet_of s.now) langs.now (first_table asked.rule asked.section) tables.now.first.now → Right (sheet_of s.now) langs.now (second_table asked.rule asked.section) tables.now.second.now → result ≡ breaks (sheet_of s.now) langs.now asked.rule asked.section k) }
 {
     let section = asked.section;
-    let LentTables { first, second } = *tables;
-    let objects = ObjectTables {
-        tops: first,
-        complements: second,
-    };
-    let groups = GroupTables {
-        owners: first,
-        leaders: second,
-    };
     match asked.rule {
         1 => rule1(s, section, k),
         2 => rule2(s, section, k),
         3 => rule3(s, section, k),
         4 => rule4(s, section, k),
-        5 => rule5(s, first, second, section, k),
-        6 => rule6(s, langs, first, section, k),
+        5 => rule5(s, tables.first, tables.second, section, k),
+        6 => rule6(s, langs, tables.first, section, k),
         7 => rule7(s, section, k),
         8 => rule8(s, section, k),
-        9 => rule9(s, first, section, k),
+        9 => rule9(s, tables.first, section, k),
         10 => rule10(s, section, k),
-        11 => rule11(s, first, section, k),
-        12 => rule12(s, first, section, k),
+        11 => rule11(s, tables.first, section, k),
+        12 => rule12(s, tables.first, section, k),
         13 => rule13(s, section, k),
-        14 => rule14(s, first, second, section, k),
-        15 => rule15(s, first, section, k),
+        14 => rule14(s, tables.first, tables.second, section, k),
+        15 => rule15(s, tables.first, section, k),
         16 => rule16(s, section, k),
-        17 => rule17(s, first, section, k),
-        18 => rule18(s, first, section, k),
-        19 => rule19(s, &objects, section, k),
+        17 => rule17(s, tables.first, section, k),
+        18 => rule18(s, tables.first, section, k),
+        19 => rule19_lent(s, tables, section, k),
         20 => rule20(s, section, k),
         21 => {
             mark_included(s, k, marks);
@@ -180,10 +169,10 @@ pub fn breaks(
         },
         22 => {
             mark_included(s, k, marks);
-            rule22(s, &groups, marks, section, k)
+            rule22_lent(s, tables, marks, section, k)
         },
-        23 => rule23(s, &objects, section, k),
-        24 => rule24(s, &objects, section, k),
+        23 => rule23_lent(s, tables, section, k),
+        24 => rule24_lent(s, tables, section, k),
         33 => !langs.rises(),
         _ => false,
     }
