@@ -103,8 +103,8 @@ pub fn fill_table(s: &[u8], langs: &Languages, which: Table, table: &mut [u16])
 // drawn into the loop over the records, where a struct would be stored for each record of every rule (docs/SPEED.md).
 
 // Rule 19.
-pub(crate) fn rule19_lent(s: &[u8], lent: &LentTables, section: u8, k: u16) -> bool
-    ensures { Tops (sheet_of s.now) lent.now.first.now → Complemented (sheet_of s.now) lent.now.second.now → result ≡ rule19 (sheet_of s.now) section k }
+pub(crate) fn rule19_lent(s: &[u8], lent: LentTables, section: u8, k: u16) -> bool
+    ensures { Tops (sheet_of s.now) lent.entry.first.now → Complemented (sheet_of s.now) lent.entry.second.now → result ≡ rule19 (sheet_of s.now) section k }
 {
     let tables = ObjectTables {
         tops: lent.first,
@@ -114,8 +114,8 @@ pub(crate) fn rule19_lent(s: &[u8], lent: &LentTables, section: u8, k: u16) -> b
 }
 
 // Rule 22. What the programme includes stands in marks.
-pub(crate) fn rule22_lent(s: &[u8], lent: &LentTables, marks: &[u16], section: u8, k: u16) -> bool
-    ensures { Owners (sheet_of s.now) lent.now.first.now → Leaders (sheet_of s.now) lent.now.second.now → Included (sheet_of s.now) k marks.now → result ≡ rule22 (sheet_of s.now) section k }
+pub(crate) fn rule22_lent(s: &[u8], lent: LentTables, marks: &[u16], section: u8, k: u16) -> bool
+    ensures { Owners (sheet_of s.now) lent.entry.first.now → Leaders (sheet_of s.now) lent.entry.second.now → Included (sheet_of s.now) k marks.now → result ≡ rule22 (sheet_of s.now) section k }
 {
     let tables = GroupTables {
         owners: lent.first,
@@ -125,8 +125,8 @@ pub(crate) fn rule22_lent(s: &[u8], lent: &LentTables, marks: &[u16], section: u
 }
 
 // Rule 23.
-pub(crate) fn rule23_lent(s: &[u8], lent: &LentTables, section: u8, k: u16) -> bool
-    ensures { Tops (sheet_of s.now) lent.now.first.now → Complemented (sheet_of s.now) lent.now.second.now → result ≡ rule23 (sheet_of s.now) section k }
+pub(crate) fn rule23_lent(s: &[u8], lent: LentTables, section: u8, k: u16) -> bool
+    ensures { Tops (sheet_of s.now) lent.entry.first.now → Complemented (sheet_of s.now) lent.entry.second.now → result ≡ rule23 (sheet_of s.now) section k }
 {
     let tables = ObjectTables {
         tops: lent.first,
@@ -136,8 +136,8 @@ pub(crate) fn rule23_lent(s: &[u8], lent: &LentTables, section: u8, k: u16) -> b
 }
 
 // Rule 24.
-pub(crate) fn rule24_lent(s: &[u8], lent: &LentTables, section: u8, k: u16) -> bool
-    ensures { Tops (sheet_of s.now) lent.now.first.now → Complemented (sheet_of s.now) lent.now.second.now → result ≡ rule24 (sheet_of s.now) section k }
+pub(crate) fn rule24_lent(s: &[u8], lent: LentTables, section: u8, k: u16) -> bool
+    ensures { Tops (sheet_of s.now) lent.entry.first.now → Complemented (sheet_of s.now) lent.entry.second.now → result ≡ rule24 (sheet_of s.now) section k }
 {
     let tables = ObjectTables {
         tops: lent.first,

@@ -32,13 +32,13 @@ use tables::entry_counts::{entries_left, list_entries};
 fn broken_below(
     s: &[u8],
     langs: &Languages,
-    tables: &LentTables,
+    tables: LentTables,
     marks: &mut [u16],
     asked: Asked,
     records: Range<u16>,
 ) -> u16
     requires { Unbroken (sheet_of s.now) langs.now asked.rule asked.section records.start }
-    ensures { (length marks.new ≡ length marks.old) × (Right (sheet_of s.now) langs.now (first_table asked.rule asked.section) tables.now.first.now → Right (sheet_of s.now) langs.now (second_table asked.rule asked.section) tables.now.second.now → result ≡ lowest (breaks (sheet_of s.now) langs.now asked.rule asked.section) records.end) }
+    ensures { (length marks.new ≡ length marks.old) × (Right (sheet_of s.now) langs.now (first_table asked.rule asked.section) tables.entry.first.now → Right (sheet_of s.now) langs.now (second_table asked.rule asked.section) tables.entry.second.now → result ≡ lowest (breaks (sheet_of s.now) langs.now asked.rule asked.section) records.end) }
 {
     for k in records.start..records.end {
         if breaks(s, langs, tables, marks, asked, k) {
@@ -56,7 +56,7 @@ fn plainly(s: &[u8], langs: &Languages, asked: Asked, n: u16) -> u16
         first: &[],
         second: &[],
     };
-    broken_below(s, langs, &tables, &mut [], asked, 0..n)
+    broken_below(s, langs, tables, &mut [], asked, 0..n)
 }
 
 // The same with filled tables of so many places, and marks for so many objects.
@@ -78,7 +78,7 @@ fn tabled_below<const FIRST: usize, const SECOND: usize, const MARKS: usize>(
         first: &first,
         second: &second,
     };
-    broken_below(s, langs, &tables, &mut marks, asked, records)
+    broken_below(s, langs, tables, &mut marks, asked, records)
 }
 
 // With tables over the records of a section. No sheet has more contents, or objects, than a table has words. Like all functions with large

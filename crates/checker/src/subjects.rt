@@ -134,12 +134,12 @@ impl SubjectKind {
 pub fn breaks(
     s: &[u8],
     langs: &Languages,
-    tables: &LentTables,
+    tables: LentTables,
     marks: &mut [u16],
     asked: Asked,
     k: u16,
 ) -> bool
-    ensures { (length marks.new ≡ length marks.old) × (Right (sheet_of s.now) langs.now (first_table asked.rule asked.section) tables.now.first.now → Right (sheet_of s.now) langs.now (second_table asked.rule asked.section) tables.now.second.now → result ≡ breaks (sheet_of s.now) langs.now asked.rule asked.section k) }
+    ensures { (length marks.new ≡ length marks.old) × (Right (sheet_of s.now) langs.now (first_table asked.rule asked.section) tables.entry.first.now → Right (sheet_of s.now) langs.now (second_table asked.rule asked.section) tables.entry.second.now → result ≡ breaks (sheet_of s.now) langs.now asked.rule asked.section k) }
 {
     let section = asked.section;
     match asked.rule {
