@@ -1,20 +1,26 @@
 -- What is written for an input is the answers to its lines. Assumes nothing.
-use Prim.Native.Nat.{ℕ}
+use Prim.Native.Nat.{ℕ, suc, ◌+◌, ◌-◌, ◌≤◌, ◌<◌}
 use mathlib.Core.Path.{◌≡◌, refl, sym, ap, ◌∙◌, subst}
 use mathlib.Core.Bool.{Bool, true, false, cond, not}
 use mathlib.Core.List.{List, [], ◌∷◌, ◌++◌, append_assoc, append-nil}
 use native.Mathlib.Omega.{arith}
-use borrow.Author.Tests.{eq-eqb, ne_eqb}
+use borrow.Author.Tests.{eq-eqb, ne_eqb, eqb-true}
+use Rattle.std.proofs.lemmas.Bool.{le-leb}
+use Rattle.std.proofs.lemmas.List.{get_or-drop, take_more}
+use Rattle.std.proofs.Math.Seq.{take-add}
+use lib.Seq.{take_all}
 use lib.Dec.{eqb}
-use lib.ListN.{length}
+use lib.ListN.{length, take, drop, get_or, length-drop}
 use Rattle.std.specs.Prelude.{Option, Some, None}
+use Rattle.std.specs.List.{position_or_len}
+use Rattle.std.proofs.lemmas.List.Sums.{prefix_len-le-length}
 use Rattle.std.specs.Io.KnownBytes.{Appends}
 use Rattle.std.proofs.KnownBytes.{Appends-nil, Appends-trans}
 use Rattle.sheet.specs.Words.{Sheet, sheet_of, words}
 use Rattle.listener.specs.declared.State.{State}
 use Rattle.listener.specs.Calls.{opened}
 use Rattle.text.specs.Answering.{AnsweredInput, AnsweredRead}
-use Rattle.text.specs.Lines.{part, said, lines, lines_from}
+use Rattle.text.specs.Lines.{part, line_end, said, lines, lines_from}
 use Rattle.text.specs.Buffer as put
 use Rattle.text.specs.Buffer.{Buffer, buffer, kept, put_byte, put_text, written}
 use Rattle.text.proofs.KeptLaws.{Holds, holds_none, holds_more, count_none, count_some, kept_says}
@@ -98,8 +104,88 @@ pub newline_read : (now next : Bench) (b : ℕ) (before after : Option (List ℕ
 unfolding answers_from answered_byte
 newline_read now next b before after n e f g a = ((line_turn now).answer, a, λ rest. rw (n, e, f, g) refl)
 
--- another byte was read
-pub byte_read : (now next : Bench) (b : ℕ) (before : Option (List ℕ)) → (b ≡ 10 → ⊥) → next.lent ≡ now.lent → next.state ≡ now.state
-    → put.Appends now.line (b ∷ []) next.line → AnsweredRead bench_answers now next (b ∷ []) before before
+-- how many bytes there are before the first newline
+abbrev pub line_length : List ℕ → ℕ
+line_length = position_or_len (λ b. eqb b 10)
+
+-- the bytes before it go on with the line
+line_read : (s : Sheet) (langs : List ℕ) (input rest : List ℕ) (st : State) (line : Buffer)
+    → answers_from s langs st line (take (line_length input) input ++ rest) ≡ answers_from s langs st (put_text line (take (line_length input) input)) rest
 unfolding answers_from answered_byte answered_line put_text
-byte_read now next b before n e f g = ([], Appends-nil before, λ rest. rw (e, f, g.bytes, ne_eqb b 10 n) refl)
+line_read s langs [] rest st line = refl
+line_read s langs (b ∷ input) rest st line =
+    let more : 1 + line_length input ≡ suc (line_length input) = omega arith in
+    (elim (eqb b 10) as (λ t. eqb b 10 ≡ t → answers_from s langs st line (take (cond (not t) (1 + line_length input) 0) (b ∷ input) ++ rest) ≡ answers_from s langs st (put_text line (take (cond (not t) (1 + line_length input) 0) (b ∷ input))) rest) [
+      | true ↦ λ e. refl
+      | false ↦ λ e. rw (more, e) (line_read s langs input rest st (put_byte line b))
+    ]) refl
+
+pub newline_at : (input : List ℕ) → line_length input < length input → get_or input (line_length input) 0 ≡ 10
+newline_at [] = λ h. absurd (omega arith)
+newline_at (b ∷ input) =
+    let more : 1 + line_length input ≡ suc (line_length input) = omega arith in
+    (elim (eqb b 10) as (λ t. eqb b 10 ≡ t → cond (not t) (1 + line_length input) 0 < suc (length input) → get_or (b ∷ input) (cond (not t) (1 + line_length input) 0) 0 ≡ 10) [
+      | true ↦ λ e h. eqb-true b 10 e
+      | false ↦ λ e h. rw more (newline_at input (omega arith))
+    ]) refl
+
+-- so much of a line was read
+pub part_read : (now next : Bench) (input p : List ℕ) (before : Option (List ℕ)) → p ≡ take (line_length input) input → next.lent ≡ now.lent → next.state ≡ now.state
+    → put.Appends now.line p next.line → AnsweredRead bench_answers now next p before before
+part_read now next input p before c e f g =
+    ([], Appends-nil before, λ rest. rw (e, f, g.bytes, c) (line_read (sheet_of now.lent.sheet.now) (words now.lent.langs.now) input rest now.state (written now.line)))
+
+-- two stretches of a read
+pub both_read : (start now next : Bench) (a b : List ℕ) (before after written : Option (List ℕ))
+    → AnsweredRead bench_answers start now a before after → AnsweredRead bench_answers now next b after written → AnsweredRead bench_answers start next (a ++ b) before written
+both_read start now next a b before after written h k = (
+  h.0 ++ k.0,
+  Appends-trans before after written h.0 k.0 h.1 k.1,
+  λ rest. ap (bench_answers start) (append_assoc a b rest) ∙ h.2 (b ++ rest) ∙ ap (λ t. h.0 ++ t) (k.2 rest) ∙ sym (append_assoc h.0 k.0 (bench_answers next rest)),
+)
+
+-- the part of a read that the code cuts
+pub part_is : (read : List ℕ) (at : ℕ) → at ≤ length read → part read at (line_end read at) ≡ take (line_length (drop at read)) (drop at read)
+unfolding part line_end
+part_is read at h =
+    let n = line_length (drop at read) in
+    let most : n ≤ length (drop at read) = prefix_len-le-length (λ b. not (eqb b 10)) (drop at read) in
+    let within : at + n ≤ length read = omega (arith, most, length-drop at read) in
+    let from : at ≤ at + n = omega arith in
+    let size : at + n - at ≡ n = omega arith in
+    rw (le-leb at (at + n) from, le-leb (at + n) (length read) within, size) refl
+
+-- where it ends
+line_ends : (read : List ℕ) (at : ℕ) → line_end read at ≡ at + line_length (drop at read)
+unfolding line_end
+line_ends read at = refl
+
+-- a read, up to the end of the line that begins at a place of it
+module _ (start now mid : Bench) (read p : List ℕ) (at end : ℕ) (before out : Option (List ℕ)) (within : at ≤ length read) (ends : end ≡ line_end read at) (cut : p ≡ part read at end)
+    (lent : mid.lent ≡ now.lent) (state : mid.state ≡ now.state) (put : put.Appends now.line p mid.line) (done : AnsweredRead bench_answers start now (take at read) before out) where
+  here : end ≡ at + line_length (drop at read)
+  here = ends ∙ line_ends read at
+
+  pub line_done : AnsweredRead bench_answers start mid (take end read) before out
+  line_done =
+      let some : p ≡ take (line_length (drop at read)) (drop at read) = cut ∙ rw ends (part_is read at within) in
+      let all : take at read ++ p ≡ take end read = rw (some, here) (sym (take-add at (line_length (drop at read)) read)) in
+      subst (λ x. AnsweredRead bench_answers start mid x before out) all
+      (both_read start now mid (take at read) p before out out done (part_read now mid (drop at read) p out some lent state put))
+
+  -- all that is left of the read
+  pub rest_done : length read ≤ end → AnsweredRead bench_answers start mid read before out
+  rest_done h = subst (λ x. AnsweredRead bench_answers start mid x before out) (take_all end read h) line_done
+
+  -- with its newline
+  module _ (next : Bench) (after : Option (List ℕ)) (inside : end < length read) (same_lent : next.lent ≡ mid.lent) (turned : next.state ≡ (line_turn mid).state)
+      (line_after : written next.line ≡ (line_turn mid).line) (answer : Appends out after (line_turn mid).answer) where
+    newline : get_or read end 0 ≡ 10
+    newline =
+        let left : line_length (drop at read) < length (drop at read) = omega (arith, inside, here, length-drop at read) in
+        rw here (sym (get_or-drop at read (line_length (drop at read)) 0) ∙ newline_at (drop at read) left)
+
+    pub line_ended : AnsweredRead bench_answers start next (take (end + 1) read) before after
+    line_ended =
+        rw (take_more read end 0 inside)
+        (both_read start mid next (take end read) (get_or read end 0 ∷ []) before out after line_done (newline_read mid next (get_or read end 0) out after newline same_lent turned line_after answer))

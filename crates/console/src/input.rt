@@ -12,7 +12,7 @@ use crate::bench::{ANSWER_ROOM, answer_part, opened};
 use listener::State;
 use std::io::{Error, Read, Write};
 use text::answering::{Answering, Unanswered, answer_input};
-use text::lines::{ROOM, part};
+use text::lines::{ROOM, line_end, part};
 use text::writing::Text;
 
 // What the bench is lent, the listener's state, the line that is being read, and the room for an answer.
@@ -49,15 +49,19 @@ impl<'a> Bench<'a> {
 impl<'a> Answering for Bench<'a> {
     ghost answers = { λ bench. answers_from (sheet_of bench.lent.sheet.now) (words bench.lent.langs.now) bench.state (written bench.line) };
 
-    // Answers the lines that end in what was read, and keeps the beginning of the next.
-    #[tactic(auto, using(text::proofs::AnsweringLaws::no_byte_answered, text::proofs::AnsweringLaws::byte_answered, crate::proofs::InputLaws::newline_read, crate::proofs::InputLaws::byte_read))]
+    // Answers the lines that end in what was read, and keeps the beginning of the next. By lines: byte by byte each one of them would load
+    // and store what the bench has of its line.
+    #[tactic(auto, using(text::proofs::AnsweringLaws::no_byte_answered))]
     fn answer_read<W: Write>(&mut self, read: &[u8], output: &mut W) -> Result<(), Error> {
-        for byte in read {
-            if *byte == b'\n' {
-                self.end_line(output)?;
-            } else {
-                self.line.byte(*byte);
+        let mut at = 0;
+        for _ in 0..read.len() {
+            let end = line_end(read, at);
+            self.line.text(part(read, at, end));
+            if end >= read.len() {
+                return Ok(());
             }
+            self.end_line(output)?;
+            at = end + 1;
         }
         Ok(())
     }

@@ -1,27 +1,40 @@
--- A byte more is answered. Assumes nothing.
+-- A line more is answered, or the rest of the read. Assumes nothing.
+use Prim.Native.Nat.{◌≤◌}
+use mathlib.Core.Path.{refl, subst}
+use native.Mathlib.Omega.{arith}
+use lib.ListN.{length}
+use lib.Seq.{take_all}
 use Rattle.std.proofs.Common.{rules}
-use mathlib.Core.Path.{refl}
-use Rattle.text.proofs.AnsweringLaws.{byte_answered}
+use Rattle.text.specs.Answering.{AnsweredRead}
 use Rattle.console.specs.declared.input.Bench.{Bench}
-use Rattle.console.proofs.InputLaws.{bench_answers, newline_read, byte_read}
-use Rattle.console.proofs.input.BenchAnswering.answer_read.Goals.{then-byte-eq10+in_ok-end_line, else-byte-eq10}
+use Rattle.console.proofs.InputLaws.{bench_answers, rest_done, line_ended}
 use Rattle.console.proofs.input.BenchAnswering.answer_read.Goals as goal
 
-pub loop-byte-preserved : goal.loop-byte-preserved
-loop-byte-preserved g c =
+pub returns-then-end-read : goal.returns-then-end-read
+returns-then-end-read g c =
     let start = c.args.self.now in
-    let now = c.loop-byte.self in
-    let out = g.W.Write.contents c.loop-byte.output in
-    elim c.if-byte-eq10.branch [
-      | then-byte-eq10+in_ok-end_line w ↦
-          let next = w.end_line.new.self in
-          let turn = w.end_line.ensures in
-          rw (w.self-is, w.output-is)
-          (byte_answered bench_answers start now next _ _ _ out _ c.loop-byte-test.true c.loop-byte.invariant
-          (newline_read now next _ out (g.W.Write.contents w.end_line.new.output) w.if-byte-eq10.true turn.same_lent turn.state_value turn.line_after (search rules)))
-      | else-byte-eq10 w ↦
-          let next : Bench = record { lent = now.lent; state = now.state; line = w.byte.new.self; answer = now.answer } in
-          rw (w.self-is, w.output-is)
-          (byte_answered bench_answers start now next _ _ _ out out c.loop-byte-test.true c.loop-byte.invariant
-          (byte_read now next _ out w.if-byte-eq10.false refl refl w.byte.ensures))
-    ]
+    let now = c.loop.self in
+    let mid : Bench = record { lent = now.lent; state = now.state; line = c.text.new.self; answer = now.answer } in
+    λ h.
+    rest_done start now mid c.args.read.now c.part.result.now c.loop.at c.line_end-end.result (g.W.Write.contents c.args.output.now) (g.W.Write.contents c.loop.output) c.loop.invariant.1 c.line_end-end.ensures.0 c.part.ensures refl refl c.text.ensures c.loop.invariant.2 c.if-end-read.true
+
+pub loop-preserved : goal.loop-preserved
+loop-preserved g c =
+    let start = c.args.self.now in
+    let now = c.loop.self in
+    let mid : Bench = record { lent = now.lent; state = now.state; line = c.text.new.self; answer = now.answer } in
+    let inside = c.if-end-read.false in
+    let turn = c.end_line.ensures in (
+      omega (arith, c.loop.invariant.0, c.line_end-end.ensures.1),
+      omega (arith, inside),
+      line_ended start now mid c.args.read.now c.part.result.now c.loop.at c.line_end-end.result (g.W.Write.contents c.args.output.now) (g.W.Write.contents c.loop.output) c.loop.invariant.1 c.line_end-end.ensures.0 c.part.ensures refl refl c.text.ensures c.loop.invariant.2
+          c.end_line.new.self (g.W.Write.contents c.end_line.new.output) (omega (arith, inside)) turn.same_lent turn.state_value turn.line_after (search rules),
+    )
+
+pub returns : goal.returns
+returns g c =
+    let read = c.args.read.now in
+    let before = g.W.Write.contents c.args.output.now in
+    let out = g.W.Write.contents c.loop.output in
+    let all : length read ≤ c.loop.at = omega (arith, c.loop.invariant.0, c.loop-test.false, c.loop.auto.counter-end) in
+    λ h. subst (λ x. AnsweredRead bench_answers c.args.self.now c.loop.self x before out) (take_all c.loop.at read all) c.loop.invariant.2
