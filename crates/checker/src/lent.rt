@@ -99,8 +99,8 @@ pub fn fill_table(s: &[u8], langs: &Languages, which: Table, table: &mut [u16])
     }
 }
 
-// The rules that take their tables as a struct, by those that they are lent. The structs stand here, in functions of their own: `breaks` is
-// drawn into the loop over the records, where a struct would be stored for each record of every rule (docs/SPEED.md).
+// The rules that take their tables as a struct, by those that they are lent. The structs stand here, in functions of their own: `breaks_lent`
+// is drawn into the loop over the records, where a struct would be stored for each record of every rule (docs/SPEED.md).
 
 // Rule 19.
 pub(crate) fn rule19_lent(s: &[u8], lent: LentTables, section: u8, k: u16) -> bool

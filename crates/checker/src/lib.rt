@@ -6,6 +6,8 @@ pub mod groups;
 pub mod lent;
 pub mod search;
 pub mod subjects;
+#[cfg(test)]
+mod tests;
 
 // What of a section a rule can have as its place. That it can have nothing of it is a variant and no `Option` of the other two: the list of
 // rules numbers the three, and so does the definition that contracts cite (`kind_number`).

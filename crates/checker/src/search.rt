@@ -12,7 +12,7 @@ ghost use Rattle.sheet.specs.Words.{sheet_of};
 
 use crate::groups::{grouped_programmes, kept_programmes};
 use crate::lent::fill_table;
-use crate::subjects::{RULES, breaks, subject_kinds};
+use crate::subjects::{RULES, breaks_lent, subject_kinds};
 use crate::{Asked, LentTables};
 use languages::list::Languages;
 use languages::table::LANGUAGE_WORDS;
@@ -27,7 +27,7 @@ use tables::entry_counts::{entries_left, list_entries};
 // before the first of them keep it. Where none does, the answer is their end, as it is by the definition (`lowest`). That those before keep
 // the rule is a `requires` of the three functions that take records: this one, `tabled_below` and `by_tables`. A struct of (s, langs,
 // asked, records) with that as its ghost field would hold the two borrows, need a maker with the same `requires`, and be taken apart again
-// at each call of `breaks`, whose rules take the sheet by itself.
+// at each call of `breaks_lent`, whose rules take the sheet by itself.
 #[inline(never)]
 fn broken_below(
     s: &[u8],
@@ -41,7 +41,7 @@ fn broken_below(
     ensures { (length marks.new ≡ length marks.old) × (Right (sheet_of s.now) langs.now (first_table asked.rule asked.section) tables.entry.first.now → Right (sheet_of s.now) langs.now (second_table asked.rule asked.section) tables.entry.second.now → result ≡ lowest (breaks (sheet_of s.now) langs.now asked.rule asked.section) records.end) }
 {
     for k in records.start..records.end {
-        if breaks(s, langs, tables, marks, asked, k) {
+        if breaks_lent(s, langs, tables, marks, asked, k) {
             return k;
         }
     }

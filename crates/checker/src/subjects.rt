@@ -127,11 +127,12 @@ impl SubjectKind {
 }
 
 // Whether a record of a section breaks a rule. `marks` is written for the rules about a programme. It is drawn into the loop over the
-// records (docs/SPEED.md). One arm a rule, so it is longer than other functions: halves of it would take the same parameters and pick by
-// the rule's number twice. That the tables are right is a premise: a public function asks nothing of its caller.
+// records (docs/SPEED.md), and takes the lent tables by value, so that none is read anew for each of them (docs/DESIGN-PASS.md). One arm a
+// rule, so it is longer than other functions: halves of it would take the same parameters and pick by the rule's number twice. That the
+// tables are right is a premise: a public function asks nothing of its caller.
 #[inline(always)]
 #[tactic(auto, unfolding(profile::specs::Verdict::breaks, profile::specs::Rules::rule33, crate::specs::steps::Tables::first_table, crate::specs::steps::Tables::second_table))]
-pub fn breaks(
+pub fn breaks_lent(
     s: &[u8],
     langs: &Languages,
     tables: LentTables,
@@ -176,4 +177,19 @@ pub fn breaks(
         33 => !langs.rises(),
         _ => false,
     }
+}
+
+// The same by tables that are lent by reference.
+#[inline(always)]
+pub fn breaks(
+    s: &[u8],
+    langs: &Languages,
+    tables: &LentTables,
+    marks: &mut [u16],
+    asked: Asked,
+    k: u16,
+) -> bool
+    ensures { (length marks.new ≡ length marks.old) × (Right (sheet_of s.now) langs.now (first_table asked.rule asked.section) tables.now.first.now → Right (sheet_of s.now) langs.now (second_table asked.rule asked.section) tables.now.second.now → result ≡ breaks (sheet_of s.now) langs.now asked.rule asked.section k) }
+{
+    breaks_lent(s, langs, *tables, marks, asked, k)
 }
