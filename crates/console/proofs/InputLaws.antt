@@ -135,6 +135,11 @@ pub part_read : (now next : Bench) (input p : List ℕ) (before : Option (List �
 part_read now next input p before c e f g =
     ([], Appends-nil before, λ rest. rw (e, f, g.bytes, c) (line_read (sheet_of now.lent.sheet.now) (words now.lent.langs.now) input rest now.state (written now.line)))
 
+-- a byte that is no newline was read
+pub byte_read : (now next : Bench) (b : ℕ) (before : Option (List ℕ)) → (b ≡ 10 → ⊥) → next.lent ≡ now.lent → next.state ≡ now.state
+    → put.Appends now.line (b ∷ []) next.line → AnsweredRead bench_answers now next (b ∷ []) before before
+byte_read now next b before n e f g = part_read now next (b ∷ []) (b ∷ []) before (rw (ne_eqb b 10 n) refl) e f g
+
 -- two stretches of a read
 pub both_read : (start now next : Bench) (a b : List ℕ) (before after written : Option (List ℕ))
     → AnsweredRead bench_answers start now a before after → AnsweredRead bench_answers now next b after written → AnsweredRead bench_answers start next (a ++ b) before written
